@@ -3,7 +3,7 @@ use Rattle.std.specs.Prelude.{◌≡◌, ⊤, ℕ, zero, suc, ◌+◌, ◌-◌, 
 use Rattle.std.specs.List.{range_with_len}
 use Rattle.block_list.specs.declared.areas.Count.{Count}
 
--- an area of a set of positions begins at one that has none of them right in front of it
+-- an area of a set of positions begins at one that has none of them right before it
 abbrev pub begins_area : (ℕ → Bool) → ℕ → Bool
 begins_area set zero = set 0
 begins_area set (suc x) = set (suc x) && not (set x)
@@ -36,7 +36,7 @@ AreasAreIntervals =
     → (intervals : List (ℕ × ℕ)) × AreApart 0 intervals × ((x : ℕ) → holds_one intervals x ≡ set x)
     × (length intervals ≡ (count_of set end).areas)
 
--- two sets have the same positions in front of one position, and the same from another one on
+-- two sets have the same positions before one position, and the same from another one on
 pub record AgreeOutside (p q : ℕ) (old new : ℕ → Bool) : Type 0 where
   pub front : (x : ℕ) → x < p → new x ≡ old x
   pub back : (x : ℕ) → q ≤ x → new x ≡ old x

@@ -21,7 +21,7 @@ pub record IsPlace (bs : List Block) (at i : ℕ) : Type 0 where
   pub before : 0 < i → start_of bs (i - 1) < at
   pub reaches : at ≤ start_of bs i
 
--- the part of a block in front of a position inside it
+-- the part of a block before a position inside it
 abbrev pub front_of : Block → ℕ → Block
 front_of b at = record { pos = b.pos; size = at - b.pos; status = b.status }
 
@@ -29,8 +29,8 @@ front_of b at = record { pos = b.pos; size = at - b.pos; status = b.status }
 abbrev pub cut_at : List Block → ℕ → Block → Block → List Block
 cut_at bs i front back = insert (slice_set bs i front) (i + 1) back
 
--- new are the same statuses in blocks of which the one at i begins at a position, or the position is the end; what
--- stood in front of the position stands there still, and the blocks on either side of it are as merged as they were
+-- New are the same statuses in blocks of which the one at i begins at a position, or the position is the end. The
+-- blocks before the position are as they were, and the blocks on either side of it are as merged as they were.
 pub record IsBlockCut (bs new : List Block) (at i : ℕ) : Type 0 where
   pub tiled : IsTiled new
   pub same : flat_map covered new ≡ flat_map covered bs
@@ -63,8 +63,8 @@ pub record IsJoinedAfter (bs : List Block) (j : ℕ) (block : Block) (high : ℕ
   pub same : covered wide ++ flat_map covered (drop high bs) ≡ covered block ++ flat_map covered (drop j bs)
   pub merged : IsMerged (drop j bs) → IsMerged (wide ∷ drop high bs)
 
--- new are the blocks with the boundary in front of the one at i at another position; if it rose, what it passed has the
--- status of the block before it, and if it fell, that of the block after it
+-- New are the blocks with the boundary before the one at i at another position. If the boundary rose, what it passed
+-- has the status of the block before it, and if it fell, that of the block after it.
 pub record IsShifted (bs new : List Block) (i at : ℕ) : Type 0 where
   pub tiled : IsTiled new
   pub merged : IsMerged bs → IsMerged new

@@ -5,7 +5,7 @@ use Rattle.block_list.specs.declared.plain_tiles.PushError.{PushError}
 use Rattle.block_list.specs.declared.plain_tiles.PushError.TheVariants.{TooLarge, Overlap, Gap}
 use Rattle.block_list.specs.Map.{Has}
 
--- why a block can't be put after a map with this end, in the order in which it is looked at
+-- why a block can't be put after a map with this end, in the order in which it is checked
 abbrev pub push_fault : (pos size end : ℕ) → Option PushError
 push_fault pos size end =
     if nat_le (2 ^ 63) (pos + size) then Some TooLarge

@@ -6,7 +6,7 @@ use Rattle.block_list.specs.declared.block.Block.{Block}
 use Rattle.block_list.specs.Status.{same}
 use Rattle.block_list.specs.Map.{Has}
 
--- stretches with one more position in front of them: it joins the first stretch where that has its status
+-- stretches with one more position before them: it joins the first stretch if that has its status
 abbrev pub joined : ℕ → Status → List Block → List Block
 joined pos s [] = record { pos = pos; size = 1; status = s } ∷ []
 joined pos s (b ∷ bs) =

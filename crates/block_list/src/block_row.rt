@@ -160,7 +160,7 @@ impl BlockRow {
         Ok(())
     }
 
-    /// Moves the boundary in front of the block at i to a position inside that block or the one in front of it.
+    /// Moves the boundary before the block at i to a position inside that block or the one before it.
     pub fn shift(&mut self, i: usize, at: u64)
         requires tiled { IsTiled self.old.items }
         requires some { 0 < i }

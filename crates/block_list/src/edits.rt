@@ -119,7 +119,7 @@ fn replace(blocks: &mut BlockRow, i: usize, j: usize, block: Block)
     blocks.fuse(low, high, whole);
 }
 
-/// A block, widened over the one in front of it where that has its status, and the index of its first part.
+/// A block, widened over the one before it if that has its status, and the index of its first part.
 fn join_before(blocks: &BlockRow, i: usize, block: Block) -> (usize, Block)
     requires tiled { IsTiled blocks.now.items }
     requires index { i ≤ length blocks.now.items }

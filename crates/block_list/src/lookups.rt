@@ -36,7 +36,8 @@ pub fn first_with(blocks: &BlockRow, from: u64, status: Status) -> Option<Range>
     requires merged { IsMerged blocks.now.items }
     requires within { from < length (flat_map covered blocks.now.items) }
     ensures first { IfSome result (λ range. IsFirst (Has (flat_map covered blocks.now.items) status) from range.from) }
-    ensures range { IfSome result (λ range. IsRangeUp (Has (flat_map covered blocks.now.items) status) range.from range.to) }
+    ensures range { IfSome result (λ range.
+        IsRangeUp (Has (flat_map covered blocks.now.items) status) range.from range.to) }
     ensures none { IfNone result ((x : ℕ) → from ≤ x → Has (flat_map covered blocks.now.items) status x → ⊥) }
 {
     let holding = blocks.begun_before(from + 1) - 1;
@@ -58,7 +59,8 @@ pub fn last_with(blocks: &BlockRow, before: u64, status: Status) -> Option<Range
     requires merged { IsMerged blocks.now.items }
     requires within { before ≤ length (flat_map covered blocks.now.items) }
     ensures last { IfSome result (λ range. IsLast (Has (flat_map covered blocks.now.items) status) before range.to) }
-    ensures range { IfSome result (λ range. IsRangeDown (Has (flat_map covered blocks.now.items) status) range.from range.to) }
+    ensures range { IfSome result (λ range.
+        IsRangeDown (Has (flat_map covered blocks.now.items) status) range.from range.to) }
     ensures none { IfNone result ((x : ℕ) → x < before → Has (flat_map covered blocks.now.items) status x → ⊥) }
 {
     let begun = blocks.begun_before(before);

@@ -1,7 +1,7 @@
 //! Where a walk along a map looks first.
 
-/// Where a walk along a map looks first: the place of a block, as the map keeps its blocks. Whatever it says, the answer
-/// is the same.
+/// Where a walk along a map looks first: the place of a block, as the map keeps its blocks. Whatever it says, the
+/// answer is the same.
 #[derive(Clone, Copy, Debug, PartialEq, Eq)]
 pub struct Near {
     /// Of a map in pages the number of the page, in the order of the map.

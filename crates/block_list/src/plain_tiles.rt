@@ -20,7 +20,7 @@ pub enum PushError {
     Overlap { at: u64 },
     /// The block begins past the map's end.
     Gap { at: u64 },
-    /// Memory wasn't there.
+    /// There wasn't enough memory.
     NoMemory,
 }
 

@@ -13,7 +13,7 @@ pub enum Status {
     NonScraped,
     /// `-`: a read of its sector alone failed.
     BadSector,
-    /// `+`: its byte stands in the output.
+    /// `+`: its byte is in the output.
     Finished,
 }
 

@@ -10,7 +10,7 @@ use crate::block::{Block, Range};
 use crate::near::Near;
 use crate::status::Status;
 
-/// Memory wasn't there.
+/// There wasn't enough memory.
 #[derive(Clone, Copy, Debug, PartialEq, Eq)]
 pub struct NoMemory;
 

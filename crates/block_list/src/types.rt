@@ -17,7 +17,7 @@ pub struct TypeSet {
 }
 
 impl TypeSet {
-    /// The statuses whose characters stand in a text. None where it is empty or has a character that is no status's.
+    /// The statuses whose characters a text has. None if the text is empty or has a character that is no status's.
     pub fn read(text: &str) -> Option<TypeSet>
         ensures { result ≡ types_of text.now }
     {

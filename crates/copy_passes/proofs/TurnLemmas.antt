@@ -3,7 +3,7 @@ use Rattle.std.proofs.Common.{◌≡◌, ℕ, ◌+◌, ◌<◌, ◌≤◌, ◌^�
 use Rattle.std.specs.List.{slice_range}
 use Rattle.std.proofs.lemmas.List.{map-append}
 use Rattle.std.proofs.lemmas.List.Elements.{All-nil, All-cons, All-append}
-use Rattle.faulty_source.specs.Journal.{Reading}
+use Rattle.faulty_source.specs.Journal.{Reading, IsFrom}
 use Rattle.faulty_source.specs.SourceState.{SourceState}
 use Rattle.faulty_source.specs.SourceChanges.{Stays as SourceStays, Reads}
 use Rattle.faulty_source.proofs.Keeping.{stays_self, stays_more, reads_more}
@@ -40,7 +40,7 @@ use Rattle.rescue_core.specs.RunState.{RunState, setting_in, passed, HasPlaces}
 use Rattle.rescue_core.specs.Turning.{IsEvent, move_by, Turned, Halted, stepped, move_pieces}
 use Rattle.rescue_core.specs.Closing.{drafting_at_stop}
 use Rattle.rescue_core.proofs.TurnEndLemmas.{says_none}
-use Rattle.copy_passes.specs.Turns.{IsFrom, IsAlike, moved_to, Went, WentUpTo, ObjectsStay, WentByTurns}
+use Rattle.copy_passes.specs.Turns.{IsAlike, moved_to, Went, WentUpTo, ObjectsStay, WentByTurns}
 use Rattle.copy_passes.specs.Copying.{MayCopy}
 use Rattle.copy_passes.proofs.AlikeLemmas.{alike_by, alike_on, next_pass_is_alike, RunMore, run_more}
 use Rattle.copy_passes.proofs.CopyingLemmas.{ahead_of, CopyStep, copy_steps, two_of, copying_passed}

@@ -13,7 +13,7 @@ pub record LeavesNone (s : Setting) (m : Machine) : Type 0 where
   pub ahead : (x : ℕ) → is_wanted s m x ≡ true → is_ahead (search_of s m) x ≡ true
 
 -- A run that may go on with copying: it has met no limit, and is in one of copying's passes, wherever its cursor and
--- whatever its skip; but if that is the last pass, each position that it asks for lies ahead of its cursor.
+-- whatever its skip. In the last pass each position that it asks for lies ahead of its cursor.
 pub record MayCopy (r : RunState) : Type 0 where
   pub sensible : IsSensible (setting_in r)
   pub within : limit_met (setting_in r) r.machine ≡ None

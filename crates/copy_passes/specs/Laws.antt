@@ -41,7 +41,8 @@ NextPassIsAlike = (s : Setting) (m : Machine) (c p : Pass) (ps : List Pass) → 
 -- a run at its start may go on with copying
 abbrev pub StartMayCopy : Type 0
 StartMayCopy = (settings : Settings) (domain : List Range) (names : Option MapNames) (line : List ℕ) (map : List Status)
-    (loaded : Option MapState) (moment : ℕ) (heard : Bool) → IsSound settings → Suits settings (covers domain) (length map)
+    (loaded : Option MapState) (moment : ℕ) (heard : Bool) → IsSound settings
+    → Suits settings (covers domain) (length map)
     → MayCopy (started settings domain names line map loaded moment heard)
 
 -- and so may one that shows another state

@@ -1,6 +1,6 @@
 -- Whole turns of a run, by what the objects tell, and a turn that stopped after them.
-use Rattle.std.specs.Prelude.{◌≡◌, ℕ, ◌+◌, true, false, IsTrue, List, length, slice_range, All, Result, IfOk, IfErr, OnOk, None}
-use Rattle.faulty_source.specs.Journal.{Reading}
+use Rattle.std.specs.Prelude.{◌≡◌, ◌+◌, true, false, IsTrue, List, All, Result, IfOk, IfErr, OnOk, None}
+use Rattle.faulty_source.specs.Journal.{IsFrom}
 use Rattle.faulty_source.specs.SourceState.{SourceState}
 use Rattle.faulty_source.specs.SourceChanges.{Stays as SourceStays, Reads}
 use Rattle.crash_site.specs.SiteState.{SiteState}
@@ -24,12 +24,8 @@ use Rattle.rescue_core.specs.RunState.{RunState, setting_in, HasPlaces}
 use Rattle.rescue_core.specs.Turning.{Halted}
 use Rattle.rescue_core.specs.Closing.{StoppedState, drafting_at_stop}
 
--- a read gave the input's own bytes
-abbrev pub IsFrom : (bytes : List ℕ) → Reading → Type 0
-IsFrom bytes r = r.given ≡ slice_range bytes r.pos (r.pos + length r.given)
-
--- Two states that differ at most in the passes without a request that one of them has gone on over: they have the
--- same map, counts, times, shown state, end, last line and first areas, and go on to the same request, or both to the end.
+-- Two states that differ at most in the passes without a request that one of them has gone on over. They have the same
+-- map, counts, times, shown state, end, last line and first areas, and go on to the same request, or both to the end.
 pub record IsAlike (s : Setting) (m n : Machine) : Type 0 where
   pub map : n.map ≡ m.map
   pub failed : n.failed ≡ m.failed
@@ -110,7 +106,7 @@ pub record TurnsEnd {T : Type 0} (result : Result T Stop) (r r' : RunState) (o :
   pub halted : IfErr result (λ stop. WentUpTo stop r r' o)
   pub objects : ObjectsStay o
 
--- those of a phase, which answers where the run has come to
+-- the turns of a phase, which answers where the run has come to
 pub record PhaseEnds (r : RunState) (result : Result RunState StoppedState) (o : Across) : Type 0 where
   pub goes : IfOk result (λ r'. WentByTurns r r' o)
   pub halted : IfErr result (λ s. WentUpTo s.stop r s.run o)

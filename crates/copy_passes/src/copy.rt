@@ -13,11 +13,8 @@ use faulty_source::source::Source;
 use rescue_console::clock::Clock;
 use rescue_console::console::Console;
 use rescue_core::phases::{Copying, Rescue, Stopped, Trimming};
-use rescue_rules::phase::Phase;
+use rescue_rules::phase::{COPYING_PASSES, Phase};
 use rescue_rules::stop::Stop;
-
-/// How many times copying goes over the input.
-const COPYING_PASSES: u32 = 5;
 
 /// Takes turns until the pass has no request left.
 fn run_pass<S: Source, D: Site, K: Clock, C: Console, T: Tiles>(

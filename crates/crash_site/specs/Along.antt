@@ -4,12 +4,12 @@ use Rattle.crash_site.specs.Calls.{Call, Entry, Done, Failed}
 use Rattle.crash_site.specs.Disk.{Disk, entered}
 use Rattle.crash_site.specs.Left.{in_part}
 
--- it holds at every stop within these entries of a record, and after them
+-- a property holds at every stop within these entries of a record, and after them
 abbrev pub Along : (Disk → Type 0) → Disk → List Entry → Type 0
 Along P d [] = P d
 Along P d (e ∷ es) = P (entered d (in_part e)) × Along P (entered d e) es
 
--- it holds at every stop as these calls are made, each of which may fail and end them
+-- a property holds at every stop as these calls are made, each of which may fail and end them
 abbrev pub AlongCalls : (Disk → Type 0) → Disk → List Call → Type 0
 AlongCalls P d [] = P d
 AlongCalls P d (call ∷ calls) = P d × P (entered d (Failed call)) × AlongCalls P (entered d (Done call)) calls

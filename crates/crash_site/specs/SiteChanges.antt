@@ -29,7 +29,7 @@ pub record Keeps (old new : SiteState) : Type 0 where
   pub planned : new.is_planned ≡ old.is_planned
   pub later : old.faults ≤ new.faults
 
--- the same, and the image and the draft stay open and begun, or not
+-- what no call changes, and the image and the draft stay open and begun, or not
 pub record Stays (old new : SiteState) : Type 0 where
   pub keeps : Keeps old new
   pub image : new.is_open ≡ old.is_open

@@ -33,7 +33,7 @@ use Rattle.task_sweeps.specs.Modes.{fill_rows, generate_rows}
 use Rattle.ddrescue_cli.specs.Ddrescue.{Says, Promise, FillModePromise, GenerateModePromise, SamplePromise, PromiseOf, Ddrescue}
 use Rattle.work_rules.specs.Work.{Deeds, IsIdle, Works}
 use Rattle.work_rules.specs.Parts.{only_calls}
-use Rattle.copy_passes.specs.Turns.{IsFrom}
+use Rattle.faulty_source.specs.Journal.{IsFrom}
 use Rattle.ddrescue_cli.proofs.GoesLemmas.{nothing_stops_by}
 use Rattle.task_files.proofs.ListingLemmas.{OneListing, one_listing}
 use Rattle.task_files.proofs.MapsLemmas.{MapsOf, maps_for}
@@ -234,10 +234,8 @@ still_kept words e s d k p p' early says_words refused none says = record {
 }
 
 starves_task : (task : Task) → RefusesTask task NoMemory
-starves_task (Rescue c) = inr refl
-starves_task (Fill types c) = inr refl
-starves_task (Generate c) = inr refl
 starves_task (Sample kib quiet) = refl
+starves_task _ = inr refl
 
 -- the promise where memory ran out before anything was done
 pub starved_kept : (words : List (List ℕ)) (s : SourceState) (d : SiteState) (k : ClockState) (p p' : ConsoleState)

@@ -5,7 +5,7 @@ use Rattle.std.proofs.lemmas.Bool.{cond_both}
 use Rattle.option_words.specs.declared.fault.WordFault.{WordFault}
 use Rattle.option_words.specs.declared.fault.WordFault.TheVariants.{NoMemory as WordNoMemory}
 use Rattle.option_words.specs.declared.fault.UsageFault.{UsageFault}
-use Rattle.option_words.specs.declared.fault.UsageFault.TheVariants.{Word, BadValue, Conflict, Modes, Operands, PlaceTooLarge}
+use Rattle.option_words.specs.declared.fault.UsageFault.TheVariants.{Word, BadValue, Conflict, Operands, PlaceTooLarge}
 use Rattle.option_words.specs.Words.{word}
 use Rattle.option_words.specs.declared.reading.Item.{Item}
 use Rattle.option_words.specs.Reading.{WordFaultAt}
@@ -89,12 +89,8 @@ never_starved words fault (Wrong rows items operands options reading is) none =
 
 -- so a fault of refused words is found in them
 found_in_words : (words : List (List ℕ)) (fault : UsageFault) → AreRefused words fault → is_of_words fault ≡ true
-found_in_words words (Word f) refused = refl
-found_in_words words (BadValue n) refused = refl
-found_in_words words (Conflict n) refused = refl
-found_in_words words (Modes n) refused = refl
-found_in_words words (Operands n) refused = refl
 found_in_words words PlaceTooLarge refused = absurd (never_place words refused)
+found_in_words words _ refused = refl
 
 pub refused_says : (words : List (List ℕ)) (fault : UsageFault) → AreRefused words fault → SaysOfWords (Usage fault) words
 refused_says words fault refused =

@@ -29,9 +29,9 @@ use Rattle.task_sample.specs.Sampled.{Samples, sample_rows}
 use Rattle.task_sweeps.specs.Modes.{AreMapsOfSweep, IsMapEnd, Fills, FillStops, Generates, GenerateStops, fill_setting}
 use Rattle.task_files.specs.Answers.{SaysOfWords, Causes, drafting_left, IsUntouched}
 
--- What is said on the console: nothing where the words ask for that; else the lines of the run, each by one put, and
--- then the message of the answer, up to the first put that fails. Where the words ask for nothing to be said, a message
--- comes only if memory ran out before they were read, and then nothing else was touched.
+-- What is put on the console: nothing if the words ask for that; else the lines of the run, each by one put, and then
+-- the message of the answer, up to the first put that fails. If the words ask for silence, a message comes only if
+-- memory ran out before they were read, and then nothing else was touched.
 pub data Says (lines : List (List ℕ)) (t : Told) : Type 0 where
   Nothing : AskQuiet t.words → t.console' ≡ t.console → Says lines t
   Spoken : (AskQuiet t.words → (t.answer ≡ NoMemory) × (lines ≡ [])
@@ -50,14 +50,14 @@ pub record Promise (c : Command) (t : Told) : Type 0 where
   -- whatever the objects tell.
   pub works : Works rescue_faults (rescue_rows c outside.found outside.end)
       (Rescues (asked_of c t outside) outside.found.mapfile outside.lines) t.answer outside.did
-  -- Where the files tell: at whatever moment a rescue with a mapfile is stopped, what is found could be found before,
-  -- until the barrier has returned; from then on the mapfile found is the one it began with or one that it saved, no
+  -- If the files tell: at whatever moment a rescue with a mapfile is stopped, what is found could be found before,
+  -- until the barrier has returned. From then on the mapfile found is the one it began with or one that it saved, no
   -- older than the last save that had returned, and the output holds what that mapfile promises.
   pub stops : IsTrue t.site.tells → (asked_of c t outside).has_mapfile ≡ true
       → RescueStopsBy (calls_before t) (asked_of c t outside) outside.did.gain
   -- Before its run a rescue says no line;
   pub silent : outside.did.gain.times ≡ [] → outside.lines ≡ []
-  -- and what is said on the console is the lines of the run and the message of the answer.
+  -- and what is put on the console is the lines of the run and the message of the answer.
   pub says : Says outside.lines t
 
 -- What `ddrescue` promises of a call whose words ask for a filling where the mapfile has one of these statuses
@@ -85,7 +85,7 @@ pub record FillModePromise (types : TypeSet) (c : Command) (t : Told) : Type 0 w
       (fill_setting c (command_line program_name t.words) top outside.maps) types buffer pieces end outside.did.gain
   -- Before its sweep it says no line and does no piece;
   pub silent : outside.did.gain.times ≡ [] → (outside.lines ≡ []) × (pieces ≡ [])
-  -- and what is said on the console is the lines of the sweep and the message of the answer.
+  -- and what is put on the console is the lines of the sweep and the message of the answer.
   pub says : Says outside.lines t
 
 -- What it promises of a call whose words ask that the mapfile be made of what the output holds
@@ -105,15 +105,15 @@ pub record GenerateModePromise (c : Command) (t : Told) : Type 0 where
   pub silent : outside.did.gain.times ≡ [] → (outside.lines ≡ []) × (pieces ≡ [])
   pub says : Says outside.lines t
 
--- What `ddrescue` promises of a call whose words ask for a sample of so many KiB
+-- What `ddrescue` promises of a call whose words ask for a sample of `kib` KiB
 pub record SamplePromise (kib : ℕ) (t : Told) : Type 0 where
-  -- The objects that were handed in stand, but for the console.
+  -- The objects that were handed in stand, except the console.
   pub untouched : IsUntouched t.source t.source' t.site t.site' t.clock t.clock'
   -- Memory may run out; else the sample is rescued,
   pub lines : List (List ℕ)
   pub works : Works rescue_faults sample_rows (Samples kib lines) t.answer (only_calls [])
   pub silent : t.answer ≡ NoMemory → lines ≡ []
-  -- and what is said on the console is its line, or the message of the answer.
+  -- and what is put on the console is its line, or the message of the answer.
   pub says : Says lines t
 
 -- What it promises of a call whose words ask for a task
@@ -135,14 +135,14 @@ pub record Ddrescue (t : Told) : Type 0 where
   -- A draft is left begun exactly if an append to it failed, or its sync. (A file of its name may be left after any
   -- failed call of a save.)
   pub draft : t.site'.is_drafting ≡ drafting_left t.answer
-  -- What is said of words that ask for nothing is the message of the answer.
+  -- What is put for words that ask for nothing is the message of the answer.
   pub says : ((task : Task) → AskTask t.words task → ⊥) → Says [] t
   -- What was told before stays.
   pub source : SourceKeeps t.source t.source'
   pub site : SiteKeeps t.site t.site'
   pub clock : ClockKeeps t.clock t.clock'
 
--- that, once the message of the answer is said, of a call that is heard or not, and has said its lines
+-- that, once the message of the answer is put, of a call that is heard or not, and has put its lines
 abbrev pub Promised : (heard : Bool) → (between : ConsoleState) → Told → Type 0
 Promised heard between t =
     (heard' : Bool) → SpeaksOn (message_pieces t.answer) heard heard' between t.console' → Ddrescue t

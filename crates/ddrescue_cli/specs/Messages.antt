@@ -1,4 +1,4 @@
--- What is said of each answer on the console.
+-- The message on each answer, on the console.
 use Rattle.std.specs.Prelude.{ℕ, List, [], ◌∷◌, ◌++◌, Option, Some, None, codes}
 use Rattle.mapfile_text.specs.declared.read.MapError.{MapError}
 use Rattle.rescue_rules.specs.declared.stop.Stop.{Stop}
@@ -42,7 +42,7 @@ abbrev pub after_text : Option Stop → List ℕ
 after_text None = []
 after_text (Some stop) = codes " after " ++ stop_text stop
 
--- what is said of an answer
+-- the text on an answer
 abbrev pub text_of_ending : Ending → List ℕ
 text_of_ending Done = []
 text_of_ending (Usage fault) = usage_text fault
@@ -63,7 +63,7 @@ text_of_ending NoMemory = codes "out of memory"
 abbrev pub message : Ending → List ℕ
 message e = message_of program_name (text_of_ending e)
 
--- what is said of an answer on the console: nothing of what is finished, else its message, on standard error
+-- the text on an answer on the console: nothing for what is finished, else its message, on standard error
 abbrev pub message_pieces : Ending → List SpokenPiece
 message_pieces Done = []
 message_pieces e = record { channel = Err; text = message e } ∷ []

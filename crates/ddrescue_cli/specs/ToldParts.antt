@@ -11,7 +11,7 @@ use Rattle.task_files.specs.Asked.{setting_of}
 use Rattle.task_files.specs.Outside.{Outside}
 use Rattle.ddrescue_cli.specs.Told.{Told}
 
--- the same without words and answer
+-- what is told of a call, without words and answer
 abbrev pub across_of : Told → Across
 across_of t = record {
   source = t.source;

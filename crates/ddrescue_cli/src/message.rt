@@ -1,4 +1,4 @@
-//! What is said of an answer on the console.
+//! The message on an answer, on the console.
 ghost use Rattle.std.specs.Prelude.{◌≡◌, ◌+◌, ◌≤◌, ◌++◌};
 ghost use Rattle.arrayvec.specs.ArrayVec.{array_vec_len};
 ghost use Rattle.ddrescue_cli.specs.Messages.{which_text, map_error_text, after_text, limit_text, text_of_ending, message};
@@ -63,7 +63,7 @@ fn add_after(message: &mut Message, earlier: Option<Stop>)
     }
 }
 
-/// Adds what is said of an answer.
+/// Adds the message on an answer.
 fn add_ending(message: &mut Message, ending: Ending)
     requires { array_vec_len message.old ≤ 20 }
     ensures text { message.new.items ≡ message.old.items ++ text_of_ending ending }

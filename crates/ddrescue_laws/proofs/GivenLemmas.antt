@@ -6,11 +6,10 @@ use Rattle.std.proofs.lemmas.List.{length-take}
 use Rattle.std.proofs.lemmas.List.Elements.{All-head, All-tail}
 use Rattle.std.proofs.lemmas.Option.{slice_get_within}
 use Rattle.block_list.proofs.HeldLemmas.{slice_get-drop}
-use Rattle.faulty_source.specs.Journal.{Reading, covers}
+use Rattle.faulty_source.specs.Journal.{Reading, covers, IsFrom}
 use Rattle.rescue_rules.specs.Given.{given, last_of_both}
 use Rattle.rescue_rules.proofs.GivenLemmas.{given_covered, given_uncovered}
 use Rattle.rescue_rules.proofs.MarkLemmas.{slice_get-take}
-use Rattle.copy_passes.specs.Turns.{IsFrom}
 use Rattle.ddrescue_words.specs.Command.{Rescue}
 use Rattle.ddrescue_cli.specs.Ddrescue.{Promise}
 use Rattle.ddrescue_laws.specs.Laws.{GivenIsInput}

@@ -7,7 +7,7 @@ use Rattle.std.proofs.lemmas.Option.{none-some}
 use Rattle.block_list.specs.declared.status.Status.{Status}
 use Rattle.block_list.specs.declared.status.Status.TheVariants.{NonTried}
 use Rattle.mapfile_text.specs.declared.state.MapState.{MapState}
-use Rattle.faulty_source.specs.Journal.{Reading}
+use Rattle.faulty_source.specs.Journal.{Reading, IsFrom}
 use Rattle.faulty_source.specs.SourceState.{SourceState}
 use Rattle.crash_site.specs.declared.site.SiteCall.{SiteCall}
 use Rattle.crash_site.specs.declared.site.SiteCall.TheVariants.{ImageOpen, MapRead}
@@ -30,7 +30,6 @@ use Rattle.rescue_rules.proofs.ReadyLemmas.{order_over}
 use Rattle.trim_scrape.specs.Bounds.{AskFew}
 use Rattle.trim_scrape.proofs.BoundLemmas.{run_asks_few}
 use Rattle.trim_scrape.proofs.EndingLemmas.{run_ends_well}
-use Rattle.copy_passes.specs.Turns.{IsFrom}
 use Rattle.save_resume.specs.MapNames.{names_of}
 use Rattle.option_words.specs.Words.{command_line}
 use Rattle.ddrescue_words.specs.Command.{Command, Rescue}

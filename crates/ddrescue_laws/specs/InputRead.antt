@@ -1,6 +1,6 @@
 -- What was read of the input, by the answer.
 use Rattle.std.specs.Prelude.{◌≡◌, ◌≢◌, ⊤, ℕ, ◌≤◌, length, true, false, List, [], ◌++◌, All, Option}
-use Rattle.faulty_source.specs.Journal.{Reading}
+use Rattle.faulty_source.specs.Journal.{Reading, IsFrom}
 use Rattle.faulty_source.specs.SourceState.{SourceState}
 use Rattle.block_list.specs.declared.status.Status.{Status}
 use Rattle.mapfile_text.specs.declared.state.MapState.{MapState}
@@ -14,7 +14,6 @@ use Rattle.rescue_rules.specs.Step.{Event}
 use Rattle.rescue_rules.specs.Moves.{state_after, has_ended, IsRun}
 use Rattle.rescue_rules.specs.Beginning.{machine_over}
 use Rattle.rescue_rules.specs.Events.{reads_of}
-use Rattle.copy_passes.specs.Turns.{IsFrom}
 use Rattle.trim_scrape.specs.Bounds.{AskFew}
 use Rattle.trim_scrape.specs.Endings.{EndsWell}
 use Rattle.task_files.specs.declared.ending.Ending.{Ending}

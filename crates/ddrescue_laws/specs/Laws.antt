@@ -74,7 +74,7 @@ HoldsAtEnd =
 abbrev pub machine_reached : Setting → Gain → List Status → Option MapState → Machine
 machine_reached s g statuses state = state_after s (begins s statuses state g) (events_in g)
 
--- What a rescue leaves that went on to its end, over the map that its mapfile stood for, or no mapfile:
+-- What a rescue leaves that went on to its end, over the map that its mapfile gave, or no mapfile:
 pub record LeavesRescued (t : Told) (s : Setting) (g : Gain) : Type 0 where
   pub statuses : List Status
   pub state : Option MapState
@@ -87,7 +87,10 @@ pub record LeavesRescued (t : Told) (s : Setting) (g : Gain) : Type 0 where
   pub well : EndsWell s (begins s statuses state g) (events_in g)
   -- the mapfile, if there is one, is the map of all reads, and says that it is finished
   pub mapfile : s.has_mapfile ≡ true → files_in t.site' s.names.map
-      ≡ Some (record { bytes = text_of s.line (finished_snapshot (machine_reached s g statuses state)); regular = true })
+      ≡ Some (record {
+        bytes = text_of s.line (finished_snapshot (machine_reached s g statuses state));
+        regular = true;
+      })
   -- and the output holds what that map promises
   pub held : Held s g.reads (bytes_of (files_of t s.outfile)) (machine_reached s g statuses state).map
       (bytes_of (files_in t.site' s.outfile))
@@ -97,8 +100,8 @@ abbrev pub DoneIsSaved : Type 0
 DoneIsSaved = (t : Told) (c : Command) (d : Ddrescue t) (asks : Asks t.words c) → IsTrue t.site.tells
     → t.answer ≡ Done → LeavesRescued t (setting_promised d asks) (done_by d asks)
 
--- What the reads gave is the input's own, where the input tells. So what a saved map calls finished, and the reads
--- gave, stands in the output as it stands in the input.
+-- What the reads gave is the input's own, if the input tells. So what a saved map calls finished, and the reads gave,
+-- is in the output as it is in the input.
 abbrev pub GivenIsInput : Type 0
 GivenIsInput = (t : Told) (c : Command) (x b : ℕ) (d : Ddrescue t) (asks : Asks t.words c) → IsTrue t.source.tells
     → given c.options.sector (done_by d asks).reads x ≡ Some b → slice_get t.source.bytes x ≡ Some b
@@ -143,7 +146,7 @@ SampleIsOneLine = (t t' : Told) (kib : ℕ) (quiet quiet' : Bool) (d : Ddrescue 
     (asks : AskSample t.words kib quiet) (asks' : AskSample t'.words kib quiet') → t.answer ≡ Done → t'.answer ≡ Done
     → (d.asked_for (Sample kib quiet) asks).lines ≡ (d'.asked_for (Sample kib quiet') asks').lines
 
--- an answer that a command, an input's length and the files that were found bring, whatever the calls and memory do
+-- an answer that a command, an input's length and the files that were found lead to, whatever the calls and memory do
 pub record IsVerdict (e : Ending) : Type 0 where
   pub opened : e ≢ SourceFault
   pub kept : e ≢ SourceLost
@@ -151,7 +154,7 @@ pub record IsVerdict (e : Ending) : Type 0 where
   pub room : e ≢ NoMemory
   pub call : (call : SiteCall) (earlier : Option Stop) → e ≢ SiteFault call earlier
 
--- They bring one such answer at most.
+-- A command, an input's length and the files that were found lead to one such answer at most.
 abbrev pub HasOneVerdict : Type 0
 HasOneVerdict = (c : Command) (s : Setting) (found : Found) (lines lines' : List (List ℕ)) (e e' : Ending)
     (d d' : Deeds) → Works rescue_faults (rescue_rows c found s.end) (Rescues s found.mapfile lines) e d

@@ -37,7 +37,7 @@ IsAfterOutput e = (e ≡ Usage PlaceTooLarge) ⊎ ((error : MapError) × (e ≡ 
 abbrev pub IsMapReadFault : Ending → Type 0
 IsMapReadFault e = (earlier : Option Stop) × (e ≡ SiteFault MapRead earlier)
 
--- What an answer before the first read leaves of the files as they read; of others nothing is said here.
+-- What an answer before the first read leaves of the files as they read; other answers may leave anything.
 pub record IsLeft (e : Ending) (names_maps : Bool) (outfile : List ℕ) (files files' : List ℕ → Option File)
     : Type 0 where
   -- an absent output is made, once the output is open

@@ -46,7 +46,8 @@ abbrev pub filling_setting : {t : Told} {types : TypeSet} {c : Command} → Fill
 filling_setting {t} {types} {c} p = fill_setting c (command_line program_name t.words) p.top p.outside.maps
 
 -- the promise of a generating
-abbrev pub promised_generate : {t : Told} {c : Command} → Ddrescue t → AskTask t.words (Generate c) → GenerateModePromise c t
+abbrev pub promised_generate : {t : Told} {c : Command} → Ddrescue t → AskTask t.words (Generate c)
+    → GenerateModePromise c t
 promised_generate {t} {c} d asks = d.asked_for (Generate c) asks
 
 -- nothing of a filling is refused
@@ -54,11 +55,12 @@ pub record FillsUnrefused (c : Command) (o : Outside) (top : ℕ) : Type 0 where
   pub pattern : RefuseNothing (fill_rows c o.found o.end)
   pub files : RefuseNothing (files_rows true c o.found top)
 
--- Where nothing failed, nothing is refused, the pattern came whole and memory doesn't run out, a filling is done, whoever
--- tells.
+-- Where nothing failed, nothing is refused, the pattern came whole and memory doesn't run out, a filling is done,
+-- whoever tells.
 abbrev pub FillIsDoneUnless : Type 0
 FillIsDoneUnless = (t : Told) (types : TypeSet) (c : Command) (d : Ddrescue t) (asks : AskTask t.words (Fill types c))
-    → NothingFailed t → FillsUnrefused c (promised_fill d asks).outside (promised_fill d asks).top → t.answer ≢ PatternUnread
+    → NothingFailed t → FillsUnrefused c (promised_fill d asks).outside (promised_fill d asks).top
+    → t.answer ≢ PatternUnread
     → t.answer ≢ NoMemory → t.answer ≡ Done
 
 -- Where nothing failed, nothing is refused and memory doesn't run out, a generating is done, whoever tells.
@@ -85,7 +87,8 @@ UnbegunFillLeaves = (t : Told) (types : TypeSet) (c : Command) (d : Ddrescue t) 
 
 abbrev pub UnbegunGenerateLeaves : Type 0
 UnbegunGenerateLeaves = (t : Told) (c : Command) (d : Ddrescue t) (asks : AskTask t.words (Generate c))
-    → IsTrue t.site.tells → (promised_generate d asks).outside.did.gain.times ≡ [] → AllStand (files_of t) (files_in t.site')
+    → IsTrue t.site.tells → (promised_generate d asks).outside.did.gain.times ≡ []
+    → AllStand (files_of t) (files_in t.site')
 
 -- an answer that comes before a sweep: a refusal, a pattern that was lost, or a call of the opening that failed
 pub record IsBeforeSweep (e : Ending) : Type 0 where
@@ -104,8 +107,8 @@ abbrev pub RefusedGenerateLeaves : Type 0
 RefusedGenerateLeaves = (t : Told) (c : Command) (d : Ddrescue t) → AskTask t.words (Generate c)
     → IsTrue t.site.tells → IsBeforeSweep t.answer → AllStand (files_of t) (files_in t.site')
 
--- A filling whose pattern comes whole has one verdict at most, by its command, its pattern's length and the files that it
--- finds, and so has a generating.
+-- A filling whose pattern comes whole has one verdict at most, by its command, its pattern's length and the files that
+-- it finds, and so has a generating.
 abbrev pub FillHasOneVerdict : Type 0
 FillHasOneVerdict = (types : TypeSet) (c : Command) (found : Found) (input_end top : ℕ) (s s' : Setting)
     (buffer buffer' : List ℕ) (pieces pieces' : List Swept) (end end' : RunEnd) (lines lines' : List (List ℕ))
@@ -119,7 +122,7 @@ GenerateHasOneVerdict = (c : Command) (found : Found) (input_end : ℕ) (s s' : 
     → Generates c found input_end s pieces end lines e d → Generates c found input_end s' pieces' end' lines' e' d'
     → IsVerdict e → IsVerdict e' → e ≡ e'
 
--- What a sweep leaves that went on to its end, over the map that its mapfile stood for: all its pieces in order, and a
+-- What a sweep leaves that went on to its end, over the map that its mapfile gave: all its pieces in order, and a
 -- mapfile that says that it is finished.
 pub record IsSweptThrough (t : Told) (s : Setting) (w : Sweeper) (pieces : List Swept) (statuses : List Status)
     (state : Option MapState) (time : ℕ) : Type 0 where
@@ -137,7 +140,8 @@ HasNoPiece s pieces y = All (λ e. (y < place s e.pos) ⊎ (place s e.pos + e.le
 
 -- What a filling leaves that is done: its map as it was, the pattern in each piece, and the old bytes elsewhere. If the
 -- source tells, the pattern is the infile's front.
-pub record LeavesFilled (t : Told) (s : Setting) (types : TypeSet) (buffer : List ℕ) (pieces : List Swept) : Type 0 where
+pub record LeavesFilled (t : Told) (s : Setting) (types : TypeSet) (buffer : List ℕ) (pieces : List Swept)
+    : Type 0 where
   pub statuses : List Status
   pub state : Option MapState
   pub time : ℕ
@@ -152,7 +156,8 @@ pub record LeavesFilled (t : Told) (s : Setting) (types : TypeSet) (buffer : Lis
 abbrev pub DoneIsFilled : Type 0
 DoneIsFilled = (t : Told) (types : TypeSet) (c : Command) (d : Ddrescue t) (asks : AskTask t.words (Fill types c))
     → IsTrue t.site.tells → t.answer ≡ Done
-    → LeavesFilled t (filling_setting (promised_fill d asks)) types (promised_fill d asks).buffer (promised_fill d asks).pieces
+    → LeavesFilled t (filling_setting (promised_fill d asks)) types (promised_fill d asks).buffer
+    (promised_fill d asks).pieces
 
 -- What a generating leaves that is done: a map of what the output held, and the output as it was.
 pub record LeavesGenerated (t : Told) (s : Setting) (pieces : List Swept) : Type 0 where
@@ -162,7 +167,8 @@ pub record LeavesGenerated (t : Told) (s : Setting) (pieces : List Swept) : Type
   pub through : IsSweptThrough t s (generator s) pieces statuses state time
   pub given : AreGiven s (bytes_of (files_of t s.outfile)) pieces
   -- what its map calls finished was so before, or has a byte in the output
-  pub held : (x : ℕ) → Has (after_pieces (generator s) (sweep_over (generator s) statuses state time) pieces).map Finished x
+  pub held : (x : ℕ)
+      → Has (after_pieces (generator s) (sweep_over (generator s) statuses state time) pieces).map Finished x
       → Has statuses Finished x ⊎ ((b : ℕ) × (slice_get (bytes_of (files_of t s.outfile)) (place s x) ≡ Some b))
   pub output : bytes_of (files_in t.site' s.outfile) ≡ bytes_of (files_of t s.outfile)
 

@@ -67,7 +67,8 @@ pub fn faults_are_of_a_filling()
     ensures { FillFaultsAreOfSteps }
 {}
 
-/// So does an answer of a generating, which writes nothing into the outfile.
+/// An answer of a generating that names a failed call names one that a step makes. A generating writes nothing into the
+/// outfile.
 pub fn faults_are_of_a_generating()
     ensures { GenerateFaultsAreOfSteps }
 {}

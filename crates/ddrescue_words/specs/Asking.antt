@@ -19,7 +19,7 @@ use Rattle.ddrescue_words.specs.declared.command.Task.TheVariants.{Rescue as Res
 use Rattle.ddrescue_words.specs.Options.{cluster_letter, cluster_limit, cluster_of, domain_letter, fill_letter, generate_letter, in_sectors, no_options, option_meanings, options_in, quiet_letter, sample_place, sectors_of, test_letter}
 use Rattle.ddrescue_words.specs.Command.{Command, Task, Rescue, Fill, Generate, Sample}
 
--- the same of what the code hands on
+-- the command that the code hands on
 abbrev pub told_by : CommandCode → Command
 told_by c = record {
   infile = c.infile.now;
@@ -178,7 +178,7 @@ task_from words items (Ok o) operands =
 abbrev pub task_in : List (List ℕ) → List Item → (operands : List ℕ) → Result Task UsageFault
 task_in words items operands = task_from words items (options_in words items) operands
 
--- the same of a reading that the code has
+-- what a reading that the code has asks for, or its first fault
 abbrev pub task_read : List (List ℕ) → WordReading → Result Task UsageFault
 task_read words r = task_in words r.items.items r.operands.items
 
@@ -198,15 +198,15 @@ AskTask words task = AskFor rescue_grammar words task
 abbrev pub Asks : List (List ℕ) → Command → Type 0
 Asks words c = AskTask words (Rescue c)
 
--- for the rescue of a sample of so many KiB
+-- for the rescue of a sample of `kib` KiB
 abbrev pub AskSample : List (List ℕ) → (kib : ℕ) → (quiet : Bool) → Type 0
 AskSample words kib quiet = AskTask words (Sample kib quiet)
 
--- they are refused for this fault
+-- the words are refused for this fault
 abbrev pub AreRefused : List (List ℕ) → UsageFault → Type 0
 AreRefused words fault = AreRefusedBy rescue_grammar words fault
 
--- they can be read, and ask that nothing be said
+-- the words can be read, and ask for no message
 abbrev pub AskQuiet : List (List ℕ) → Type 0
 AskQuiet words = AskSilence rescue_grammar words
 
@@ -251,11 +251,11 @@ pub record IsAsked (words : List (List ℕ)) (task : Task) : Type 0 where
   pub only : AskForOnly rescue_grammar words task (is_quiet task)
   pub limits : IsInLimits task
 
--- the same of what the code hands on
+-- what the code hands on is what the words ask for, and nothing else
 abbrev pub IsTask : List (List ℕ) → TaskCode → Type 0
 IsTask words task = IsAsked words (task_by task)
 
--- they are refused for this fault, and ask for nothing; `quiet` says whether they ask that nothing be said
+-- the words are refused for this fault, and ask for nothing; `quiet` says whether they ask for no message
 abbrev pub IsRefusal : List (List ℕ) → UsageFault → (quiet : Bool) → Type 0
 IsRefusal words fault quiet = IsRefusalBy rescue_grammar words fault quiet
 

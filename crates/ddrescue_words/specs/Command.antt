@@ -3,8 +3,8 @@ use Rattle.std.specs.Prelude.{ℕ, Bool, List, Option}
 use Rattle.block_list.specs.declared.types.TypeSet.{TypeSet}
 use Rattle.ddrescue_words.specs.declared.options.Options.{Options}
 
--- the names of the infile, the outfile and, if there is one, the mapfile; of the map of what is to be rescued and of
--- the map of what may be read, if they are named; and what the options say
+-- The names of the infile, the outfile and, if there is one, the mapfile. The names of the map of what is to be rescued
+-- and of the map of what may be read, if these are named. What the options say.
 pub record Command : Type 0 where
   pub infile : List ℕ
   pub outfile : List ℕ
@@ -21,5 +21,5 @@ pub data Task : Type 0 where
   Fill : (types : TypeSet) → Command → Task
   -- that the mapfile be made from what the outfile holds
   Generate : Command → Task
-  -- the rescue of a sample of so many KiB, of which nothing is said if `quiet`
+  -- the rescue of a sample of `kib` KiB, without a message if `quiet`
   Sample : (kib : ℕ) → (quiet : Bool) → Task

@@ -85,14 +85,14 @@ skips_of sector text =
 abbrev pub limit_with : (new : Bool) → List ℕ → Option (Bool × Option ℕ)
 limit_with new text = option_map (λ n. (new, Some n)) (result_ok (number text))
 
--- It is a number or, if new areas alone count, a number after a `+`.
+-- A limit of areas is a number or, if new areas alone count, a number after a `+`.
 abbrev pub area_limit_of : List ℕ → Option (Bool × Option ℕ)
 area_limit_of [] = None
 area_limit_of (c ∷ text) = if nat_eq c 43 then limit_with true text else limit_with false (c ∷ text)
 
 -- ---- the rows
 
--- an option that stands alone, and one with a value
+-- an option without a value, and one with a value
 abbrev pub flag : (letter : ℕ) → List ℕ → (Options → Options) → OptionRow Options
 flag letter name sets =
     record { letter = Some letter; name = name; takes = Never; sets = λ sector o value. Some (sets o) }
@@ -100,9 +100,9 @@ flag letter name sets =
 abbrev pub valued : (letter : ℕ) → List ℕ → (ℕ → Options → Option (List ℕ) → Option Options) → OptionRow Options
 valued letter name sets = record { letter = Some letter; name = name; takes = Always; sets = sets }
 
--- The letters of options that are looked at by themselves. The size of a sector (`-b`) is set before all others, the
--- size of a cluster (`-c`) is looked at again after all others, `-F` and `-G` are modes, which don't go together and
--- not with `-H`; `-H` and `-m` name maps, and `-q` asks that nothing be said.
+-- The letters of options that are read by themselves. The size of a sector (`-b`) is set before all others, and the
+-- size of a cluster (`-c`) is checked again after all others. `-F` and `-G` are modes, which don't go together and not
+-- with `-H`; `-H` and `-m` name maps, and `-q` asks for no message.
 abbrev pub sector_letter : ℕ
 sector_letter = 98
 
@@ -185,7 +185,7 @@ sample_row = record {
 abbrev pub option_rows : List (OptionRow Options)
 option_rows = lettered_rows ++ sample_row ∷ []
 
--- its row, counted from 0
+-- the row of the option of a sample, counted from 0
 abbrev pub sample_place : ℕ
 sample_place = length lettered_rows
 

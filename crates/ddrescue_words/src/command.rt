@@ -46,7 +46,7 @@ pub enum Task<'a> {
     },
     /// The mapfile, which is named, is to be made from what the outfile holds.
     Generate(Command<'a>),
-    /// The rescue of a sample of so many KiB, of which nothing is said if that is asked for.
+    /// The rescue of a sample of this size in KiB, without a message if that is asked for.
     Sample {
         kib: u64,
         quiet: bool,
@@ -205,7 +205,7 @@ fn find_conflict(table: &OptionTable, items: &[Item], sampled: bool) -> Option<u
     }
 }
 
-/// A sample of so many KiB, unless there are operands.
+/// A sample of this size in KiB, unless there are operands.
 fn take_sample<'a>(kib: u64, quiet: bool, operands: &[usize]) -> Result<Task<'a>, UsageFault>
     ensures asked { IfOk result (λ t. sample_task kib quiet operands.now ≡ Ok (task_by t)) }
     ensures refused { IfErr result (λ fault. sample_task kib quiet operands.now ≡ Err fault) }
@@ -282,8 +282,8 @@ fn task_of<'a>(
 
 /// Reads the words of a command line: `[options] infile outfile [mapfile]`, where a mode wants the mapfile, or
 /// `--sample=KIB`. The words themselves come first, then the values of the options in the order of the words, those of
-/// `-b` before all others, then the size of a cluster in bytes, then the options that don't go together: `-F` with
-/// `-G`, `-H` with one of these, and others with a sample; then the number of operands and whether one is empty.
+/// `-b` before all others, then the size of a cluster in bytes. The options that don't go together follow: `-F` with
+/// `-G`, `-H` with one of these, and others with a sample. Last come the number of operands and whether one is empty.
 pub fn read_command(alloc: Global, words: &Words) -> Result<Task<'_>, CommandError>
     ensures asked { IfOk result (λ t. IsTask words.now t) }
     ensures refused { IfErr result (λ e. IsErrorOf words.now e) }

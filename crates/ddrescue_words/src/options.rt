@@ -55,7 +55,7 @@ pub(crate) const SAMPLE: usize = 26;
 /// The most KiB of a sample.
 const MOST_SAMPLE: u64 = 65_536;
 
-/// The options. A later one is a row here, in front of the last, and an arm in `with_letter`.
+/// The options. A later one is a row here, before the last, and an arm in `with_letter`.
 pub static ROWS: [Row; 27] = [
     Row {
         short: Some('a'),
@@ -221,7 +221,7 @@ pub struct Options {
     pub max_read_errors: Option<u64>,
     /// How many areas may have failed; no limit if it isn't given.
     pub max_bad_areas: Option<u64>,
-    /// That many may have failed beyond those that were there at first; by default those count too.
+    /// `max_bad_areas` counts only areas beyond those that had failed at first; by default those count too.
     pub new_areas: bool,
     /// For how many seconds there may be no read that gives all it was asked for or meets the infile's end; no limit if
     /// it isn't given.
@@ -250,15 +250,15 @@ pub struct Options {
     pub forced: bool,
     /// Nothing is put on the console; by default lines and messages are.
     pub quiet: bool,
-    /// It is said first how much is to be rescued; by default it isn't.
+    /// A first line says how much is to be rescued; by default none does.
     pub verbose: bool,
-    /// A sample of so many KiB is rescued in place of an infile; none if it isn't given.
+    /// A sample of this size in KiB is rescued in place of an infile; none if it isn't given.
     pub sample: Option<u64>,
 }
 
 impl Options {
     /// What is asked for where no option but the sector's is given.
-    pub(crate) fn none(sector: u64) -> Options
+    pub fn none(sector: u64) -> Options
         ensures { result ≡ no_options sector }
     {
         Options {

@@ -26,20 +26,20 @@ use Rattle.ddrescuelog_words.specs.Modes.{creates, has_other}
 use Rattle.ddrescuelog_words.specs.Command.{Command, AreInLimits}
 use Rattle.save_resume.proofs.NamedLemmas.{map_is_one}
 use Rattle.work_rules.proofs.LoadLemmas.{by_tells}
-use Rattle.work_rules.proofs.GainLemmas.{broke_named}
+use Rattle.work_rules.proofs.GainLemmas.{GainsBroken, broke_gains, broke_named}
 use Rattle.ddrescuelog_cli.specs.declared.ending.LogEnding.{LogEnding}
 use Rattle.ddrescuelog_cli.specs.declared.ending.LogEnding.TheVariants.{Done, SiteFault, FeedFault, NoMemory}
 use Rattle.ddrescuelog_cli.specs.Maps.{Found, Maps, AreMapsOf, AreAskedFor, found_in, shape_of}
 use Rattle.ddrescuelog_cli.specs.Modes.{looks_at_places}
 use Rattle.ddrescuelog_cli.specs.Refusals.{ListRefused}
 use Rattle.ddrescuelog_cli.specs.Results.{IsCreated, map_text}
-use Rattle.ddrescuelog_cli.specs.Outside.{only_calls}
+use Rattle.work_rules.specs.Parts.{only_calls}
 use Rattle.ddrescuelog_cli.specs.Work.{log_faults, OnlyAnswers, EndsCreated, EndsAs, WorksOver}
 use Rattle.ddrescuelog_cli.specs.Steps.{HasStatuses, statuses_in}
 use Rattle.ddrescuelog_cli.specs.Answers.{TakenBefore, AllTaken}
 use Rattle.ddrescuelog_cli.specs.After.{FeedLeft}
 use Rattle.ddrescuelog_cli.specs.Creating.{Looks, MakesList, AreOfList, SavesText, CreatesMap}
-use Rattle.ddrescuelog_cli.proofs.CallLemmas.{GainsBroken, broke_gains, Broken, broken_at}
+use Rattle.ddrescuelog_cli.proofs.CallLemmas.{Broken, broken_at}
 
 -- ---- the save
 

@@ -33,7 +33,7 @@ use Rattle.ddrescuelog_cli.specs.Modes.{looks_at_places, prints}
 use Rattle.ddrescuelog_cli.specs.Maps.{Maps, output_from, shape_of, domain_of}
 use Rattle.ddrescuelog_cli.specs.Results.{map_text, number_line, summary_text, text_of}
 use Rattle.ddrescuelog_cli.specs.Refusals.{PlacesRefused}
-use Rattle.ddrescuelog_cli.specs.Outside.{only_calls}
+use Rattle.work_rules.specs.Parts.{only_calls}
 use Rattle.ddrescuelog_cli.specs.Work.{EndsPrinted, EndsAs, WorksOver}
 use Rattle.ddrescuelog_cli.specs.Printing.{PutsAs}
 use Rattle.ddrescuelog_cli.specs.Steps.{IsLoadedAs, HasFound, printed_as}

@@ -18,7 +18,6 @@ mod OtherLemmas
 mod PromiseLemmas
 mod ReadLemmas
 mod RemoveLemmas
-mod RowLemmas
 mod SameLemmas
 mod StandLemmas
 mod StopsLemmas

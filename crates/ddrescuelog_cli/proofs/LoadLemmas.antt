@@ -1,107 +1,24 @@
 -- What the read of a map did, whether the files tell or not.
-use Rattle.std.proofs.Common.{◌≡◌, ℕ, ◌<◌, ◌≤◌, IsTrue, List, [], map, length, sum, replicate, Option, Some, None, Ok, Err, refl, sym, ◌∙◌, inl, inr, append-nil, arith}
-use Rattle.std.proofs.lemmas.Bool.{cases_lt}
-use Rattle.std.proofs.lemmas.List.Elements.{All-nil, All-replicate}
+use Rattle.std.proofs.Common.{◌≡◌, ℕ, IsTrue, List, [], map, Option, Some, None, Ok, Err, refl, sym, ◌∙◌, inl, inr, append-nil}
 use Rattle.mapfile_text.specs.declared.read.Mode.{Mode}
 use Rattle.mapfile_text.specs.declared.read.ReadMap.{ReadMap}
-use Rattle.mapfile_text.specs.MapText.{text_limit}
 use Rattle.crash_site.specs.declared.site.SiteCall.TheVariants.{MapRead as MapReadCall}
-use Rattle.crash_site.specs.declared.site.MapRead.{MapRead}
-use Rattle.crash_site.specs.declared.site.MapRead.TheVariants.{Bytes, Absent}
 use Rattle.crash_site.specs.Files.{File}
 use Rattle.crash_site.specs.Calls.{Call, Entry, Done as Returned}
 use Rattle.crash_site.specs.CallsMade.{BrokeAt}
 use Rattle.crash_site.specs.SiteState.{SiteState, files_in}
-use Rattle.save_resume.specs.Loading.{load_reads, IsReadSize, BeginsLoad, IsLoad}
+use Rattle.save_resume.specs.Loading.{BeginsLoad, IsLoad}
 use Rattle.save_resume.specs.Resuming.{IsReadAs, IsOfFile, LoadEnded, StarvedInLoad, BrokeInLoad}
 use Rattle.save_resume.proofs.AnswerLemmas.{read_is_not_refused}
-use Rattle.work_rules.proofs.LoadLemmas.{ones_sum, one_is_piece, by_tells}
+use Rattle.work_rules.proofs.GainLemmas.{GainsBroken, broke_gains}
+use Rattle.work_rules.proofs.LoadLemmas.{load_of, first_read, begins_first, by_tells}
 use Rattle.ddrescuelog_cli.specs.declared.ending.Which.{Which}
 use Rattle.ddrescuelog_cli.specs.declared.ending.LogEnding.{LogEnding}
 use Rattle.ddrescuelog_cli.specs.declared.ending.LogEnding.TheVariants.{SiteFault, NoMemory}
 use Rattle.ddrescuelog_cli.specs.Refusals.{MapIsRefused}
-use Rattle.ddrescuelog_cli.specs.Work.{map_rows}
-use Rattle.ddrescuelog_cli.specs.Steps.{Stopped, Through, ReadsMap, ReadsNamed}
-use Rattle.ddrescuelog_cli.proofs.CallLemmas.{GainsBroken, broke_gains}
-
--- ---- there is a load of each file
-
--- the first reads of a file that gave this many bytes, one by one, and the read after them
-begins_by_ones : (name : List ℕ) (f : File) (n : ℕ) (answer : Option MapRead) → n ≤ length f.bytes → n ≤ text_limit
-    → BeginsLoad name (Some f) (load_reads name (replicate n 1) answer)
-begins_by_ones name f n answer within limited =
-    let e : sum (replicate n 1) ≡ n = ones_sum n in
-    record {
-      given = replicate n 1;
-      answer = answer;
-      pieces = All-replicate IsReadSize n 1 one_is_piece;
-      within = omega (arith, e, within);
-      limited = omega (arith, e, limited);
-      calls_are = refl;
-    }
-
--- a load of each file
-abbrev Load : List ℕ → Option File → Type 0
-Load name file = (load : List Call) × IsLoad name file load
-
-load_of_none : (name : List ℕ) → Load name None
-load_of_none name = (
-  load_reads name [] (Some Absent),
-  record {
-    begins = record {
-      given = [];
-      answer = Some Absent;
-      pieces = All-nil IsReadSize;
-      within = omega arith;
-      limited = omega arith;
-      calls_are = refl;
-    };
-    ends = refl;
-  },
-)
-
-load_of_short : (name : List ℕ) (f : File) (n : ℕ) → n ≡ length f.bytes → n ≤ text_limit → Load name (Some f)
-unfolding begins_by_ones
-load_of_short name f n is short = (
-  load_reads name (replicate n 1) (Some (Bytes 0)),
-  record {
-    begins = begins_by_ones name f n (Some (Bytes 0)) (omega (arith, is)) short;
-    ends = inl (refl, ones_sum n ∙ is);
-  },
-)
-
-load_of_long : (name : List ℕ) (f : File) (n : ℕ) → n ≡ text_limit → n < length f.bytes → Load name (Some f)
-unfolding begins_by_ones
-load_of_long name f n is long =
-    let e : sum (replicate n 1) ≡ n = ones_sum n in (
-      load_reads name (replicate n 1) (Some (Bytes 1)),
-      record {
-        begins = begins_by_ones name f n (Some (Bytes 1)) (omega (arith, long)) (omega (arith, is));
-        ends = inr (one_is_piece, omega (arith, e, is), omega (arith, e, long));
-      },
-    )
-
-load_of : (name : List ℕ) (file : Option File) → Load name file
-load_of name None = load_of_none name
-load_of name (Some f) =
-    elim (cases_lt text_limit (length f.bytes)) [
-      | inl long ↦ load_of_long name f text_limit refl long
-      | inr short ↦ load_of_short name f (length f.bytes) refl (omega (arith, short))
-    ]
-
--- the first read of a file, without an answer
-abbrev first_read : List ℕ → List Call
-first_read name = load_reads name [] None
-
-begins_first : (name : List ℕ) (file : Option File) → BeginsLoad name file (first_read name)
-begins_first name file = record {
-  given = [];
-  answer = None;
-  pieces = All-nil IsReadSize;
-  within = omega arith;
-  limited = omega arith;
-  calls_are = refl;
-}
+use Rattle.ddrescuelog_cli.specs.Work.{log_faults, map_rows}
+use Rattle.ddrescuelog_cli.specs.Steps.{ReadsMap, ReadsNamed}
+use Rattle.work_rules.specs.Parts.{WentThrough, StoppedIn}
 
 -- ---- rows
 
@@ -111,13 +28,14 @@ passes which mode file m e read (inl missing) = let no : None ≡ Some read.ther
 passes which mode file m e read (inr refused) = read_is_not_refused file mode m refused.0 read refused.1
 
 through_read : (which : Which) (mode : Mode) (name : List ℕ) (file : Option File) (m : ReadMap) (load : List Call)
-    → IsReadAs file mode m → IsLoad name file load → Through (map_rows which mode (Some name) file) (map Returned load)
+    → IsReadAs file mode m → IsLoad name file load
+    → WentThrough (map_rows which mode (Some name) file) (map Returned load)
 through_read which mode name file m load read is =
     (load, [], is, sym (append-nil (map Returned load)), (λ v refused. passes which mode file m v read refused.1, refl))
 
 stopped_refused : (which : Which) (mode : Mode) (name : List ℕ) (file : Option File) (e : LogEnding) (load : List Call)
     → MapIsRefused which mode file e → IsLoad name file load
-    → Stopped (map_rows which mode (Some name) file) e (map Returned load)
+    → StoppedIn log_faults (map_rows which mode (Some name) file) e (map Returned load)
 stopped_refused which mode name file e load refused is =
     inr (inr (
       load,
@@ -135,12 +53,13 @@ stopped_refused which mode name file e load refused is =
 
 stopped_broke : (which : Which) (mode : Mode) (name : List ℕ) (file : Option File) (load : List Call)
     (calls : List Entry) → BeginsLoad name file load → BrokeAt MapReadCall load [] calls
-    → Stopped (map_rows which mode (Some name) file) (SiteFault MapReadCall) calls
+    → StoppedIn log_faults (map_rows which mode (Some name) file) (SiteFault MapReadCall) calls
 stopped_broke which mode name file load calls begins broke =
     inl (load, refl, begins, broke, record { opens = refl; reads = refl; times = refl })
 
 stopped_starved : (which : Which) (mode : Mode) (name : List ℕ) (file : Option File) (load : List Call)
-    → BeginsLoad name file load → Stopped (map_rows which mode (Some name) file) NoMemory (map Returned load)
+    → BeginsLoad name file load
+    → StoppedIn log_faults (map_rows which mode (Some name) file) NoMemory (map Returned load)
 stopped_starved which mode name file load begins =
     inr (inl (load, refl, begins, refl, record { opens = refl; reads = refl; times = refl }))
 

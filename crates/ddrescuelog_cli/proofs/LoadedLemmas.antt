@@ -21,10 +21,10 @@ use Rattle.ddrescuelog_cli.specs.declared.load.LoadedMaps.{LoadedMaps}
 use Rattle.ddrescuelog_cli.specs.declared.ending.LogEnding.{LogEnding}
 use Rattle.ddrescuelog_cli.specs.declared.ending.LogEnding.TheVariants.{NoMemory}
 use Rattle.ddrescuelog_cli.specs.Maps.{Found, file_of, found_in, mapfile_mode, AreMapsOf, AreAskedFor}
-use Rattle.ddrescuelog_cli.specs.Outside.{only_calls}
-use Rattle.ddrescuelog_cli.specs.Work.{map_rows, named_rows}
-use Rattle.ddrescuelog_cli.specs.Steps.{Stopped, Through, DidRead, ReadsMap, HasStatuses, statuses_in, statuses_or_none, DidReadNamed, ReadsNamed, maps_read, IsLoadedAs, LoadsMaps, ReadCause}
-use Rattle.ddrescuelog_cli.proofs.RowLemmas.{stopped_more, through_then, through_both}
+use Rattle.work_rules.specs.Parts.{only_calls, WentThrough, StoppedIn}
+use Rattle.ddrescuelog_cli.specs.Work.{log_faults, map_rows, named_rows}
+use Rattle.ddrescuelog_cli.specs.Steps.{DidRead, ReadsMap, HasStatuses, statuses_in, statuses_or_none, DidReadNamed, ReadsNamed, maps_read, IsLoadedAs, LoadsMaps, ReadCause}
+use Rattle.work_rules.proofs.PartLemmas.{stopped_more, through_then, through_both}
 use Rattle.ddrescuelog_cli.proofs.ReadLemmas.{AreReads, stopped_reads, through_reads, files_stand}
 use Rattle.ddrescuelog_cli.proofs.MapsLemmas.{NamedBy, shown_is_one, has_named}
 
@@ -103,7 +103,8 @@ mapfile_refused c e old new r =
       calls = r.calls;
       is_own = λ t. same_found c (files_in old) r.file found.other found.domain (r.is_own t) refl refl;
       gained = r.gained;
-      did = inr (stopped_more (mapfile_rows c r.file) (named_rows c found) (λ e d. ⊥) e (only_calls r.calls) r.did);
+      did = inr (stopped_more log_faults (mapfile_rows c r.file) (named_rows c found) (λ e d. ⊥) e
+          (only_calls r.calls) r.did);
     }
 
 -- ---- or at the other map
@@ -120,10 +121,9 @@ other_refused c m e old mid new r stays s =
           ∙ ap (file_of c.other) (map_stands RunMap (mapfile_mode c.mode) c.mapfile (Ok m) old mid r stays t))
           refl;
       gained = λ t. grew_both old mid new r.calls s.calls (r.gained t) (s.gained (still_tells old mid stays t));
-      did = inr (through_then (mapfile_rows c r.file) (named_rows c (found_by r.file s.file domain)) (λ e d. ⊥) e
-          r.calls
-          s.calls r.did.1
-          (stopped_more (other_rows c s.file) (domain_rows c domain) (λ e d. ⊥) e (only_calls s.calls) s.did));
+      did = inr (through_then log_faults (mapfile_rows c r.file) (named_rows c (found_by r.file s.file domain))
+          (λ e d. ⊥) e r.calls (only_calls s.calls) r.did.1
+          (stopped_more log_faults (other_rows c s.file) (domain_rows c domain) (λ e d. ⊥) e (only_calls s.calls) s.did));
     }
 
 -- ---- or it came to the domain map
@@ -141,7 +141,7 @@ record ReadsAll (c : Command) (m : ReadMap) (other : Option Tiled) (r : Result (
   gained : IsTrue old.tells → new.calls ≡ old.calls ++ (front ++ last)
   mapfile : IsReadAs found.mapfile (mapfile_mode c.mode) m
   has_other : HasStatuses c.other Tight found.other (statuses_in other)
-  through : Through (front_rows c found) front
+  through : WentThrough (front_rows c found) front
   did : DidReadNamed DomainMap (map_mode c.options.loose) c.domain_map found.domain r last
 
 reads_all : (c : Command) (m : ReadMap) (other : Option Tiled) (r : Result (Option Tiled) LogEnding)
@@ -179,13 +179,14 @@ domain_refused c m other e old mid low new a stays b stays' d =
       calls = all.front ++ all.last;
       is_own = all.is_own;
       gained = all.gained;
-      did = inr (through_then (front_rows c all.found) (domain_rows c all.found.domain) (λ e d. ⊥) e all.front all.last
-          all.through all.did);
+      did = inr (through_then log_faults (front_rows c all.found) (domain_rows c all.found.domain) (λ e d. ⊥) e
+          all.front (only_calls all.last) all.through all.did);
     }
 
 -- if memory ran out after a read it ran out in it
 starved_in : (which : Which) (mode : Mode) (name : Option (List ℕ)) (file : Option File) (calls : List Entry)
-    → Through (map_rows which mode name file) calls → Stopped (map_rows which mode name file) NoMemory calls
+    → WentThrough (map_rows which mode name file) calls
+    → StoppedIn log_faults (map_rows which mode name file) NoMemory calls
 starved_in which mode None file calls t =
     inl (refl, record { opens = refl; gain = record { calls = t.1.1; reads = refl; times = refl } })
 starved_in which mode (Some name) file calls t =
@@ -204,8 +205,8 @@ starved_after c m other domain old new all = record {
   calls = all.front ++ all.last;
   is_own = all.is_own;
   gained = all.gained;
-  did = inr (through_then (front_rows c all.found) (domain_rows c all.found.domain) (λ e d. ⊥) NoMemory all.front
-      all.last all.through
+  did = inr (through_then log_faults (front_rows c all.found) (domain_rows c all.found.domain) (λ e d. ⊥)
+      NoMemory all.front (only_calls all.last) all.through
       (starved_in DomainMap (map_mode c.options.loose) c.domain_map all.found.domain all.last all.did.1));
 }
 

@@ -25,11 +25,11 @@ use Rattle.ddrescuelog_cli.specs.declared.ending.LogEnding.{LogEnding}
 use Rattle.ddrescuelog_cli.specs.declared.ending.LogEnding.TheVariants.{Exists, SiteFault}
 use Rattle.ddrescuelog_cli.specs.Maps.{Found, file_of, found_in}
 use Rattle.ddrescuelog_cli.specs.Refusals.{MapIsThere}
-use Rattle.ddrescuelog_cli.specs.Outside.{only_calls}
+use Rattle.work_rules.specs.Parts.{only_calls, WentThrough, StoppedIn}
 use Rattle.ddrescuelog_cli.specs.Work.{log_faults, map_rows, named_rows, SaysIfThere, UnlessThere, WorksOver, WorksAs}
-use Rattle.ddrescuelog_cli.specs.Steps.{Stopped, Through, ReadsNamed}
+use Rattle.ddrescuelog_cli.specs.Steps.{ReadsNamed}
 use Rattle.ddrescuelog_cli.specs.Creating.{IsFree, AsksIfThere, Looks}
-use Rattle.ddrescuelog_cli.proofs.RowLemmas.{stopped_more, through_then}
+use Rattle.work_rules.proofs.PartLemmas.{stopped_more, through_then}
 
 -- ---- the question
 
@@ -218,31 +218,32 @@ there_then false name file more e calls later (answer, says, is, passes) w =
 
 -- no other map is named
 none_through : (which : Which) (mode : Mode) (name : Option (List ℕ)) (file : Option File) → name ≡ None → file ≡ None
-    → Through (map_rows which mode name file) []
+    → WentThrough (map_rows which mode name file) []
 none_through which mode None file unnamed none =
     (none, (λ v r. both_ways false refl r.0, refl))
 none_through which mode (Some name) file unnamed none = absurd (cc)
 
 named_stopped : (c : Command) (found : Found) (run : LogEnding → Deeds → Type 0) (e : LogEnding) (calls : List Entry)
     → c.other ≡ None → found.other ≡ None
-    → Stopped (map_rows DomainMap (map_mode c.options.loose) c.domain_map found.domain) e calls
+    → StoppedIn log_faults (map_rows DomainMap (map_mode c.options.loose) c.domain_map found.domain) e calls
     → Works log_faults (named_rows c found) run e (only_calls calls)
 named_stopped c found run e calls alone none s =
-    through_then (map_rows OtherMap Tight c.other found.other)
-    (map_rows DomainMap (map_mode c.options.loose) c.domain_map found.domain) run e [] calls
+    through_then log_faults (map_rows OtherMap Tight c.other found.other)
+    (map_rows DomainMap (map_mode c.options.loose) c.domain_map found.domain) run e [] (only_calls calls)
     (none_through OtherMap Tight c.other found.other alone none)
-    (stopped_more (map_rows DomainMap (map_mode c.options.loose) c.domain_map found.domain) [] run e
+    (stopped_more log_faults (map_rows DomainMap (map_mode c.options.loose) c.domain_map found.domain) [] run e
     (only_calls calls) s)
 
 named_then : (c : Command) (found : Found) (run : LogEnding → Deeds → Type 0) (e : LogEnding)
     (calls later : List Entry) → c.other ≡ None → found.other ≡ None
-    → Through (map_rows DomainMap (map_mode c.options.loose) c.domain_map found.domain) calls
+    → WentThrough (map_rows DomainMap (map_mode c.options.loose) c.domain_map found.domain) calls
     → run e (only_calls later) → Works log_faults (named_rows c found) run e (only_calls (calls ++ later))
 named_then c found run e calls later alone none t w =
-    through_then (map_rows OtherMap Tight c.other found.other)
-    (map_rows DomainMap (map_mode c.options.loose) c.domain_map found.domain) run e [] (calls ++ later)
+    through_then log_faults (map_rows OtherMap Tight c.other found.other)
+    (map_rows DomainMap (map_mode c.options.loose) c.domain_map found.domain) run e [] (only_calls (calls ++ later))
     (none_through OtherMap Tight c.other found.other alone none)
-    (through_then (map_rows DomainMap (map_mode c.options.loose) c.domain_map found.domain) [] run e calls later t w)
+    (through_then log_faults (map_rows DomainMap (map_mode c.options.loose) c.domain_map found.domain) [] run e calls
+    (only_calls later) t w)
 
 -- ---- what is looked at
 

@@ -1,78 +1,24 @@
 -- Files that the work leaves as they read.
-use Rattle.std.proofs.Common.{◌≡◌, ◌≢◌, ℕ, true, List, [], ◌∷◌, ◌++◌, map, Option, Some, refl, sym, ap, ◌∙◌, inl, inr, subst}
-use Rattle.std.specs.Prelude.{⊤}
-use Rattle.crash_site.specs.Files.{File}
-use Rattle.crash_site.specs.Calls.{Call, Entry, Done as Returned, Failed, draft_append, draft_begin, draft_sync}
-use Rattle.crash_site.specs.Changes.{Changes}
-use Rattle.crash_site.specs.Folder.{Folder, appended, after, after_done, after_failed}
-use Rattle.crash_site.specs.Along.{GoesAlong}
+use Rattle.std.proofs.Common.{◌≡◌, ◌≢◌, ℕ, true, List, [], ◌++◌, map, refl, ap, ◌∙◌, inl, inr}
+use Rattle.crash_site.specs.Calls.{Call, Entry, Done as Returned}
+use Rattle.crash_site.specs.Folder.{Folder, after}
 use Rattle.crash_site.specs.SiteState.{SiteState, files_in}
-use Rattle.crash_site.proofs.DiskLemmas.{failed_files}
-use Rattle.crash_site.proofs.LawLemmas.{after-append, done_other}
+use Rattle.crash_site.proofs.LawLemmas.{after-append}
 use Rattle.crash_site.proofs.AlongLemmas.{WentOn, broke_goes, made_goes}
-use Rattle.mapfile_text.specs.Pieces.{pieces_of}
-use Rattle.save_resume.specs.MapNames.{MapNames, names_of}
-use Rattle.save_resume.specs.Saving.{publish_calls, save_calls}
+use Rattle.save_resume.specs.MapNames.{names_of}
+use Rattle.save_resume.specs.Saving.{save_calls}
 use Rattle.ddrescuelog_words.specs.declared.mode.LogMode.{LogMode}
 use Rattle.ddrescuelog_words.specs.declared.mode.LogMode.TheVariants.{Create, Test}
 use Rattle.ddrescuelog_words.specs.Modes.{creates}
 use Rattle.ddrescuelog_words.specs.Command.{Command}
-use Rattle.save_resume.proofs.StageLemmas.{appended_draft}
 use Rattle.ddrescuelog_cli.specs.declared.ending.LogEnding.{LogEnding}
-use Rattle.ddrescuelog_cli.specs.Outside.{only_calls}
+use Rattle.work_rules.specs.Parts.{only_calls}
+use Rattle.work_rules.proofs.SpareLemmas.{AllSpare, spared, save_spares}
 use Rattle.ddrescuelog_cli.specs.Maps.{Found, Maps}
 use Rattle.ddrescuelog_cli.specs.Work.{EndsSaved, EndsAs, removal_calls, LogWorks}
 use Rattle.ddrescuelog_cli.proofs.ReadLemmas.{reads_stand}
 use Rattle.ddrescuelog_cli.proofs.AfterReadsLemmas.{AfterReads, IsShort, after_works}
 use Rattle.ddrescuelog_cli.proofs.StopsLemmas.{none_more, reads_run}
-
--- ---- calls that spare a file
-
--- none of these calls changes it, as they are made one after another
-abbrev pub AllSpare : List ℕ → Folder → List Call → Type 0
-AllSpare n d [] = ⊤
-AllSpare n d (call ∷ calls) = (Changes d call n → ⊥) × AllSpare n (after_done d call) calls
-
--- so it reads as it did, however far they came
-spared : (n : List ℕ) (d : Folder) (calls : List Call) (es : List Entry) → AllSpare n d calls → GoesAlong calls es
-    → (after d es).files n ≡ d.files n
-spared n d calls [] spare goes = refl
-spared n d [] (e ∷ es) spare goes = absurd goes
-spared n d (call ∷ calls) (Returned c ∷ es) spare goes =
-    let Q : Folder → Type 0 = λ f. (after f es).files n ≡ d.files n in
-    subst (λ (x : Call). Q (after_done d x)) (sym goes.0)
-    (spared n (after_done d call) calls es spare.1 goes.1 ∙ done_other d call n spare.0)
-spared n d (call ∷ calls) (Failed c ∷ es) spare goes =
-    ap (λ (r : List Entry). (after (after_failed d c) r).files n) goes.1
-    ∙ ap (λ (f : List ℕ → Option File). f n) (failed_files d c)
-
--- another name than the draft's
-not_draft : (n draft : List ℕ) (o : Option (List ℕ)) → o ≡ Some draft → n ≢ draft → o ≡ Some n → ⊥
-not_draft n draft o begun apart is =
-    let both : Some draft ≡ Some n = sym begun ∙ is in
-    apart (let same : draft ≡ n = cc in sym same)
-
-module _ (names : MapNames) (n : List ℕ) (other : n ≢ names.map) (apart : n ≢ names.draft) where
-  fill_spares : (d : Folder) (pieces : List (List ℕ)) → d.draft ≡ Some names.draft
-      → AllSpare n d (map draft_append pieces ++ draft_sync ∷ publish_calls names)
-  fill_spares d [] begun = (
-    (λ never. never),
-    (
-      (λ changes. elim changes [
-        | inl is ↦ not_draft n names.draft d.draft begun apart is
-        | inr is ↦ other is
-      ]),
-      ((λ never. never), tt),
-    ),
-  )
-  fill_spares d (piece ∷ pieces) begun = (
-    not_draft n names.draft d.draft begun apart,
-    fill_spares (appended d d.draft piece) pieces (appended_draft d d.draft piece ∙ begun),
-  )
-
-  save_spares : (d : Folder) (text : List ℕ) → AllSpare n d (save_calls names text)
-  save_spares d text =
-      ((λ never. never), (apart, fill_spares (after_done d (draft_begin names.draft)) (pieces_of text) refl))
 
 -- ---- by the mode
 

@@ -13,9 +13,8 @@ use Rattle.rescue_rules.specs.Work.{is_map_read, AreMapReads}
 use Rattle.work_rules.specs.Work.{Deeds, WorkStep, Take, Look, Open, Make, Read, Works, with_calls}
 use Rattle.work_rules.proofs.FrontLemmas.{IsMapRead, load_reads}
 use Rattle.ddrescuelog_cli.specs.declared.ending.LogEnding.{LogEnding}
-use Rattle.ddrescuelog_cli.specs.Outside.{only_calls}
+use Rattle.work_rules.specs.Parts.{only_calls, WentThrough, StoppedIn}
 use Rattle.ddrescuelog_cli.specs.Work.{log_faults}
-use Rattle.ddrescuelog_cli.specs.Steps.{Stopped, Through}
 
 -- a read of a map, which returned or failed
 abbrev pub IsRead : Entry → Type 0
@@ -85,11 +84,11 @@ work_reads (Read (Some name) file ∷ rows) run only last e d (inr (inr w)) =
     (work_reads rows run only last e (with_calls d w.1) w.4)
 
 pub stopped_reads : (rows : List (WorkStep LogEnding)) (e : LogEnding) (calls : List Entry) → OnlyRead rows
-    → Stopped rows e calls → AreReads calls
+    → StoppedIn log_faults rows e calls → AreReads calls
 stopped_reads rows e calls only stopped =
     work_reads rows (λ e d. ⊥) only (λ e d never. absurd never) e (only_calls calls) stopped
 
-pub through_reads : (rows : List (WorkStep LogEnding)) (calls : List Entry) → OnlyRead rows → Through rows calls
+pub through_reads : (rows : List (WorkStep LogEnding)) (calls : List Entry) → OnlyRead rows → WentThrough rows calls
     → AreReads calls
 through_reads [] calls only t = none_are calls t
 through_reads (Take ∷ rows) calls only t = through_reads rows calls only t

@@ -20,11 +20,12 @@ use Rattle.ddrescuelog_cli.specs.declared.ending.LogEnding.TheVariants.{Done, Si
 use Rattle.ddrescuelog_cli.specs.declared.load.LoadedMaps.{LoadedMaps}
 use Rattle.ddrescuelog_cli.specs.Maps.{Maps, domain_of}
 use Rattle.ddrescuelog_cli.specs.Modes.{looks_at_places}
-use Rattle.ddrescuelog_cli.specs.Outside.{only_calls}
+use Rattle.work_rules.specs.Parts.{only_calls}
 use Rattle.ddrescuelog_cli.specs.Work.{EndsAs, IsNotDone, WorksOver, removal_calls}
 use Rattle.ddrescuelog_cli.specs.Steps.{IsLoadedAs}
 use Rattle.ddrescuelog_cli.specs.Removing.{RemovesDone}
-use Rattle.ddrescuelog_cli.proofs.CallLemmas.{GainsBroken, broke_gains, Broken, broken_at}
+use Rattle.work_rules.proofs.GainLemmas.{GainsBroken, broke_gains}
+use Rattle.ddrescuelog_cli.proofs.CallLemmas.{Broken, broken_at}
 
 over_remove : (c : Command) (line list : List ℕ) (m : Maps) (e : LogEnding) (d : Deeds) → c.mode ≡ Test true
     → EndsAs (Test true) c line list m e d → WorksOver c line list m e d

@@ -1,16 +1,12 @@
 -- What a stop of the work finds, by the calls that it made.
-use Rattle.std.proofs.Common.{◌≡◌, ◌≢◌, ◌⊎◌, ℕ, ◌+◌, ◌-◌, ◌≤◌, Bool, true, false, cond, List, [], ◌++◌, map, length, Option, Some, None, Result, Ok, Err, refl, sym, ap, ◌∙◌, inl, inr, subst, arith, append_assoc, append-nil, length-append}
+use Rattle.std.proofs.Common.{◌≡◌, ◌≢◌, ◌⊎◌, ℕ, ◌+◌, ◌-◌, ◌≤◌, Bool, true, false, cond, List, [], ◌++◌, map, length, Option, Some, None, Ok, refl, sym, ap, ◌∙◌, inl, inr, subst, arith, append_assoc, append-nil, length-append}
 use Rattle.std.specs.Str.{bytes_eq}
 use Rattle.std.proofs.lemmas.Bool.{cases_lt, cond_both}
 use Rattle.std.proofs.lemmas.List.Elements.{All-same}
 use Rattle.std.proofs.lemmas.Slice.Eq.{bytes_eq-Decides}
-use Rattle.fault_count.specs.Plan.{no_plan}
 use Rattle.block_list.specs.declared.status.Status.{Status}
-use Rattle.crash_site.specs.declared.site.SiteCall.{SiteCall}
 use Rattle.crash_site.specs.Files.{File}
 use Rattle.crash_site.specs.Calls.{Call, Entry, Done as Returned, map_remove}
-use Rattle.crash_site.specs.CallsMade.{BrokeAt}
-use Rattle.crash_site.specs.Folder.{Folder}
 use Rattle.crash_site.specs.Disk.{Showing, Disk, only, or_this, at_rest, entered, disk_after}
 use Rattle.crash_site.specs.Left.{MayShow, Leaves, until, MayBeLeft}
 use Rattle.crash_site.specs.Along.{AlongCalls}
@@ -18,11 +14,9 @@ use Rattle.crash_site.specs.SiteState.{SiteState}
 use Rattle.crash_site.proofs.DiskLemmas.{run-append}
 use Rattle.crash_site.proofs.LawLemmas.{found_only, own_name, until_past, until_all, left_past}
 use Rattle.crash_site.proofs.AlongLemmas.{WentOn, along_until, along_calls, made_goes, broke_goes}
-use Rattle.save_resume.specs.declared.draft.SaveFault.{SaveFault}
-use Rattle.save_resume.specs.MapNames.{MapNames, names_of}
-use Rattle.save_resume.specs.Saving.{save_calls, drafting_after_fault, Saves}
-use Rattle.save_resume.specs.SaveStops.{disk_of, text_file, IsOldOrNew, Old, New, IsSaved}
-use Rattle.save_resume.proofs.StopLemmas.{stops_in_save, saved_where_ok}
+use Rattle.save_resume.specs.MapNames.{names_of}
+use Rattle.save_resume.specs.Saving.{save_calls}
+use Rattle.save_resume.specs.SaveStops.{disk_of, text_file, Old, New, IsSaved}
 use Rattle.rescue_rules.proofs.BeforeLemmas.{or_found}
 use Rattle.work_rules.specs.Work.{IsIdle}
 use Rattle.ddrescuelog_words.specs.declared.mode.LogMode.{LogMode}
@@ -32,10 +26,10 @@ use Rattle.ddrescuelog_words.specs.Command.{Command}
 use Rattle.map_algebra.specs.Compare.{IsDoneIn}
 use Rattle.map_algebra.specs.Numbers.{numbers_in}
 use Rattle.save_resume.proofs.NameLemmas.{apart_draft}
-use Rattle.work_rules.proofs.GainLemmas.{broke_after, broke_named}
+use Rattle.work_rules.proofs.SavedLemmas.{HasSaved, stops_by_save, saved_by, save_after}
 use Rattle.ddrescuelog_cli.specs.declared.ending.LogEnding.{LogEnding}
 use Rattle.ddrescuelog_cli.specs.declared.ending.LogEnding.TheVariants.{Done, NotDone, ListTooLong}
-use Rattle.ddrescuelog_cli.specs.Outside.{only_calls}
+use Rattle.work_rules.specs.Parts.{only_calls}
 use Rattle.ddrescuelog_cli.specs.Maps.{Found, Maps, domain_of, shape_of}
 use Rattle.ddrescuelog_cli.specs.Refusals.{ListRefused}
 use Rattle.ddrescuelog_cli.specs.Results.{IsCreated}
@@ -211,84 +205,6 @@ reads_alone front rest calls grew reads none =
     All-same IsRead calls front (grew ∙ ap (λ (r : List Entry). front ++ r) none ∙ append-nil front) reads
 
 -- ---- a map that is saved
-
--- a site that began so and made these calls
-abbrev site_at : Folder → List Entry → (drafting : Bool) → (faults : ℕ) → SiteState
-site_at start calls drafting faults = record {
-  tells = true;
-  start = start;
-  calls = calls;
-  is_open = false;
-  is_drafting = drafting;
-  faults = faults;
-  is_planned = false;
-  plan = no_plan;
-  starved = 0;
-}
-
--- what a save did, by a result without a value
-abbrev SavesBy : MapNames → List ℕ → Result (Unit {0}) SaveFault → (old new : SiteState) → Type 0
-SavesBy names text result old new = Saves (save_calls names text) false result old new
-
-made_saves : (names : MapNames) (text : List ℕ) (start : Folder) (old new : List Entry)
-    → new ≡ old ++ map Returned (save_calls names text)
-    → SavesBy names text (Ok tt) (site_at start old false 0) (site_at start new false 0)
-made_saves names text start old new grew = record {
-  keeps = record { tells = refl; start = λ t. refl; planned = refl; later = omega arith };
-  made = record { made = λ t. grew; faults = refl };
-  broke = tt;
-  named = tt;
-  image = refl;
-  draft = refl;
-  draft_left = tt;
-}
-
-broke_saves : (names : MapNames) (text : List ℕ) (start : Folder) (at : SiteCall) (old new : List Entry)
-    → BrokeAt at (save_calls names text) old new
-    → SavesBy names text (Err (record { call = at })) (site_at start old false 0)
-    (site_at start new (drafting_after_fault at false) 1)
-broke_saves names text start at old new broke = record {
-  keeps = record { tells = refl; start = λ t. refl; planned = refl; later = omega arith };
-  made = tt;
-  broke = record { broke = λ t. broke; rose = refl };
-  named = broke_named at (save_calls names text) old new broke;
-  image = refl;
-  draft = tt;
-  draft_left = refl;
-}
-
--- a record that went on by a save, whole or up to a call that failed
-abbrev HasSaved : MapNames → List ℕ → (old new : List Entry) → Type 0
-HasSaved names text old new =
-    (new ≡ old ++ map Returned (save_calls names text)) ⊎ ((at : SiteCall) × BrokeAt at (save_calls names text) old new)
-
-stops_by_save : (names : MapNames) (text : List ℕ) (start : Folder) (old new : List Entry) → HasSaved names text old new
-    → (k : ℕ) (found : List ℕ → Option File) → length old ≤ k → k ≤ length new → MayBeLeft start new k found
-    → (name : List ℕ) → name ≢ names.draft
-    → IsOldOrNew names text (disk_after (at_rest start) old) (disk_after (at_rest start) (until k new)) name
-    (found name)
-stops_by_save names text start old new (inl grew) k found le most left name apart =
-    stops_in_save names text (Ok tt) (site_at start old false 0) (site_at start new false 0) refl
-    (made_saves names text start old new grew) k found le most left name apart
-stops_by_save names text start old new (inr (at, broke)) k found le most left name apart =
-    stops_in_save names text (Err (record { call = at })) (site_at start old false 0)
-    (site_at start new (drafting_after_fault at false) 1) refl
-    (broke_saves names text start at old new broke) k found le most left name apart
-
-saved_by : (names : MapNames) (text : List ℕ) (start : Folder) (old new : List Entry)
-    → new ≡ old ++ map Returned (save_calls names text)
-    → IsSaved names text (disk_after (at_rest start) old) (disk_after (at_rest start) new)
-saved_by names text start old new grew =
-    saved_where_ok names text (Ok tt) (site_at start old false 0) (site_at start new false 0)
-    (made_saves names text start old new grew) refl
-
--- the calls of a save after others
-save_after : (names : MapNames) (text : List ℕ) (before rest : List Entry) → HasSaved names text [] rest
-    → HasSaved names text before (before ++ rest)
-save_after names text before rest (inl made) = inl (ap (λ (r : List Entry). before ++ r) made)
-save_after names text before rest (inr (at, broke)) =
-    let P : List Entry → Type 0 = λ r. BrokeAt at (save_calls names text) r (before ++ rest) in
-    inr (at, subst P (append-nil before) (broke_after at (save_calls names text) before [] rest broke))
 
 module _ (listed other : Status) (c : Command) (line list : List ℕ) (m : Maps) (site : SiteState)
     (front rest calls : List Entry) (grew : calls ≡ front ++ rest) (reads : AreReads front) where

@@ -20,8 +20,9 @@ use Rattle.ddrescuelog_cli.specs.declared.ending.LogEnding.TheVariants.{NoMemory
 use Rattle.ddrescuelog_cli.specs.Modes.{prints, removes_map}
 use Rattle.ddrescuelog_cli.specs.Maps.{Found, Maps, found_in, AreMapsOf, AreAskedFor}
 use Rattle.ddrescuelog_cli.specs.Results.{text_of}
-use Rattle.ddrescuelog_cli.specs.Outside.{Outside, only_calls}
-use Rattle.ddrescuelog_cli.specs.Work.{read_rows, WorksOver, LogWorks, WorksAs}
+use Rattle.ddrescuelog_cli.specs.Outside.{Outside}
+use Rattle.work_rules.specs.Parts.{only_calls}
+use Rattle.ddrescuelog_cli.specs.Work.{log_faults, read_rows, WorksOver, LogWorks, WorksAs}
 use Rattle.ddrescuelog_cli.specs.Answers.{TakesFeed}
 use Rattle.ddrescuelog_cli.specs.After.{FeedLeft, SiteLeft}
 use Rattle.ddrescuelog_cli.specs.Creating.{CreatesMap}
@@ -31,7 +32,7 @@ use Rattle.ddrescuelog_cli.specs.Stops.{OnlyReads, LeavesFiles, LeavesAll}
 use Rattle.ddrescuelog_cli.specs.Steps.{ReadCause, LoadsMaps, IsLoadedAs, HasFound}
 use Rattle.ddrescuelog_cli.specs.Worked.{FeedAfter, Ran}
 use Rattle.ddrescuelog_cli.specs.Ddrescuelog.{LogWorked, handed, log_program}
-use Rattle.ddrescuelog_cli.proofs.RowLemmas.{stopped_more, through_then}
+use Rattle.work_rules.proofs.PartLemmas.{stopped_more, through_then}
 use Rattle.ddrescuelog_cli.proofs.ReadLemmas.{AreReads, files_stand}
 use Rattle.ddrescuelog_cli.proofs.StandLemmas.{leave_all}
 use Rattle.ddrescuelog_cli.proofs.StopsLemmas.{stops_safely, works_read}
@@ -111,8 +112,8 @@ load_stopped c line e old new feed console reads l cause =
         are = m.are;
       };
       work = reading_works c line feed.left l.found m.maps e l.calls reads
-          (stopped_more (Take ∷ read_rows c l.found) [] (WorksOver c line feed.left m.maps) e (only_calls l.calls)
-          l.did);
+          (stopped_more log_faults (Take ∷ read_rows c l.found) [] (WorksOver c line feed.left m.maps) e
+          (only_calls l.calls) l.did);
       out = read_puts e old.faults new.faults (prints c.mode) (text_of c.mode c line m.maps) console cause;
     }
 
@@ -147,7 +148,8 @@ load_ended c line l e old mid new feed console between reads loads stays ends =
         are = loads.did.1;
       };
       work = reading_works c line feed.left loads.found m e (loads.calls ++ d.calls) reads
-          (through_then (Take ∷ read_rows c loads.found) [] (WorksOver c line feed.left m) e loads.calls d.calls
+          (through_then log_faults (Take ∷ read_rows c loads.found) [] (WorksOver c line feed.left m) e loads.calls
+          (only_calls d.calls)
           loads.did.4 (d.ends feed.left));
       out = d.out;
     }
@@ -187,7 +189,8 @@ load_removed c line l e old mid new feed console reads off loads stays removes =
     let r : RemovesDone c m e mid new = removes m loads.did.3 in
     let works : LogWorks c line [] loads.found m e (only_calls (loads.calls ++ r.calls)) =
     reading_works c line [] loads.found m e (loads.calls ++ r.calls) reads
-    (through_then (Take ∷ read_rows c loads.found) [] (WorksOver c line [] m) e loads.calls r.calls loads.did.4
+    (through_then log_faults (Take ∷ read_rows c loads.found) [] (WorksOver c line [] m) e loads.calls
+    (only_calls r.calls) loads.did.4
     (r.ends line [])) in
     load_ended c line l e old mid new feed console console reads loads stays
     (λ n is. record {

@@ -35,7 +35,7 @@ which_text OtherMap = codes "other mapfile"
 abbrev pub map_error_text : Which → MapError → List ℕ
 map_error_text which error = which_text which ++ codes ": " ++ error_text error
 
--- a fault of words that ask for nothing; a place is looked at after the words
+-- a fault of words that ask for nothing; a place is checked after the words
 abbrev pub usage_kind : UsageFault → Kind
 usage_kind (Word fault) = Wrong (Word fault)
 usage_kind (BadValue n) = Wrong (BadValue n)
@@ -67,11 +67,11 @@ row_of NoMemory = starved_row
 abbrev pub status_of_ending : LogEnding → ℕ
 status_of_ending e = (row_of e).status
 
--- nothing is said of an answer, since it is what was asked for
+-- an answer has no message, since it is what was asked for
 abbrev pub is_silent : LogEnding → Bool
 is_silent e = is_silent_kind (row_of e).kind
 
--- what is said of an answer, and the message on standard error
+-- the text on an answer, and the message on standard error
 abbrev pub text_of_ending : LogEnding → List ℕ
 text_of_ending e = (row_of e).text
 
@@ -109,7 +109,7 @@ MayCall DraftPublish c = creates c.mode ≡ true
 MayCall MapSettle c = (creates c.mode ≡ true) ⊎ (removes_map c.mode ≡ true)
 MayCall MapRemove c = removes_map c.mode ≡ true
 
--- words that ask for something are refused for nothing but a place
+-- words that ask for something are refused only for a place
 abbrev pub FitsUsage : UsageFault → Command → Type 0
 FitsUsage (Word fault) c = ⊥
 FitsUsage (BadValue n) c = ⊥

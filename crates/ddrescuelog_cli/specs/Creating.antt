@@ -1,4 +1,4 @@
--- How a map of listed blocks is made: what is looked at before, how its list is taken, and what is saved.
+-- How a map of listed blocks is made: what is checked before, how its list is taken, and what is saved.
 use Rattle.std.specs.Prelude.{◌≡◌, ◌⊎◌, ℕ, ◌<◌, ◌≤◌, Bool, true, false, IsTrue, List, [], ◌∷◌, ◌++◌, length, Option, Some, Result, Ok, Err}
 use Rattle.block_list.specs.declared.status.Status.{Status}
 use Rattle.block_list.specs.Tiled.{Tiled}
@@ -22,7 +22,7 @@ use Rattle.ddrescuelog_cli.specs.declared.ending.LogEnding.TheVariants.{Done, Ex
 use Rattle.ddrescuelog_cli.specs.Maps.{Found, Maps, found_in, AreMapsOf, AreAskedFor, shape_of}
 use Rattle.ddrescuelog_cli.specs.Refusals.{MapIsThere, ListRefused}
 use Rattle.ddrescuelog_cli.specs.Results.{ListEndsAt}
-use Rattle.ddrescuelog_cli.specs.Outside.{only_calls}
+use Rattle.work_rules.specs.Parts.{only_calls}
 use Rattle.ddrescuelog_cli.specs.Work.{log_faults, OnlyAnswers, SaysIfThere, UnlessThere, WorksOver, WorksAs}
 use Rattle.ddrescuelog_cli.specs.Steps.{HasStatuses, ReadCause, statuses_in}
 use Rattle.ddrescuelog_cli.specs.After.{FeedLeft}
@@ -34,14 +34,14 @@ ended_as (Err e) = e
 
 -- ---- what is looked at before
 
--- no file stands in the map's place, or it was forced, and nothing was asked
+-- no file is in the map's place, or it was forced, and nothing was asked
 abbrev pub IsFree : (forced : Bool) → (name : List ℕ) → Option File → List Entry → Type 0
 IsFree true name file calls = calls ≡ []
 IsFree false name file calls =
     (answer : MapRead) × SaysIfThere file answer × (calls ≡ Returned (map_read name 0 piece_size (Some answer)) ∷ [])
     × ((v : LogEnding) → MapIsThere file v → ⊥)
 
--- the question whether a file stands in the map's place, by its outcome
+-- the question whether a file is in the map's place, by its outcome
 abbrev pub DidAsk : {T : Type 0} → (forced : Bool) → (name : List ℕ) → Option File → Result T LogEnding → List Entry
     → Type 0
 DidAsk forced name file (Ok x) calls = IsFree forced name file calls
@@ -57,7 +57,7 @@ pub record AsksIfThere {T : Type 0} (forced : Bool) (name : List ℕ) (result : 
   pub stands : IsTrue old.tells → files_in new ≡ files_in old
   pub did : DidAsk forced name file result calls
 
--- why the work stopped at what is looked at: a file stands there, or a read of a map stopped
+-- why the work stopped at what is checked: a file is there, or a read of a map stopped
 abbrev pub LookCause : LogEnding → (faults faults' : ℕ) → Type 0
 LookCause e faults faults' = ((e ≡ Exists) × (faults' ≡ faults)) ⊎ ReadCause e faults faults'
 
@@ -66,13 +66,13 @@ abbrev pub StoppedEarly : Command → Found → LogEnding → List Entry → Typ
 StoppedEarly c found e calls =
     (line list : List ℕ) (m : Maps) → WorksAs true c line list found m e (only_calls calls)
 
--- it came past these calls: what is done after them over maps is done by the whole work
+-- the work came past these calls: what is done after them over maps is done by the whole work
 abbrev pub CameOver : Command → Found → List Entry → Type 0
 CameOver c found calls =
     (line list : List ℕ) (m : Maps) (e : LogEnding) (later : List Entry) → WorksOver c line list m e (only_calls later)
     → WorksAs true c line list found m e (only_calls (calls ++ later))
 
--- what is looked at, by its outcome: the domain map was read, if one is named, or the work stopped
+-- what is checked, by its outcome: the domain map was read, if one is named, or the work stopped
 abbrev pub DidLook : Command → Found → Result (Option Tiled) LogEnding → List Entry → Type 0
 DidLook c found (Ok tiles) calls =
     HasStatuses c.domain_map (map_mode c.options.loose) found.domain (statuses_in tiles) × CameOver c found calls

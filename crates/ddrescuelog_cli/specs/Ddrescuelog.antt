@@ -37,14 +37,14 @@ pub record LeavesAs (c : Command) (line : List ℕ) (o : Outside) (e : LogEnding
   -- The feed is taken from only to create a map; then, once its numbers are read, nothing of it is left.
   pub takes : TakesFeed (creates c.mode) e old.feed_ new.feed_
   -- At whatever moment the call is stopped, the mapfile that is found is one that could be found before, or the created
-  -- map, whole, or none where it was done and is to be removed; every other file but the draft is found as it could be
+  -- map, whole, or none if it was done and is to be removed. Every other file but the draft is found as it could be
   -- before.
   pub stops : StopsSafely c line o.list o.maps old.site did.gain.calls e
   -- A mode that only reads leaves everything as it was, and so does any other where the work isn't done and no call on
   -- the files failed: the files as they read, and what a stop may find of them.
   pub stands : OnlyReads c.mode ⊎ LeavesFiles e → IsTrue old.site.tells
       → ((name : List ℕ) → files_in new.site name ≡ files_in old.site name) × LeavesAll old.site did.gain.calls
-  -- Always all files read as they did, but for the mapfile and the draft of a map that is created.
+  -- Always all files read as they did, except the mapfile and the draft of a map that is created.
   pub others : IsTrue old.site.tells → (name : List ℕ) → name ≢ c.mapfile
       → (creates c.mode ≡ true → name ≢ (names_of c.mapfile).draft) → files_in new.site name ≡ files_in old.site name
 
@@ -54,7 +54,7 @@ pub record LogKeeps (e : LogEnding) (old new : WorldState) : Type 0 where
   pub feed_ : FeedKeeps old.feed_ new.feed_
   pub draft : new.site.is_drafting ≡ drafting_left e
 
--- It is called with no draft begun. Its work finds the maps and the list outside of it.
+-- The program is called with no draft begun. Its work finds the maps and the list outside of it.
 abbrev pub log_program : Program Command LogEnding Outside
 log_program = record {
   name = program_name;
@@ -76,7 +76,7 @@ log_program = record {
 abbrev pub LogWorked : Command → (words : List (List ℕ)) → LogEnding → (old new : WorldState) → Type 0
 LogWorked c words e old new = Worked log_program c words e old new
 
--- what is done before anything is said
+-- what is done before any message is put
 abbrev pub LogDone : (words : List (List ℕ)) → LogEnding → (quiet : Bool) → (old new : WorldState) → Type 0
 LogDone words e quiet old new = IsDone log_program words e quiet old new
 

@@ -26,7 +26,7 @@ use Rattle.ddrescuelog_cli.specs.Stops.{IsChanging, OnlyReads, Replaces}
 use Rattle.ddrescuelog_cli.specs.Work.{LogWorks, named_rows, read_rows}
 use Rattle.ddrescuelog_cli.specs.Ddrescuelog.{Ddrescuelog, log_program}
 
--- an answer that words, files and a list bring, whatever calls, streams and memory do
+-- an answer that words, files and a list lead to, whatever calls, streams and memory do
 abbrev pub IsVerdict : LogEnding → Type 0
 IsVerdict e = IsVerdictOf log_program e
 
@@ -41,7 +41,7 @@ FilesHaveOneVerdict = (c : Command) (line list : List ℕ) (found : Found) (m m'
     (d d' : Deeds) → AreMapsOf c found m → AreAskedFor c m → AreMapsOf c found m' → AreAskedFor c m'
     → LogWorks c line list found m e d → LogWorks c line list found m' e' d' → IsVerdict e → IsVerdict e' → e ≡ e'
 
--- of an answer that was asked for; of others nothing is said
+-- of an answer that was asked for; other answers may leave anything
 abbrev pub IfAsked : Kind → Type 0 → Type 0
 IfAsked Asked found = found
 IfAsked Brought found = ⊤
@@ -84,8 +84,8 @@ abbrev pub rows_of_maps : (creates_map : Bool) → Command → Found → List (W
 rows_of_maps false c found = read_rows c found
 rows_of_maps true c found = named_rows c found
 
--- Nothing of the work is refused: the maps that are named are there and are maps, each position that is listed has a
--- place in the output, and where a map is to be created none is in its place, or that is forced, and its list is one.
+-- Nothing of the work is refused: the maps that are named are there and are maps, and each position that is listed has
+-- a place in the output. If a map is to be created, none is in its place, or that is forced, and its list is one.
 pub record NothingIsRefused (c : Command) (list : List ℕ) (found : Found) (m : Maps) : Type 0 where
   pub maps : RefuseNothing (rows_of_maps (creates c.mode) c found)
   pub places : (v : LogEnding) → PlacesRefused c m v → ⊥

@@ -62,8 +62,8 @@ mapfile_mode (Test removes) = Tight
 mapfile_mode (Compare finished) = Tight
 mapfile_mode Summarize = Tight
 
--- The maps are what the files are. Where a file isn't there or is no map, nothing is said here: then the words are
--- answered by a refusal.
+-- The maps are what the files are. If a file isn't there or is no map, the maps may be any: then the words are answered
+-- by a refusal.
 pub record AreMapsOf (c : Command) (found : Found) (m : Maps) : Type 0 where
   pub mapfile : (shown : MapState) (statuses : List Status) → creates c.mode ≡ false
       → IsShownBy found.mapfile (mapfile_mode c.mode) shown statuses
@@ -79,7 +79,7 @@ pub record AreAskedFor (c : Command) (m : Maps) : Type 0 where
   pub other : c.other ≡ None → m.other ≡ []
   pub domain : c.domain_map ≡ None → m.domain ≡ None
 
--- where the input position stands in the output
+-- where the input position is in the output
 abbrev pub output_from : LogOptions → ℕ
 output_from o = unwrap_or o.output_position o.input_position
 

@@ -3,7 +3,7 @@ use Rattle.std.specs.Prelude.{Bool, true, false}
 use Rattle.ddrescuelog_words.specs.declared.mode.LogMode.{LogMode}
 use Rattle.ddrescuelog_words.specs.declared.mode.LogMode.TheVariants.{Change, Combine, Complete, ListBlocks, Create, Test, Compare, Summarize}
 
--- it tests whether a map is done
+-- the mode tests whether a map is done
 abbrev pub tests : LogMode → Bool
 tests (Change change) = false
 tests (Combine op) = false
@@ -14,7 +14,7 @@ tests (Test removes) = true
 tests (Compare finished) = false
 tests Summarize = false
 
--- it compares two maps
+-- the mode compares two maps
 abbrev pub compares : LogMode → Bool
 compares (Change change) = false
 compares (Combine op) = false
@@ -25,7 +25,7 @@ compares (Test removes) = false
 compares (Compare finished) = true
 compares Summarize = false
 
--- it prints a text on standard output
+-- the mode prints a text on standard output
 abbrev pub prints : LogMode → Bool
 prints (Change change) = true
 prints (Combine op) = true
@@ -36,7 +36,7 @@ prints (Test removes) = false
 prints (Compare finished) = false
 prints Summarize = true
 
--- it removes a mapfile that is done
+-- the mode removes a mapfile that is done
 abbrev pub removes_map : LogMode → Bool
 removes_map (Change change) = false
 removes_map (Combine op) = false
@@ -47,7 +47,7 @@ removes_map (Test removes) = removes
 removes_map (Compare finished) = false
 removes_map Summarize = false
 
--- it looks at the places of its positions in the output
+-- the mode reads the places of its positions in the output
 abbrev pub looks_at_places : LogMode → Bool
 looks_at_places (Change change) = false
 looks_at_places (Combine op) = false

@@ -1,6 +1,5 @@
 -- What the work of `ddrescuelog` finds outside of it, and how that agrees with what the objects tell.
-use Rattle.std.specs.Prelude.{◌≡◌, ℕ, IsTrue, List, [], ◌++◌}
-use Rattle.crash_site.specs.Calls.{Entry}
+use Rattle.std.specs.Prelude.{◌≡◌, ℕ, IsTrue, List, ◌++◌}
 use Rattle.crash_site.specs.SiteState.{files_in}
 use Rattle.work_rules.specs.Work.{Deeds, IsOnlyCalls}
 use Rattle.program_promise.specs.World.{WorldState}
@@ -14,10 +13,6 @@ pub record Outside : Type 0 where
   pub list : List ℕ
   pub found : Found
   pub maps : Maps
-
--- these calls, and nothing else
-abbrev pub only_calls : List Entry → Deeds
-only_calls calls = record { opens = []; gain = record { calls = calls; reads = []; times = [] } }
 
 -- What an object tells is its own; and the maps are those that the words name, which are what the files are. Nothing is
 -- done but calls on the files.

@@ -5,10 +5,10 @@ use Rattle.crash_site.specs.SiteState.{SiteState}
 use Rattle.ddrescuelog_words.specs.Command.{Command}
 use Rattle.ddrescuelog_cli.specs.declared.ending.LogEnding.{LogEnding}
 use Rattle.ddrescuelog_cli.specs.Maps.{Maps}
-use Rattle.ddrescuelog_cli.specs.Outside.{only_calls}
+use Rattle.work_rules.specs.Parts.{only_calls}
 use Rattle.ddrescuelog_cli.specs.Work.{WorksOver}
 
--- It ends as the work over these maps does, with calls that are the site's own where it tells.
+-- A removal ends as the work over these maps does, with calls that are the site's own where it tells.
 pub record RemovesDone (c : Command) (m : Maps) (e : LogEnding) (old new : SiteState) : Type 0 where
   pub calls : List Entry
   pub gained : IsTrue old.tells → new.calls ≡ old.calls ++ calls

@@ -69,14 +69,15 @@ shown_line shown =
     with_newline (codes "position " ++ decimal shown.pos ++ codes ", status " ++ current_symbol shown.current ∷ []
     ++ codes ", pass " ++ decimal shown.pass)
 
--- `domain 0 B`: how many positions are looked at
+-- `domain 0 B`: how many positions are examined
 abbrev pub domain_line : ℕ → List ℕ
 domain_line n = with_newline (codes "domain " ++ decimal n ++ codes " B")
 
 -- `non-tried 0 B in 0 areas`: how much of them has a status
 abbrev pub count_line : Status → Count → List ℕ
 count_line status k =
-    with_newline (status_name status ++ codes " " ++ decimal k.bytes ++ codes " B in " ++ decimal k.areas ++ codes " areas")
+    with_newline
+    (status_name status ++ codes " " ++ decimal k.bytes ++ codes " B in " ++ decimal k.areas ++ codes " areas")
 
 -- the line of a status, whose count is the k-th of a summary
 abbrev pub counted_line : Status → Summary → (k : ℕ) → List ℕ

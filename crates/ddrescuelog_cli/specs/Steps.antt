@@ -1,5 +1,5 @@
 -- What the steps of `ddrescuelog` did, by what the objects tell.
-use Rattle.std.specs.Prelude.{◌≡◌, ◌≢◌, ◌⊎◌, ℕ, Bool, true, false, IsTrue, List, [], ◌∷◌, ◌++◌, map, Option, Some, None, Result, Ok, Err}
+use Rattle.std.specs.Prelude.{◌≡◌, ◌≢◌, ◌⊎◌, ℕ, Bool, true, false, IsTrue, List, [], ◌∷◌, ◌++◌, Option, Some, None, Result, Ok, Err}
 use Rattle.fault_count.specs.Counts.{Rose}
 use Rattle.block_list.specs.declared.status.Status.{Status}
 use Rattle.block_list.specs.Tiled.{Tiled}
@@ -13,12 +13,11 @@ use Rattle.rescue_console.specs.ConsoleState.{ConsoleState}
 use Rattle.rescue_domain.specs.Parts.{covers}
 use Rattle.crash_site.specs.declared.site.SiteCall.TheVariants.{MapRead}
 use Rattle.crash_site.specs.Files.{File}
-use Rattle.crash_site.specs.Calls.{Call, Entry, Done as Returned}
+use Rattle.crash_site.specs.Calls.{Entry}
 use Rattle.crash_site.specs.SiteState.{SiteState, files_in}
-use Rattle.save_resume.specs.Loading.{IsLoad}
 use Rattle.save_resume.specs.Named.{IsMapOf}
 use Rattle.save_resume.specs.Resuming.{IsReadAs}
-use Rattle.work_rules.specs.Work.{WorkStep, Take, Look, Open, Make, Read, Works}
+use Rattle.work_rules.specs.Work.{Take}
 use Rattle.ddrescuelog_words.specs.Command.{Command}
 use Rattle.ddrescuelog_cli.specs.declared.ending.Which.{Which}
 use Rattle.ddrescuelog_cli.specs.declared.load.LoadedMaps.{LoadedMaps}
@@ -28,29 +27,14 @@ use Rattle.ddrescuelog_cli.specs.Maps.{Found, Maps, file_of, found_in, AreMapsOf
 use Rattle.ddrescuelog_cli.specs.Results.{text_of}
 use Rattle.ddrescuelog_cli.specs.Modes.{prints}
 use Rattle.ddrescuelog_cli.specs.Printing.{PutsAs}
-use Rattle.ddrescuelog_cli.specs.Outside.{only_calls}
+use Rattle.work_rules.specs.Parts.{only_calls, StoppedIn, WentThrough}
 use Rattle.ddrescuelog_cli.specs.Work.{log_faults, map_rows, read_rows, WorksOver}
-
--- the work stopped in one of these rows
-abbrev pub Stopped : List (WorkStep LogEnding) → LogEnding → List Entry → Type 0
-Stopped rows e calls = Works log_faults rows (λ e d. ⊥) e (only_calls calls)
-
--- it went through all of them, with these calls
-abbrev pub Through : List (WorkStep LogEnding) → List Entry → Type 0
-Through [] calls = calls ≡ []
-Through (Take ∷ more) calls = Through more calls
-Through (Look refuses ∷ more) calls = ((v : LogEnding) → refuses v → ⊥) × Through more calls
-Through (Open name ∷ more) calls = ⊥
-Through (Make made ∷ more) calls = (rest : List Entry) × (calls ≡ map Returned made ++ rest) × Through more rest
-Through (Read None file ∷ more) calls = (file ≡ None) × Through more calls
-Through (Read (Some name) file ∷ more) calls =
-    (load : List Call) × (rest : List Entry) × IsLoad name file load × (calls ≡ map Returned load ++ rest)
-    × Through more rest
 
 -- what the read of a map that is named did, by its outcome
 abbrev pub DidRead : Which → Mode → (name : List ℕ) → Option File → Result ReadMap LogEnding → List Entry → Type 0
-DidRead which mode name file (Ok m) calls = IsReadAs file mode m × Through (map_rows which mode (Some name) file) calls
-DidRead which mode name file (Err e) calls = Stopped (map_rows which mode (Some name) file) e calls
+DidRead which mode name file (Ok m) calls =
+    IsReadAs file mode m × WentThrough (map_rows which mode (Some name) file) calls
+DidRead which mode name file (Err e) calls = StoppedIn log_faults (map_rows which mode (Some name) file) e calls
 
 -- There is a file that it read, and calls, which are the site's own where it tells.
 pub record ReadsMap (which : Which) (mode : Mode) (name : List ℕ) (result : Result ReadMap LogEnding)
@@ -72,12 +56,12 @@ HasStatuses None mode file statuses = statuses ≡ None
 HasStatuses (Some name) mode file None = ⊥
 HasStatuses (Some name) mode file (Some statuses) = IsMapOf file mode statuses
 
--- the same of a map that may be named
+-- what the read of a map that may be named did, by its outcome
 abbrev pub DidReadNamed : Which → Mode → Option (List ℕ) → Option File → Result (Option Tiled) LogEnding → List Entry
     → Type 0
 DidReadNamed which mode name file (Ok tiles) calls =
-    HasStatuses name mode file (statuses_in tiles) × Through (map_rows which mode name file) calls
-DidReadNamed which mode name file (Err e) calls = Stopped (map_rows which mode name file) e calls
+    HasStatuses name mode file (statuses_in tiles) × WentThrough (map_rows which mode name file) calls
+DidReadNamed which mode name file (Err e) calls = StoppedIn log_faults (map_rows which mode name file) e calls
 
 -- and again a file and calls
 pub record ReadsNamed (which : Which) (mode : Mode) (name : Option (List ℕ)) (result : Result (Option Tiled) LogEnding)
@@ -90,7 +74,7 @@ pub record ReadsNamed (which : Which) (mode : Mode) (name : Option (List ℕ)) (
 
 -- ---- all maps
 
--- the same, with none where there are no tiles
+-- the statuses of tiles, and none if there are no tiles
 abbrev pub statuses_or_none : Option Tiled → List Status
 statuses_or_none None = []
 statuses_or_none (Some tiles) = tiles.statuses
@@ -114,8 +98,8 @@ pub record IsLoadedAs (c : Command) (m : Maps) (l : LoadedMaps) : Type 0 where
 -- The maps were read to the last and are what the files are, or the work stopped at one of them.
 abbrev pub DidLoad : Command → Found → Result LoadedMaps LogEnding → List Entry → Type 0
 DidLoad c found (Ok l) calls =
-    (m : Maps) × AreMapsOf c found m × AreAskedFor c m × IsLoadedAs c m l × Through (Take ∷ read_rows c found) calls
-DidLoad c found (Err e) calls = Stopped (Take ∷ read_rows c found) e calls
+    (m : Maps) × AreMapsOf c found m × AreAskedFor c m × IsLoadedAs c m l × WentThrough (Take ∷ read_rows c found) calls
+DidLoad c found (Err e) calls = StoppedIn log_faults (Take ∷ read_rows c found) e calls
 
 -- There are files that were read, and calls, which are the site's own where it tells.
 pub record LoadsMaps (c : Command) (result : Result LoadedMaps LogEnding) (old new : SiteState) : Type 0 where
@@ -146,7 +130,7 @@ abbrev pub answer_if : Bool → (otherwise : LogEnding) → LogEnding
 answer_if true otherwise = Done
 answer_if false otherwise = otherwise
 
--- It ends as the work over these maps does, which calls nothing on the files, and its text was put.
+-- A mode ends as the work over these maps does, which calls nothing on the files, and its text was put.
 pub record HasFound (c : Command) (h : HeadingLines) (m : Maps) (e : LogEnding) (old new : ConsoleState) : Type 0 where
   pub ends : (line list : List ℕ) → WorksOver c line list m e (only_calls [])
   pub out : (line : List ℕ) → h ≡ record { program = Ddrescuelog; line = line; start_s = 0; now_s = 0 }

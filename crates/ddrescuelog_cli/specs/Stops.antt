@@ -63,7 +63,7 @@ pub record StopsSafely (c : Command) (line list : List ℕ) (m : Maps) (site : S
   -- and once the call has answered that it is done, only that
   pub kept : (files : List ℕ → Option File) → answer ≡ Done → IsChanging c.mode → LeftAt site calls (length calls) files
       → Replaces c.mode c line list m (files c.mapfile)
-  -- every other file could be found so before, but for the draft of a map that is created
+  -- every other file could be found so before, except the draft of a map that is created
   pub others : (k : ℕ) (files : List ℕ → Option File) (name : List ℕ) → k ≤ length calls → LeftAt site calls k files
       → name ≢ c.mapfile → (creates c.mode ≡ true → name ≢ (names_of c.mapfile).draft)
       → CouldBefore site name (files name)
@@ -77,7 +77,7 @@ pub record LeavesFiles (e : LogEnding) : Type 0 where
   pub short : e ≢ Done
   pub kept : (row_of e).kind ≢ Failed AtCall
 
--- it leaves everything as it could be found before, under every name
+-- the mode leaves everything as it could be found before, under every name
 abbrev pub LeavesAll : SiteState → List Entry → Type 0
 LeavesAll site calls = (k : ℕ) (files : List ℕ → Option File) (name : List ℕ) → k ≤ length calls
     → LeftAt site calls k files → CouldBefore site name (files name)

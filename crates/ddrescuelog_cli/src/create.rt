@@ -17,7 +17,7 @@ ghost use Rattle.ddrescuelog_cli.specs.After.{FeedLeft, SiteLeft};
 ghost use Rattle.ddrescuelog_cli.specs.Creating.{AreOfList, AsksIfThere, CreatesMap, LookCause, Looks, MakesList, SavesText, StopsTaking, TakesAll, TakesFeedPiece, ended_as};
 
 use crate::ending::{LogEnding, Which};
-use crate::load::{mode_of_domain, read_named};
+use crate::load::read_named;
 use crate::out::PIECE;
 use crate::places::shape_of;
 use block_list::plain_tiles::PlainTiles;
@@ -34,6 +34,7 @@ use mapfile_text::state::{Current, MapState};
 use rescue_console::feed::Feed;
 use rescue_domain::domain::Domain;
 use save_resume::draft::{SaveFault, Saved};
+use save_resume::named::mode_of;
 use save_resume::names::Names;
 use save_resume::save::save;
 use std::alloc::Global;
@@ -41,7 +42,7 @@ use std::alloc::Global;
 /// The most bytes that a list may have.
 const LIST_LIMIT: usize = 1 << 28;
 
-/// Goes on only where no file stands under a name, which one read asks, unless that is forced.
+/// Goes on only if no file has a name, which one read asks, unless that is forced.
 fn refuse_existing<D: Site>(site: &mut D, name: &str, forced: bool) -> Result<(), LogEnding>
     ensures asks { AsksIfThere forced name.now result (D.state site.old) (D.state site.new) }
     ensures kept { OnOk result ((D.state site.new).faults ≡ (D.state site.old).faults) }
@@ -61,7 +62,7 @@ fn refuse_existing<D: Site>(site: &mut D, name: &str, forced: bool) -> Result<()
     }
 }
 
-/// Reads the domain map, if one is named, unless a file stands where the map is to be made.
+/// Reads the domain map, if one is named, unless there is a file already where the map is to be made.
 fn look<D: Site>(
     alloc: Global,
     site: &mut D,
@@ -75,7 +76,7 @@ fn look<D: Site>(
 {
     match refuse_existing(site, command.mapfile, command.options.forced) {
         Ok(()) => {
-            let mode = mode_of_domain(command.options.loose);
+            let mode = mode_of(command.options.loose);
             read_named(alloc, site, Which::DomainMap, command.domain_map, mode)
         }
         Err(refusal) => Err(refusal),

@@ -9,7 +9,7 @@ use option_words::fault::UsageFault;
 /// A map that is named.
 #[derive(Clone, Copy, Debug, PartialEq, Eq)]
 pub enum Which {
-    /// The map whose finished positions are looked at and no others.
+    /// The map whose finished positions are examined, and no others.
     DomainMap,
     /// The mapfile itself.
     RunMap,
@@ -22,13 +22,13 @@ pub enum Which {
 pub enum LogEnding {
     /// The mode's work was done: the map is finished, the maps agree, or the text was printed.
     Done,
-    /// A position that is looked at isn't finished.
+    /// A position that is examined isn't finished.
     NotDone,
-    /// The maps differ at a position that is looked at.
+    /// The maps differ at a position that is examined.
     Differ,
     /// The words ask for nothing that can be done.
     Usage(UsageFault),
-    /// A file stands where a map is to be made, and it wasn't forced to be replaced.
+    /// There is a file already where a map is to be made, and no option says to replace it.
     Exists,
     /// A map that is named isn't there.
     NoMap(Which),
@@ -44,7 +44,7 @@ pub enum LogEnding {
     FeedFault,
     /// The text couldn't be printed, or not all of it.
     ConsoleFault,
-    /// Memory wasn't there.
+    /// There wasn't enough memory.
     NoMemory,
 }
 

@@ -1,12 +1,12 @@
 //! What the definitions mean.
 ghost use Rattle.ddrescuelog_cli.specs.Laws.{AnswersAreFound, AnswersFit, CreatedIsRead, FilesHaveOneVerdict, FilesStand, HasOneVerdict, IsFoundUnless, LogKeepsPromises, MapfileIsLeft, MapsAreThere};
 
-/// Work over some maps brings one verdict at most.
+/// Work over some maps has one verdict at most.
 pub fn works_have_one_verdict()
     ensures { HasOneVerdict }
 {}
 
-/// Words, files and a list bring one verdict at most, whatever maps two calls went by.
+/// Words, files and a list have one verdict at most, whatever maps two calls went by.
 pub fn files_have_one_verdict()
     ensures { FilesHaveOneVerdict }
 {}

@@ -1,8 +1,7 @@
-//! Reads the maps that the words name, and says which positions of them are looked at.
+//! Reads the maps that the words name, and says which positions of them are examined.
 ghost use Rattle.std.specs.Prelude.{◌≡◌, false, OnOk, IfOk, IfErr, option_map};
 ghost use Rattle.crash_site.specs.SiteChanges.{Stays};
 ghost use Rattle.save_resume.specs.Resuming.{IsWithinLimits};
-ghost use Rattle.save_resume.specs.Named.{map_mode};
 ghost use Rattle.ddrescuelog_words.specs.Modes.{creates};
 ghost use Rattle.ddrescuelog_words.specs.Command.{told_by};
 ghost use Rattle.ddrescuelog_cli.specs.declared.ending.LogEnding.TheVariants.{NoMemory as OutOfMemory};
@@ -11,7 +10,6 @@ ghost use Rattle.ddrescuelog_cli.specs.Steps.{ReadsMap, ReadsNamed, ReadCause, L
 
 use crate::ending::{LogEnding, Which};
 use block_list::plain_tiles::PlainTiles;
-use block_list::status::Status;
 use block_list::tiles::Tiles;
 use crash_site::site::{Site, SiteCall};
 use ddrescuelog_words::command::Command;
@@ -20,18 +18,8 @@ use mapfile_text::read::{Mode, ReadMap};
 use mapfile_text::state::MapState;
 use rescue_domain::domain::Domain;
 use save_resume::load::{ResumeFault, load_map};
+use save_resume::named::mode_of;
 use std::alloc::Global;
-
-/// How a domain map is read: a loose one may have gaps.
-pub(crate) fn mode_of_domain(loose: bool) -> Mode
-    ensures { result ≡ map_mode loose }
-{
-    if loose {
-        Mode::Loose(Status::NonTried)
-    } else {
-        Mode::Tight
-    }
-}
 
 /// How the mapfile is read: one that is completed may have gaps, which get the status.
 fn mode_of_mapfile(mode: LogMode) -> Mode
@@ -89,18 +77,18 @@ pub(crate) fn read_named<D: Site>(
     }
 }
 
-/// What the maps say, and the positions that are looked at.
+/// What the maps say, and the positions that are examined.
 #[derive(Drop)]
 pub(crate) struct LoadedMaps {
     /// What the mapfile shows.
     pub state: MapState,
     pub tiles: PlainTiles,
-    /// It has no position where no other map is named.
+    /// The other map. It has no position if none is named.
     pub other: PlainTiles,
     pub domain: Domain,
 }
 
-/// What maps say that were read, and the positions that are looked at: they end with the longer map.
+/// What maps say that were read, and the positions that are examined: they end with the longer map.
 fn make_loaded(
     alloc: Global,
     command: &Command,
@@ -144,7 +132,7 @@ pub(crate) fn load_maps<D: Site>(
     let mode = mode_of_mapfile(command.mode);
     let map = read_map(alloc, site, Which::RunMap, command.mapfile, mode)?;
     let other = read_named(alloc, site, Which::OtherMap, command.other, Mode::Tight)?;
-    let mode = mode_of_domain(command.options.loose);
+    let mode = mode_of(command.options.loose);
     let domain_map = read_named(alloc, site, Which::DomainMap, command.domain_map, mode)?;
     make_loaded(alloc, command, map, other, &domain_map)
 }

@@ -125,12 +125,13 @@ fn work<D: Site, I: Feed, P: Console>(
 }
 
 /// Reads, compares, prints, makes or removes mapfiles: `[options] mapfile`, with one mode among the options, which are
-/// those of `ddrescuelog_words::options`. Unless the answer is what was asked, one message says why, on the console's second
-/// channel.
+/// those of `ddrescuelog_words::options`. Unless the answer is what was asked, one message says why, on the console's
+/// second channel.
 ///
-/// The refusals come in this order: words that ask for nothing; the mapfile, which is absent or no map, or, where one
-/// is to be made, there already; the other map; the domain map; a position without a place in the output; the list. At
-/// any time a call on the files may fail, and memory may run out; the list may fail to be read, and a text to be put.
+/// The refusals come in this order: words that ask for nothing; the mapfile; the other map; the domain map; a position
+/// without a place in the output; the list. The mapfile is refused if it is absent or no map, or, if one is to be made,
+/// if it is there already. At any time a call on the files may fail, and memory may run out; the list may fail to be
+/// read, and a text to be put.
 pub fn ddrescuelog<D: Site, I: Feed, P: Console>(
     alloc: Global,
     words: &Words,

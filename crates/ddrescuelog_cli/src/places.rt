@@ -1,11 +1,11 @@
-//! Where positions stand in the output, and in which blocks.
+//! Where positions are in the output, and in which blocks.
 ghost use Rattle.std.specs.Prelude.{◌≡◌};
 ghost use Rattle.ddrescuelog_cli.specs.Maps.{output_from, shape_of};
 
 use ddrescuelog_words::options::LogOptions;
 use map_algebra::shape::Shape;
 
-/// Where what is looked at begins in the output.
+/// Where what is examined begins in the output.
 pub(crate) fn output_from(options: &LogOptions) -> u64
     ensures { result ≡ output_from options.now }
 {

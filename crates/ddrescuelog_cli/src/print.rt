@@ -1,41 +1,16 @@
 //! Prints maps on standard output, under a heading.
 ghost use Rattle.std.specs.Prelude.{◌≡◌, ◌⊎◌, true, OnOk, OnErr, IfOk};
-ghost use Rattle.rescue_console.specs.declared.console.Channel.TheVariants.{Out};
-ghost use Rattle.rescue_console.specs.ConsoleState.{Puts, PutsPart};
 ghost use Rattle.mapfile_text.specs.Printed.{printed};
 ghost use Rattle.ddrescuelog_cli.specs.Printing.{PutsAs};
 
 use crate::ending::LogEnding;
 use crate::out::printed;
-use arrayvec::ArrayVec;
 use block_list::plain_tiles::PlainTiles;
-use block_list::tiles::{NoMemory, Tiles};
+use block_list::tiles::NoMemory;
+use map_printing::put_map;
 use mapfile_text::heading::Heading;
-use mapfile_text::printer::MapPrinter;
 use mapfile_text::state::MapState;
-use rescue_console::console::{Channel, Console, ConsoleFault};
-
-/// Puts a map, piece by piece.
-pub(crate) fn put_map<T: Tiles, P: Console>(
-    console: &mut P,
-    heading: &Heading,
-    state: MapState,
-    tiles: &T,
-) -> Result<(), ConsoleFault>
-    ensures put { OnOk result (Puts Out (printed heading.now state (T.statuses tiles.now))
-        (P.state console.old) (P.state console.new)) }
-    ensures fault { OnErr result (PutsPart Out (printed heading.now state (T.statuses tiles.now))
-        (P.state console.old) (P.state console.new)) }
-{
-    let mut printer = MapPrinter::begin();
-    let mut piece = ArrayVec::new();
-    'pieces: while printer.next(state, heading, tiles, &mut piece) {
-        let Ok(()) = console.put(Channel::Out, piece.as_slice()) else {
-            return Err(ConsoleFault);
-        };
-    }
-    Ok(())
-}
+use rescue_console::console::Console;
 
 /// Puts a map that was made, under a heading.
 pub(crate) fn print_map<P: Console>(

@@ -15,7 +15,7 @@ use ddrescuelog_words::command::Command;
 use ddrescuelog_words::mode::LogMode;
 use map_algebra::compare::is_done;
 
-/// Removes the mapfile and settles that, if each position that is looked at is finished.
+/// Removes the mapfile and settles that, if each position that is examined is finished.
 pub(crate) fn remove_done<D: Site>(
     command: &Command,
     loaded: &LoadedMaps,

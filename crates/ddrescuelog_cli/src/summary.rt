@@ -1,4 +1,4 @@
-//! The text of a summary: what the mapfile shows, the size of what is looked at, and a line for each status.
+//! The text of a summary: what the mapfile shows, the size of what is examined, and a line for each status.
 ghost use Rattle.std.specs.Prelude.{◌≡◌, ◌+◌, ◌≤◌, ◌++◌, []};
 ghost use Rattle.arrayvec.specs.ArrayVec.{array_vec_len};
 ghost use Rattle.ddrescuelog_cli.specs.Results.{status_name, count_line, domain_line, shown_line, summary_text};
@@ -34,7 +34,7 @@ fn make_shown_line(state: MapState) -> Message
     line
 }
 
-/// The line on how much is looked at.
+/// The line on how much is examined.
 fn make_domain_line(size: u64) -> Message
     ensures { result.items ≡ domain_line size }
 {

@@ -19,7 +19,7 @@ use Rattle.option_values.proofs.QuietLemmas.{or_false, or_true}
 use Rattle.map_algebra.specs.declared.combine.Op.TheVariants.{And, Or, Xor}
 use Rattle.map_algebra.specs.Change.{change_of}
 use Rattle.ddrescuelog_words.specs.declared.mode.LogMode.{LogMode}
-use Rattle.ddrescuelog_words.specs.declared.mode.LogMode.TheVariants.{Change, Combine, Complete, ListBlocks, Create, Test, Compare, Summarize}
+use Rattle.ddrescuelog_words.specs.declared.mode.LogMode.TheVariants.{Change, Combine, Complete, ListBlocks, Create, Compare}
 use Rattle.ddrescuelog_words.specs.declared.options.LogOptions.{LogOptions}
 use Rattle.ddrescuelog_words.specs.Modes.{created_by, one_type, other_letter, two_types, with_map}
 use Rattle.ddrescuelog_words.specs.Options.{as_mode, block_letter, mode_letters, no_options, option_meanings, option_rows, options_in, quiet_letter}
@@ -86,17 +86,12 @@ none_counted items (c ∷ cs) h =
 
 -- the letter that names another map is that of a mode
 other_at : (m : LogMode) (l : ℕ) → other_letter m ≡ Some l → (k : ℕ) × (slice_get mode_letters k ≡ Some l)
-other_at (Change change) l e = absurd (cc)
 other_at (Combine And) l e = (11, e)
 other_at (Combine Or) l e = (12, e)
 other_at (Combine Xor) l e = (10, e)
-other_at (Complete status) l e = absurd (cc)
-other_at (ListBlocks types) l e = absurd (cc)
-other_at (Create listed rest) l e = absurd (cc)
-other_at (Test removes) l e = absurd (cc)
 other_at (Compare true) l e = (8, e)
 other_at (Compare false) l e = (7, e)
-other_at Summarize l e = absurd (cc)
+other_at _ l e = absurd (cc)
 
 other_not_given : (items : List Item) (m : LogMode) (l : ℕ) → none_given items mode_letters ≡ true
     → other_letter m ≡ Some l → is_given option_meanings l items ≡ false

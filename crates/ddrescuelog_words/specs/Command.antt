@@ -24,7 +24,7 @@ pub record Command : Type 0 where
   pub domain_map : Option (List ℕ)
   pub options : LogOptions
 
--- the same of what the code hands on
+-- the command that the code hands on
 abbrev pub told_by : CommandCode → Command
 told_by c = record {
   mapfile = c.mapfile.now;
@@ -57,7 +57,7 @@ with_operand words items o m (n ∷ []) =
     })
 with_operand words items o m (n ∷ k ∷ more) = Err (Operands (length (n ∷ k ∷ more)))
 
--- one mode, by its last value; another number is refused, in front of another number of operands
+-- one mode, by its last value; another number is refused, before another number of operands
 abbrev pub with_mode : List (List ℕ) → List Item → LogOptions → Option LogMode → (operands : List ℕ)
     → Result Command UsageFault
 with_mode words items o None operands = Err (Modes (modes_given items))
@@ -76,7 +76,7 @@ size_word items = size_word_by (last_of option_meanings size_letter items)
 abbrev pub is_too_long : Command → Bool
 is_too_long c = creates c.mode && ends_beyond c.options c.options.size
 
--- unless a map to be created is too long, which is looked at after all else
+-- unless a map to be created is too long, which is checked after all else
 abbrev pub unless_too_long : (size_word : ℕ) → Result Command UsageFault → Result Command UsageFault
 unless_too_long n (Err fault) = Err fault
 unless_too_long n (Ok c) = if is_too_long c then Err (BadValue n) else Ok c
@@ -93,7 +93,7 @@ command_by words items (Ok o) operands =
 abbrev pub command_in : List (List ℕ) → List Item → (operands : List ℕ) → Result Command UsageFault
 command_in words items operands = command_by words items (options_in words items) operands
 
--- the same of a reading that the code has
+-- what a reading that the code has asks for, or its first fault
 abbrev pub command_read : List (List ℕ) → WordReading → Result Command UsageFault
 command_read words r = command_in words r.items.items r.operands.items
 
@@ -109,11 +109,11 @@ AreOptions rows = AreOptionsOf log_grammar rows
 abbrev pub Asks : List (List ℕ) → Command → Type 0
 Asks words c = AskFor log_grammar words c
 
--- they are refused for this fault
+-- the words are refused for this fault
 abbrev pub AreRefused : List (List ℕ) → UsageFault → Type 0
 AreRefused words fault = AreRefusedBy log_grammar words fault
 
--- they can be read, and ask that nothing be said
+-- the words can be read, and ask for no message
 abbrev pub AskQuiet : List (List ℕ) → Type 0
 AskQuiet words = AskSilence log_grammar words
 

@@ -17,7 +17,7 @@ combining_letter And = 121
 combining_letter Or = 122
 combining_letter Xor = 120
 
--- that of a comparison, of what is finished alone or of all
+-- the letter of the option of a comparison, of what is finished alone or of all
 abbrev pub comparing_letter : (finished : Bool) → ℕ
 comparing_letter true = 80
 comparing_letter false = 112
@@ -61,7 +61,7 @@ one_type (Some (c ∷ d ∷ more)) = None
 abbrev pub created_by : Option Status → Option Status → Option LogMode
 created_by listed rest = option_and_then (λ l. option_map (λ r. Create l r) rest) listed
 
--- the same by two types; finished and bad-sector where no value is given
+-- a map to be created, by two types; finished and bad-sector if no value is given
 abbrev pub two_types : Option (List ℕ) → Option LogMode
 two_types None = Some (Create Finished BadSector)
 two_types (Some []) = None

@@ -25,7 +25,7 @@ abbrev pub valued : (letter : ℕ) → List ℕ → (ℕ → LogOptions → Opti
     → OptionRow LogOptions
 valued letter name sets = record { letter = Some letter; name = name; takes = Always; sets = sets }
 
--- what is done, if a value says it; of several the last is kept, and that there is one is looked at after all values
+-- what is done, if a value says it; of several the last is kept, and that there is one is checked after all values
 abbrev pub as_mode : LogOptions → Option LogMode → Option LogOptions
 as_mode o m = option_map (λ mode. record o { mode = Some mode }) m
 
@@ -34,9 +34,9 @@ abbrev pub mode : (letter : ℕ) → List ℕ → Takes → (Option (List ℕ) �
 mode letter name takes read =
     record { letter = Some letter; name = name; takes = takes; sets = λ block o value. as_mode o (read value) }
 
--- The letters of options that are looked at by themselves. The size of a block (`-b`) is set before all others, `-m`
--- names the map of the positions that are looked at, `-q` asks that no message be put, and `-s` is looked at again
--- after all others if a map is to be made.
+-- The letters of options that are read by themselves. The size of a block (`-b`) is set before all others, `-m` names
+-- the map of the positions that are examined, and `-q` asks for no message. `-s` is checked again after all others if a
+-- map is to be made.
 abbrev pub block_letter : ℕ
 block_letter = 98
 

@@ -26,7 +26,7 @@ pub struct Command<'a> {
     pub mode: LogMode,
     /// The map that the mode works on too, if it does.
     pub other: Option<&'a str>,
-    /// The map whose finished positions are looked at and no others, if it is named.
+    /// The map whose finished positions are examined, and no others, if it is named.
     pub domain_map: Option<&'a str>,
     pub options: LogOptions,
 }
@@ -167,8 +167,8 @@ fn command_of<'a>(
 }
 
 /// Reads the words of a command line: `[options] mapfile`. The words themselves come first, then the values of the
-/// options in the order of the words, those of `-b` before all others, then the number of modes, then that of operands
-/// and whether one is empty, then the end of a map to be made.
+/// options in the order of the words, those of `-b` before all others. Then come the number of modes, that of operands
+/// and whether one is empty, and the end of a map to be made.
 pub fn read_command(alloc: Global, words: &Words) -> Result<Command<'_>, CommandError>
     ensures asked { IfOk result (λ c. IsAsked words.now (told_by c)) }
     ensures refused { IfErr result (λ e. IsErrorOf words.now e) }

@@ -22,13 +22,13 @@ const END_LIMIT: u64 = 1 << 63;
 /// The letter of the option that gives the size of a block.
 pub(crate) const BLOCK_SIZE: char = 'b';
 
-/// The letter of the one that names the map of the positions that are looked at.
+/// The letter of the one that names the map of the positions that are examined.
 pub(crate) const DOMAIN_MAPFILE: char = 'm';
 
 /// The letter of the one that asks that nothing be said.
 pub(crate) const QUIET: char = 'q';
 
-/// The letter of the one that says how many bytes are looked at.
+/// The letter of the one that says how many bytes are examined.
 pub(crate) const SIZE: char = 's';
 
 /// The letter of the one that has no effect.
@@ -158,15 +158,15 @@ pub static ROWS: [Row; 22] = [
 pub struct LogOptions {
     /// The size of a block in bytes; 512 if it isn't given.
     pub block: u64,
-    /// Where what is looked at begins in the map, in bytes; 0 if it isn't given.
+    /// Where what is examined begins in the map, in bytes; 0 if it isn't given.
     pub input_position: u64,
-    /// Where it stands in the output, in bytes; as in the map if it isn't given.
+    /// Where what is examined begins in the output, in bytes; as in the map if it isn't given.
     pub output_position: Option<u64>,
-    /// How many bytes are looked at, at most; no limit if it isn't given.
+    /// How many bytes are examined, at most; no limit if it isn't given.
     pub size: Option<u64>,
     /// What is done: the last of what the options say. None if none says it.
     pub mode: Option<LogMode>,
-    /// The map of the positions that are looked at may have gaps; by default it may not.
+    /// The map of the positions that are examined may have gaps; by default it may not.
     pub loose: bool,
     /// A mapfile to be made may replace a file; by default it may not. No other mode has a use for it.
     pub forced: bool,
@@ -191,7 +191,7 @@ impl LogOptions {
         }
     }
 
-    /// Whether the end of what is looked at is too large, where the size gives one.
+    /// Whether the end of what is examined is too large, if the size gives one.
     pub(crate) fn ends_beyond(&self) -> bool
         ensures { result ≡ ends_beyond self.now self.now.size }
     {

@@ -5,7 +5,7 @@ use Rattle.fault_count.specs.Counts.{raised}
 use Rattle.mapfile_text.specs.HeadingLines.{HeadingLines}
 use Rattle.mapfile_text.specs.declared.heading.Program.TheVariants.{Ddrescuelog}
 use Rattle.mapfile_text.specs.Printed.{printed}
-use Rattle.faulty_source.specs.Journal.{Reading}
+use Rattle.faulty_source.specs.Journal.{Reading, IsFrom}
 use Rattle.faulty_source.specs.SourceState.{SourceState}
 use Rattle.faulty_source.specs.SourceChanges.{AnswersOpen, PlansOpen, Stays}
 use Rattle.faulty_source.proofs.Keeping.{keeps_more, keeps_self}
@@ -20,7 +20,7 @@ use Rattle.partition_domain.specs.declared.table.Partition.{Partition}
 use Rattle.partition_domain.specs.declared.stop.SearchStop.{SearchStop}
 use Rattle.partition_domain.specs.declared.stop.SearchStop.TheVariants.{SourceLost as SearchLost, Refused as SearchRefused}
 use Rattle.partition_domain.specs.DomainMap.{domain_map, shown_state}
-use Rattle.partition_domain.specs.Reads.{AreNext, HasPart, IsFrom, losses_after, records_of}
+use Rattle.partition_domain.specs.Reads.{AreNext, HasPart, losses_after, records_of}
 use Rattle.partition_domain.specs.Steps.{Searched}
 use Rattle.partition_domain.proofs.ReadLemmas.{few_reads}
 use Rattle.ddrescuepart_words.specs.Command.{Command}

@@ -12,7 +12,7 @@ use Rattle.ddrescuepart_cli.specs.declared.ending.PartEnding.{PartEnding}
 use Rattle.ddrescuepart_cli.specs.declared.ending.PartEnding.TheVariants.{Done, Usage, SourceFault, SourceLost, Refused, ConsoleFault, NoMemory}
 use Rattle.ddrescuepart_cli.specs.Names.{program_name}
 
--- the exit status of a refusal, and what is said of it
+-- the exit status of a refusal, and the text on it
 abbrev pub said_of : Refusal → ℕ × List ℕ
 said_of (Unread sector) = (2, numbered_text (codes "sector ") sector (codes ": unread"))
 said_of (NoSignature sector) = (2, numbered_text (codes "sector ") sector (codes ": no signature"))
@@ -38,11 +38,11 @@ ending_of (SearchRefused refusal) = Refused refusal
 abbrev pub status_of_ending : PartEnding → ℕ
 status_of_ending e = (row_of e).status
 
--- nothing is said of an answer, since it is what was asked for
+-- an answer has no message, since it is what was asked for
 abbrev pub is_silent : PartEnding → Bool
 is_silent e = is_silent_kind (row_of e).kind
 
--- what is said of an answer, and the message on standard error
+-- the text on an answer, and the message on standard error
 abbrev pub text_of_ending : PartEnding → List ℕ
 text_of_ending e = (row_of e).text
 

@@ -20,8 +20,8 @@ abbrev pub handed : SourceState → ConsoleState → WorldState
 handed source console =
     record { source = source; site = no_site; clock = no_clock; feed_ = no_feed; console = console }
 
--- Its work finds the input's length outside of it. It leaves the text of the partition's map on standard output, or
--- if the put failed a beginning of that, and after every refusal nothing.
+-- The program's work finds the input's length outside of it. It leaves the text of the partition's map on standard
+-- output, or if the put failed a beginning of that, and after every refusal nothing.
 abbrev pub part_program : Program Command PartEnding ℕ
 part_program = record {
   name = program_name;
@@ -44,7 +44,7 @@ part_program = record {
 abbrev pub PartWorked : Command → (words : List (List ℕ)) → PartEnding → (old new : WorldState) → Type 0
 PartWorked c words e old new = Worked part_program c words e old new
 
--- what is done before anything is said
+-- what is done before any message is put
 abbrev pub PartDone : (words : List (List ℕ)) → PartEnding → (quiet : Bool) → (old new : WorldState) → Type 0
 PartDone words e quiet old new = IsDone part_program words e quiet old new
 

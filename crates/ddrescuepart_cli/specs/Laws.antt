@@ -12,17 +12,17 @@ use Rattle.ddrescuepart_cli.specs.declared.ending.PartEnding.TheVariants.{NoMemo
 use Rattle.ddrescuepart_cli.specs.Work.{AnswersBy, PartWorks}
 use Rattle.ddrescuepart_cli.specs.Ddrescuepart.{Ddrescuepart, part_program}
 
--- an answer that records bring, whatever opens, losses, puts and memory do
+-- an answer that records lead to, whatever opens, losses, puts and memory do
 abbrev pub IsVerdict : PartEnding → Type 0
 IsVerdict e = IsVerdictOf part_program e
 
--- A disk brings one such answer at most.
+-- A disk leads to one such answer at most.
 abbrev pub HasOneVerdict : Type 0
 HasOneVerdict = (c : Command) (disk : ℕ → List ℕ) (e e' : PartEnding) (d d' : Deeds) → PartWorks c e d
     → PartWorks c e' d' → AreGivenBy disk d.gain.reads → AreGivenBy disk d'.gain.reads → IsVerdict e → IsVerdict e'
     → e ≡ e'
 
--- If the words ask for something, nothing failed and memory doesn't run out, the answer is what the records bring.
+-- If the words ask for something, nothing failed and memory doesn't run out, the answer is what the records lead to.
 abbrev pub IsBroughtUnless : Type 0
 IsBroughtUnless = (t : Told PartEnding) (c : Command) (d : Ddrescuepart t) (asks : Asks t.words c) → NothingFailed t
     → t.answer ≢ NoMemory

@@ -2,11 +2,12 @@
 use Rattle.std.specs.Prelude.{◌≡◌, ℕ, ◌≤◌, IsTrue, true, List, [], ◌∷◌, ◌++◌, length, All, is_some, Option, Some, None}
 use Rattle.faulty_source.specs.SourceState.{SourceState}
 use Rattle.work_rules.specs.Work.{Deeds, Faults, WorkStep, Take, Open, Works}
-use Rattle.program_promise.specs.Opens.{AreOpens}
+use Rattle.work_rules.specs.Opens.{AreOpens}
 use Rattle.partition_domain.specs.declared.table.Partition.{Partition}
 use Rattle.partition_domain.specs.Part.{next, partition_of}
 use Rattle.partition_domain.specs.DomainMap.{domain_text}
-use Rattle.partition_domain.specs.Reads.{AreNext, HasPart, IsFrom, RefusedBy, records_of}
+use Rattle.partition_domain.specs.Reads.{AreNext, HasPart, RefusedBy, records_of}
+use Rattle.faulty_source.specs.Journal.{IsFrom}
 use Rattle.ddrescuepart_words.specs.Command.{Command}
 use Rattle.ddrescuepart_cli.specs.declared.ending.PartEnding.{PartEnding}
 use Rattle.ddrescuepart_cli.specs.declared.ending.PartEnding.TheVariants.{Done, Usage, SourceFault, SourceLost, Refused, ConsoleFault, NoMemory}

@@ -20,7 +20,7 @@ pub enum PartEnding {
     Refused(Refusal),
     /// The map couldn't be printed, or not all of it.
     ConsoleFault,
-    /// Memory wasn't there.
+    /// There wasn't enough memory.
     NoMemory,
 }
 

@@ -1,12 +1,12 @@
 //! What the definitions mean.
 ghost use Rattle.ddrescuepart_cli.specs.Laws.{HasOneVerdict, IsBroughtUnless, PartKeepsPromises};
 
-/// What a disk gives at each place brings one verdict at most.
+/// What a disk gives at each place leads to one verdict at most.
 pub fn disks_have_one_verdict()
     ensures { HasOneVerdict }
 {}
 
-/// Nothing else is answered than what the records bring, a refusal of words, a failure or want of memory.
+/// Each answer is the one that the records lead to, a refusal of words, a failure or want of memory.
 pub fn nothing_else_is_answered()
     ensures { IsBroughtUnless }
 {}

@@ -1,4 +1,4 @@
-//! What is said of an answer on standard error.
+//! The message on an answer, on standard error.
 ghost use Rattle.std.specs.Prelude.{◌≡◌, ◌≤◌, ◌++◌};
 ghost use Rattle.arrayvec.specs.ArrayVec.{array_vec_len};
 ghost use Rattle.ddrescuepart_cli.specs.Answers.{is_silent, message, said_of, text_of_ending};
@@ -12,7 +12,7 @@ use program_promise::answer::Answer;
 /// The program's name, which begins its command line and its messages.
 pub(crate) const PROGRAM: &str = "ddrescuepart";
 
-/// Adds what is said of a refusal.
+/// Adds the message on a refusal.
 fn add_refusal(message: &mut Message, refusal: Refusal)
     requires { array_vec_len message.old ≤ 20 }
     ensures text { message.new.items ≡ message.old.items ++ (said_of refusal).1 }
@@ -31,7 +31,7 @@ fn add_refusal(message: &mut Message, refusal: Refusal)
     }
 }
 
-/// Adds what is said of an answer.
+/// Adds the message on an answer.
 fn add_ending(message: &mut Message, ending: PartEnding)
     requires { array_vec_len message.old ≤ 20 }
     ensures text { message.new.items ≡ message.old.items ++ text_of_ending ending }

@@ -87,9 +87,10 @@ fn work<S: Source, P: Console>(
 /// records in the first extended partition. Unless the map was printed, one message says why, on the console's second
 /// channel.
 ///
-/// The refusals come in this order: words that ask for nothing; and then, record by record, one that isn't read whole,
-/// has no signature or, the first alone, is protective; a partition that isn't there; a chain that is too long. Memory
-/// is taken before the input is opened. The input may fail to be opened, or be lost, and the map to be put.
+/// The refusals come in this order: words that ask for nothing; records, one by one; a partition that isn't there; a
+/// chain that is too long. A record is refused if it isn't read whole, has no signature or, the first alone, is
+/// protective. Memory is taken before the input is opened. The input may fail to be opened, or be lost, and the map to
+/// be put.
 pub fn ddrescuepart<S: Source, P: Console>(
     alloc: Global,
     words: &Words,

@@ -21,7 +21,8 @@ abbrev pub row_of : PlanEnding → AnswerRow
 row_of Done = asked_row 0
 row_of (Usage fault) = wrong_row fault
 row_of NoMap = brought_row 1 (codes "test mapfile does not exist")
-row_of (MapRefused error) = only_where (brought_row 2 (codes "test mapfile: " ++ error_text error)) (error ≢ OutOfMemory)
+row_of (MapRefused error) =
+    only_where (brought_row 2 (codes "test mapfile: " ++ error_text error)) (error ≢ OutOfMemory)
 row_of (SiteFault call) = only_where (failed_row AtCall (fault_text call)) (call ≡ MapRead)
 row_of ConsoleFault = failed_row AtPut (codes "cannot write standard output")
 row_of NoMemory = starved_row
@@ -43,11 +44,11 @@ ending_of (Lost Console) = ConsoleFault
 abbrev pub status_of_ending : PlanEnding → ℕ
 status_of_ending e = (row_of e).status
 
--- nothing is said of an answer, since it is what was asked for
+-- an answer has no message, since it is what was asked for
 abbrev pub is_silent : PlanEnding → Bool
 is_silent e = is_silent_kind (row_of e).kind
 
--- what is said of an answer, and the message on standard error
+-- the text on an answer, and the message on standard error
 abbrev pub text_of_ending : PlanEnding → List ℕ
 text_of_ending e = (row_of e).text
 

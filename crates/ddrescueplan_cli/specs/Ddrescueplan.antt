@@ -20,7 +20,7 @@ abbrev pub handed : SiteState → ConsoleState → WorldState
 handed site console =
     record { source = no_source; site = site; clock = no_clock; feed_ = no_feed; console = console }
 
--- Its work finds the test map's file outside of it, and leaves the plan on standard output.
+-- The program's work finds the test map's file outside of it, and leaves the plan on standard output.
 abbrev pub plan_program : Program Command PlanEnding (Option File)
 plan_program = record {
   name = program_name;
@@ -42,7 +42,7 @@ plan_program = record {
 abbrev pub PlanWorked : Command → (words : List (List ℕ)) → PlanEnding → (old new : WorldState) → Type 0
 PlanWorked c words e old new = Worked plan_program c words e old new
 
--- what is done before anything is said
+-- what is done before any message is put
 abbrev pub PlanDone : (words : List (List ℕ)) → PlanEnding → (quiet : Bool) → (old new : WorldState) → Type 0
 PlanDone words e quiet old new = IsDone plan_program words e quiet old new
 

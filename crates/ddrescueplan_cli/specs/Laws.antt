@@ -9,11 +9,11 @@ use Rattle.ddrescueplan_cli.specs.declared.ending.PlanEnding.{PlanEnding}
 use Rattle.ddrescueplan_cli.specs.Work.{PlanWorks}
 use Rattle.ddrescueplan_cli.specs.Ddrescueplan.{plan_program}
 
--- an answer that the test map brings, whatever reads, puts and memory do
+-- an answer that the test map leads to, whatever reads, puts and memory do
 abbrev pub IsVerdict : PlanEnding → Type 0
 IsVerdict e = IsVerdictOf plan_program e
 
--- A test map's file brings one such answer at most.
+-- A test map's file leads to one such answer at most.
 abbrev pub HasOneVerdict : Type 0
 HasOneVerdict = (c : Command) (file : Option File) (e e' : PlanEnding) (d d' : Deeds) → PlanWorks c file e d
     → PlanWorks c file e' d' → IsVerdict e → IsVerdict e' → e ≡ e'

@@ -24,7 +24,7 @@ pub enum PlanEnding {
     SiteFault { call: SiteCall },
     /// The plan couldn't be put, or not all of it.
     ConsoleFault,
-    /// Memory wasn't there. The plan was put up to there.
+    /// There wasn't enough memory. The plan was put up to the read that it ran out at.
     NoMemory,
 }
 

@@ -1,7 +1,7 @@
 //! What the definitions mean.
 ghost use Rattle.ddrescueplan_cli.specs.Laws.{HasOneVerdict, IsPutUnless, PlanKeepsPromises};
 
-/// A test map brings one verdict at most.
+/// A test map has one verdict at most.
 pub fn test_maps_have_one_verdict()
     ensures { HasOneVerdict }
 {}

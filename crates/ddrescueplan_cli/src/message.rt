@@ -1,4 +1,4 @@
-//! What is said of an answer on standard error.
+//! The message on an answer, on standard error.
 ghost use Rattle.std.specs.Prelude.{◌≡◌, ◌≤◌, ◌++◌};
 ghost use Rattle.arrayvec.specs.ArrayVec.{array_vec_len};
 ghost use Rattle.ddrescueplan_cli.specs.Answers.{is_silent, message, text_of_ending};
@@ -11,7 +11,7 @@ use program_promise::answer::Answer;
 /// The program's name, which begins its messages.
 const PROGRAM: &str = "ddrescueplan";
 
-/// Adds what is said of an answer.
+/// Adds the message on an answer.
 fn add_ending(message: &mut Message, ending: PlanEnding)
     requires { array_vec_len message.old ≤ 20 }
     ensures text { message.new.items ≡ message.old.items ++ text_of_ending ending }

@@ -21,7 +21,7 @@ pub record Command : Type 0 where
   pub test_map : List ℕ
   pub options : PlanOptions
 
--- the same of what the code hands on
+-- the command that the code hands on
 abbrev pub told_by : CommandCode → Command
 told_by c = record { length = c.length; test_map = c.test_map.now; options = c.options }
 
@@ -33,7 +33,7 @@ length_limit = 1099511627776
 abbrev pub length_by : (sector : ℕ) → List ℕ → Option ℕ
 length_by sector text = option_and_then (within_range 0 length_limit) (size_by sector (Some text))
 
--- the word of a length is looked at first, then that of a name, which isn't empty
+-- the word of a length is checked first, then that of a name, which isn't empty
 abbrev pub with_length : Option ℕ → (n m : ℕ) → (name : List ℕ) → PlanOptions → Result Command UsageFault
 with_length None n m name o = Err (BadValue n)
 with_length (Some bytes) n m name o =
@@ -61,7 +61,7 @@ command_by words items (Ok o) operands =
 abbrev pub command_in : List (List ℕ) → List Item → (operands : List ℕ) → Result Command UsageFault
 command_in words items operands = command_by words items (options_in words items) operands
 
--- the same of a reading that the code has
+-- what a reading that the code has asks for, or its first fault
 abbrev pub command_read : List (List ℕ) → WordReading → Result Command UsageFault
 command_read words r = command_in words r.items.items r.operands.items
 
@@ -77,15 +77,15 @@ AreOptions rows = AreOptionsOf plan_grammar rows
 abbrev pub Asks : List (List ℕ) → Command → Type 0
 Asks words c = AskFor plan_grammar words c
 
--- they are refused for this fault
+-- the words are refused for this fault
 abbrev pub AreRefused : List (List ℕ) → UsageFault → Type 0
 AreRefused words fault = AreRefusedBy plan_grammar words fault
 
--- they can be read, and ask that nothing be said
+-- the words can be read, and ask for no message
 abbrev pub AskQuiet : List (List ℕ) → Type 0
 AskQuiet words = AskSilence plan_grammar words
 
--- What the options of a plan can't ask for is as where no option asks for it: no read is slow, there is no limit, every
+-- What the options of a plan can't ask for is as if no option asks for it. No read is slow, there is no limit, every
 -- position of the input is asked for in its own place, and nothing is tried again.
 pub record ArePlain (o : Options) : Type 0 where
   pub rate : o.min_rate ≡ 0

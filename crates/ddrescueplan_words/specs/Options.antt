@@ -31,8 +31,8 @@ option_row letter = record {
   sets = λ sector o value. option_map of_rescue (set_by (row_of letter rescue_rows) sector o.rescue value);
 }
 
--- The letters of options that are looked at by themselves: the size of a sector (`-b`) is set before all others, the
--- size of a cluster (`-c`) is looked at again after all others, and `-q` asks that nothing be said.
+-- The letters of options that are read by themselves. The size of a sector (`-b`) is set before all others, the size of
+-- a cluster (`-c`) is checked again after all others, and `-q` asks for no message.
 abbrev pub sector_letter : ℕ
 sector_letter = 98
 

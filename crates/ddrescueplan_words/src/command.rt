@@ -123,8 +123,8 @@ fn command_of<'a>(
 }
 
 /// Reads the words of a command line: `[options] length testmap`. The words themselves come first, then the values of
-/// the options in the order of the words, those of `-b` before all others, then the size of a cluster in bytes, then
-/// the number of operands, then the length, in which `s` is a sector, and then an empty name.
+/// the options in the order of the words, those of `-b` before all others, then the size of a cluster in bytes. Then
+/// come the number of operands, the length, in which `s` is a sector, and an empty name.
 pub fn read_command(alloc: Global, words: &Words) -> Result<Command<'_>, CommandError>
     ensures asked { IfOk result (λ c. IsAsked words.now (told_by c)) }
     ensures refused { IfErr result (λ e. IsErrorOf words.now e) }

@@ -92,35 +92,7 @@ impl PlanOptions {
         ensures { result ≡ no_options sector }
     {
         PlanOptions {
-            rescue: Options {
-                sector,
-                cluster_sectors: None,
-                skip: 65_536,
-                skip_max: 1 << 30,
-                min_rate: 0,
-                input_position: 0,
-                output_position: None,
-                size: None,
-                retries: 0,
-                max_read_errors: None,
-                max_bad_areas: None,
-                new_areas: false,
-                timeout: None,
-                try_again: false,
-                retrim: false,
-                no_trim: false,
-                no_scrape: false,
-                reverse: false,
-                unidirectional: false,
-                complete_only: false,
-                fill: None,
-                generate: false,
-                loose: false,
-                forced: false,
-                quiet: false,
-                verbose: false,
-                sample: None,
-            },
+            rescue: Options::none(sector),
         }
     }
 }

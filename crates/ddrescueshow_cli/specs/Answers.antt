@@ -41,11 +41,11 @@ refusal_of which NoRoom = NoMemory
 abbrev pub status_of_ending : ShowEnding → ℕ
 status_of_ending e = (row_of e).status
 
--- nothing is said of an answer, since it is what was asked for
+-- an answer has no message, since it is what was asked for
 abbrev pub is_silent : ShowEnding → Bool
 is_silent e = is_silent_kind (row_of e).kind
 
--- what is said of an answer, and the message on standard error
+-- the text on an answer, and the message on standard error
 abbrev pub text_of_ending : ShowEnding → List ℕ
 text_of_ending e = (row_of e).text
 

@@ -15,8 +15,7 @@ abbrev pub end_shown : (from : ℕ) → (size : Option ℕ) → (end : ℕ) → 
 end_shown from None end = end
 end_shown from (Some n) end = min end (from + n)
 
--- how many sectors a cell has: the least whole number, at least one, with which so many positions fit into so many
--- cells
+-- how many sectors a cell has: the least whole number, at least one, with which `span` positions fit into `cells` cells
 abbrev pub sectors_of : (span sector cells : ℕ) → ℕ
 sectors_of span sector cells = max 1 (div_ceil span (sector * cells))
 

@@ -19,7 +19,7 @@ abbrev pub handed : SiteState → ConsoleState → WorldState
 handed site console =
     record { source = no_source; site = site; clock = no_clock; feed_ = no_feed; console = console }
 
--- Its work finds the files of the maps outside of it, and leaves the picture on standard output.
+-- The program's work finds the files of the maps outside of it, and leaves the picture on standard output.
 abbrev pub show_program : Program Command ShowEnding Found
 show_program = record {
   name = program_name;
@@ -41,7 +41,7 @@ show_program = record {
 abbrev pub ShowWorked : Command → (words : List (List ℕ)) → ShowEnding → (old new : WorldState) → Type 0
 ShowWorked c words e old new = Worked show_program c words e old new
 
--- what is done before anything is said
+-- what is done before any message is put
 abbrev pub ShowDone : (words : List (List ℕ)) → ShowEnding → (quiet : Bool) → (old new : WorldState) → Type 0
 ShowDone words e quiet old new = IsDone show_program words e quiet old new
 

@@ -90,11 +90,11 @@ AllIsFinishedAt100 = (domain : ℕ → Bool) (statuses : List Status)
 abbrev pub ShowKeepsPromises : Type 0
 ShowKeepsPromises = KeepsPromises show_program
 
--- an answer that the maps bring, whatever reads, puts and memory do
+-- an answer that the maps lead to, whatever reads, puts and memory do
 abbrev pub IsVerdict : ShowEnding → Type 0
 IsVerdict e = IsVerdictOf show_program e
 
--- The files bring one such answer at most.
+-- The files lead to one such answer at most.
 abbrev pub HasOneVerdict : Type 0
 HasOneVerdict = (c : Command) (found : Found) (e e' : ShowEnding) (d d' : Deeds) → ShowWorks c found e d
     → ShowWorks c found e' d' → IsVerdict e → IsVerdict e' → e ≡ e'
@@ -122,7 +122,7 @@ small_options = record {
   quiet = false;
 }
 
--- Its picture has two rows, `++-+` and `?`; 8 of its 10 bytes are rescued, which is 80.00 %.
+-- The small map's picture has two rows, `++-+` and `?`; 8 of its 10 bytes are rescued, which is 80.00 %.
 abbrev pub SmallPicture : Type 0
 SmallPicture =
     (frame_of small_options 10 ≡ record { from = 0; to = 10; cell = 2; width = 4 })

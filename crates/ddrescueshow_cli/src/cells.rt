@@ -80,7 +80,7 @@ impl Seen {
         }
     }
 
-    /// The same with the status of a piece, if the piece is in the domain.
+    /// The statuses that were seen, with the status of a piece, if the piece is in the domain.
     fn with(self, piece: Piece) -> Seen
         ensures { (s : StatusOf) → is_seen result s ≡ (is_seen self s || (piece.inside && same piece.status s)) }
     {

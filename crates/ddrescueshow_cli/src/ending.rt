@@ -31,7 +31,7 @@ pub enum ShowEnding {
     SiteFault { call: SiteCall },
     /// The picture couldn't be put, or not all of it.
     ConsoleFault,
-    /// Memory wasn't there.
+    /// There wasn't enough memory.
     NoMemory,
 }
 

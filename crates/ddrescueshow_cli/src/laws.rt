@@ -16,7 +16,7 @@ pub fn marks_hide_nothing()
     ensures { MarksHideNothing }
 {}
 
-/// 100.00 % is said exactly if all is finished.
+/// The picture says 100.00 % exactly if all is finished.
 pub fn all_is_finished_at_100()
     ensures { AllIsFinishedAt100 }
 {}
@@ -26,7 +26,7 @@ pub fn a_small_map_is_drawn()
     ensures { SmallPicture }
 {}
 
-/// Maps bring one verdict at most.
+/// Maps have one verdict at most.
 pub fn maps_have_one_verdict()
     ensures { HasOneVerdict }
 {}

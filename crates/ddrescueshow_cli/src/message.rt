@@ -1,4 +1,4 @@
-//! What is said of an answer on standard error.
+//! The message on an answer, on standard error.
 ghost use Rattle.std.specs.Prelude.{◌≡◌, ◌+◌, ◌≤◌, ◌++◌};
 ghost use Rattle.arrayvec.specs.ArrayVec.{array_vec_len};
 ghost use Rattle.ddrescueshow_cli.specs.Answers.{is_silent, message, text_of_ending, which_text};
@@ -23,7 +23,7 @@ fn add_which(message: &mut Message, which: Which)
     }
 }
 
-/// Adds what is said of an answer.
+/// Adds the message on an answer.
 fn add_ending(message: &mut Message, ending: ShowEnding)
     requires { array_vec_len message.old ≤ 20 }
     ensures text { message.new.items ≡ message.old.items ++ text_of_ending ending }

@@ -105,7 +105,7 @@ fn mark_of<T: Tiles>(
     worst(tiles, domain, near, from, to)
 }
 
-/// Adds the characters of so many cells from one on.
+/// Adds the characters of `count` cells from one on.
 fn add_cells<T: Tiles>(
     text: &mut Vec<u8>,
     frame: &Frame,

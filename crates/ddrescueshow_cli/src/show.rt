@@ -111,8 +111,8 @@ fn work<D: Site, P: Console>(
 /// one message says why, on the console's second channel.
 ///
 /// The refusals come in this order: words that ask for nothing; a mapfile that isn't there, or is no map; the domain
-/// map, in the same way. A read of a map may fail, the picture may fail to be put, and memory may run out. A map in use by a
-/// rescue is read as it was last saved.
+/// map, in the same way. A read of a map may fail, the picture may fail to be put, and memory may run out. A map in use
+/// by a rescue is read as it was last saved.
 pub fn ddrescueshow<D: Site, P: Console>(
     alloc: Global,
     words: &Words,

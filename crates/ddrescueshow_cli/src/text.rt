@@ -29,7 +29,7 @@ pub(crate) fn digits(number: u64) -> usize
     Buffer::new().format(number).len()
 }
 
-/// Adds so many blanks.
+/// Adds `count` blanks.
 fn add_blanks(text: &mut Vec<u8>, count: usize) -> Result<(), NoMemory>
     ensures { OnOk result (text.new.items ≡ text.old.items ++ replicate count 32) }
 {

@@ -19,7 +19,7 @@ pub record Command : Type 0 where
   pub domain_map : Option (List ℕ)
   pub options : ShowOptions
 
--- the same of what the code hands on
+-- the command that the code hands on
 abbrev pub told_by : CommandCode → Command
 told_by c = record {
   mapfile = c.mapfile.now;
@@ -49,7 +49,7 @@ command_by words items (Ok o) operands =
 abbrev pub command_in : List (List ℕ) → List Item → (operands : List ℕ) → Result Command UsageFault
 command_in words items operands = command_by words items (options_in words items) operands
 
--- the same of a reading that the code has
+-- what a reading that the code has asks for, or its first fault
 abbrev pub command_read : List (List ℕ) → WordReading → Result Command UsageFault
 command_read words r = command_in words r.items.items r.operands.items
 
@@ -65,11 +65,11 @@ AreOptions rows = AreOptionsOf show_grammar rows
 abbrev pub Asks : List (List ℕ) → Command → Type 0
 Asks words c = AskFor show_grammar words c
 
--- they are refused for this fault
+-- the words are refused for this fault
 abbrev pub AreRefused : List (List ℕ) → UsageFault → Type 0
 AreRefused words fault = AreRefusedBy show_grammar words fault
 
--- they can be read, and ask that nothing be said
+-- the words can be read, and ask for no message
 abbrev pub AskQuiet : List (List ℕ) → Type 0
 AskQuiet words = AskSilence show_grammar words
 

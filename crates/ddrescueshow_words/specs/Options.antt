@@ -6,7 +6,7 @@ use Rattle.option_values.specs.Values.{Meaning, OptionRow, is_name, meanings_of,
 use Rattle.option_values.specs.Values.{options_in as options_by}
 use Rattle.ddrescueshow_words.specs.declared.options.ShowOptions.{ShowOptions}
 
--- an option that stands alone, and one with a value
+-- an option without a value, and one with a value
 abbrev pub flag : (letter : ℕ) → List ℕ → (ShowOptions → ShowOptions) → OptionRow ShowOptions
 flag letter name sets =
     record { letter = Some letter; name = name; takes = Never; sets = λ sector o value. Some (sets o) }
@@ -15,8 +15,8 @@ abbrev pub valued : (letter : ℕ) → List ℕ → (ℕ → ShowOptions → Opt
     → OptionRow ShowOptions
 valued letter name sets = record { letter = Some letter; name = name; takes = Always; sets = sets }
 
--- The letters of options that are looked at by themselves: the size of a sector (`-b`) is set before all others, `-m`
--- names the domain map, and `-q` asks that nothing be said.
+-- The letters of options that are read by themselves. The size of a sector (`-b`) is set before all others, `-m` names
+-- the domain map, and `-q` asks for no message.
 abbrev pub sector_letter : ℕ
 sector_letter = 98
 

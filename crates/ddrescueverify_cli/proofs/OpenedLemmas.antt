@@ -5,7 +5,7 @@ use Rattle.block_list.specs.declared.status.Status.{Status}
 use Rattle.mapfile_text.specs.declared.state.MapState.{MapState}
 use Rattle.mapfile_text.specs.HeadingLines.{HeadingLines}
 use Rattle.mapfile_text.specs.Printed.{printed}
-use Rattle.faulty_source.specs.Journal.{Reading}
+use Rattle.faulty_source.specs.Journal.{Reading, IsFrom}
 use Rattle.faulty_source.specs.SourceState.{SourceState}
 use Rattle.faulty_source.specs.SourceChanges.{Keeps as SourceKeeps, Stays as SourceStays, AnswersOpen, PlansOpen}
 use Rattle.crash_site.specs.Files.{File, bytes_of, file_at}
@@ -26,12 +26,11 @@ use Rattle.work_rules.proofs.FrontLemmas.{load_reads, reads_stand}
 use Rattle.work_rules.proofs.PartLemmas.{stopped_more, through_then, grew_both}
 use Rattle.rescue_verify.specs.declared.tally.Tally.{Tally}
 use Rattle.rescue_verify.specs.Looks.{Look, reads_of, seen_in, look_calls}
-use Rattle.rescue_verify.specs.Looking.{IsFrom}
 use Rattle.rescue_verify.specs.Verified.{judged_by}
 use Rattle.rescue_verify.specs.Comparing.{ComparisonPlan, tally_of, Compares}
 use Rattle.ddrescueverify_words.specs.declared.options.VerifyOptions.{VerifyOptions}
 use Rattle.ddrescueverify_words.specs.Command.{Command}
-use Rattle.program_promise.specs.Opens.{AreOpens}
+use Rattle.work_rules.specs.Opens.{AreOpens}
 use Rattle.ddrescueverify_cli.specs.declared.ending.VerifyEnding.{VerifyEnding}
 use Rattle.ddrescueverify_cli.specs.declared.ending.VerifyEnding.TheVariants.{NoOutput, SourceFault}
 use Rattle.ddrescueverify_cli.specs.declared.open.LoadedMap.{LoadedMap}

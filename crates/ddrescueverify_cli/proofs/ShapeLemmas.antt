@@ -1,5 +1,5 @@
 -- The calls of a whole call: the open of the output, the barrier, reads, and perhaps a save.
-use Rattle.std.proofs.Common.{◌≡◌, ◌⊎◌, ℕ, zero, suc, ◌<◌, Bool, true, false, if◌then◌else◌, List, [], ◌∷◌, ◌++◌, map, length, Option, Some, None, refl, sym, ap, ◌∙◌, inl, inr, subst, arith, append_assoc, append-nil}
+use Rattle.std.proofs.Common.{◌≡◌, ℕ, zero, suc, ◌<◌, Bool, true, false, if◌then◌else◌, List, [], ◌∷◌, ◌++◌, map, length, Option, Some, None, refl, sym, ap, ◌∙◌, inl, inr, subst, arith, append_assoc, append-nil}
 use Rattle.std.specs.Prelude.{⊤}
 use Rattle.std.specs.List.{list_any}
 use Rattle.std.proofs.lemmas.List.{map-append}
@@ -16,7 +16,7 @@ use Rattle.crash_site.specs.Folder.{opened}
 use Rattle.crash_site.specs.Along.{GoesAlong}
 use Rattle.crash_site.specs.Disk.{Disk, only, entered, disk_after}
 use Rattle.crash_site.specs.Left.{in_part, until}
-use Rattle.save_resume.specs.MapNames.{MapNames, names_of}
+use Rattle.save_resume.specs.MapNames.{names_of}
 use Rattle.save_resume.specs.Loading.{IsLoad}
 use Rattle.save_resume.specs.Saving.{save_calls}
 use Rattle.save_resume.specs.Resuming.{barrier_calls}
@@ -25,6 +25,7 @@ use Rattle.rescue_rules.specs.Stops.{is_sync}
 use Rattle.rescue_rules.specs.Work.{is_map_read, AreMapReads}
 use Rattle.work_rules.specs.Work.{Deeds, IsIdle, Take, Look as LookAt, Make, Works}
 use Rattle.work_rules.proofs.FrontLemmas.{load_reads}
+use Rattle.work_rules.proofs.SavedLemmas.{HasSaved}
 use Rattle.rescue_verify.specs.declared.halt.Halt.{Halt}
 use Rattle.rescue_verify.specs.declared.halt.Halt.TheVariants.{NoMemory as NoRoom, SourceLost as InputLost, ImageFault}
 use Rattle.rescue_verify.specs.declared.tally.Tally.{Tally}
@@ -147,11 +148,6 @@ opening_calls c = image_open c.outfile false ∷ barrier_calls (names_of c.mapfi
 
 abbrev pub opening : Command → List Entry
 opening c = map Returned (opening_calls c)
-
--- a record that went on by a save, whole or up to a call that failed
-abbrev pub HasSaved : MapNames → List ℕ → (old new : List Entry) → Type 0
-HasSaved names text old new =
-    (new ≡ old ++ map Returned (save_calls names text)) ⊎ ((at : SiteCall) × BrokeAt at (save_calls names text) old new)
 
 -- The calls of a whole call: the barrier didn't return; or it did, the output is there, and only reads came after it,
 -- and then perhaps a save.

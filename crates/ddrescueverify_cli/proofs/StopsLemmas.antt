@@ -1,15 +1,12 @@
 -- What a stop of the work finds, by the calls that it made.
-use Rattle.std.proofs.Common.{◌≡◌, ◌≢◌, ◌⊎◌, ℕ, zero, suc, ◌+◌, ◌-◌, ◌<◌, ◌≤◌, Bool, true, false, cond, ◌||◌, IsTrue, List, [], ◌∷◌, ◌++◌, map, length, take, Option, Some, None, Result, Ok, Err, refl, sym, ap, ◌∙◌, inl, inr, subst, arith, append_assoc, append-nil, length-append}
+use Rattle.std.proofs.Common.{◌≡◌, ◌≢◌, ◌⊎◌, ℕ, zero, suc, ◌+◌, ◌-◌, ◌<◌, ◌≤◌, Bool, true, false, cond, ◌||◌, IsTrue, List, [], ◌∷◌, ◌++◌, map, length, take, Option, Some, None, refl, sym, ap, ◌∙◌, inl, inr, subst, arith, append_assoc, length-append}
 use Rattle.std.specs.Str.{bytes_eq}
 use Rattle.std.specs.List.{list_any}
 use Rattle.std.proofs.lemmas.Bool.{cases_lt, cond_both}
-use Rattle.fault_count.specs.Plan.{no_plan}
 use Rattle.mapfile_text.specs.Printed.{printed}
 use Rattle.faulty_source.specs.SourceState.{SourceState}
-use Rattle.crash_site.specs.declared.site.SiteCall.{SiteCall}
 use Rattle.crash_site.specs.Files.{File, bytes_of}
 use Rattle.crash_site.specs.Calls.{Entry, Done as Returned, image_open, image_sync, map_settle}
-use Rattle.crash_site.specs.CallsMade.{BrokeAt}
 use Rattle.crash_site.specs.Folder.{Folder, opened}
 use Rattle.crash_site.specs.Along.{Along, AlongCalls, GoesAlong}
 use Rattle.crash_site.specs.Disk.{Showing, Disk, only, with_opened, under_some, at_rest, entered, disk_after}
@@ -18,15 +15,13 @@ use Rattle.crash_site.specs.SiteState.{SiteState, files_in}
 use Rattle.crash_site.proofs.AlongLemmas.{along_until, along_calls}
 use Rattle.crash_site.proofs.DiskLemmas.{reads_run, rest_sound, run-append, run_reads}
 use Rattle.crash_site.proofs.LawLemmas.{found_only, own_name, until_all, left_past}
-use Rattle.save_resume.specs.declared.draft.SaveFault.{SaveFault}
-use Rattle.save_resume.specs.MapNames.{MapNames, names_of}
-use Rattle.save_resume.specs.Saving.{save_calls, drafting_after_fault, Saves}
+use Rattle.save_resume.specs.MapNames.{names_of}
+use Rattle.save_resume.specs.Saving.{save_calls}
 use Rattle.save_resume.specs.SaveStops.{disk_of, text_file, IsOldOrNew, Old, New, IsSaved}
-use Rattle.save_resume.proofs.StopLemmas.{stops_in_save, saved_where_ok}
 use Rattle.rescue_rules.specs.Start.{Stands as StandsFor}
 use Rattle.rescue_rules.specs.Stops.{has_barrier, is_sync}
 use Rattle.work_rules.specs.Work.{Deeds, Works}
-use Rattle.work_rules.proofs.GainLemmas.{broke_after, broke_named}
+use Rattle.work_rules.proofs.SavedLemmas.{HasSaved, stops_by_save, saved_by, save_after}
 use Rattle.rescue_verify.specs.Looks.{Look, reads_of, seen_in}
 use Rattle.rescue_verify.specs.Verified.{judged_by}
 use Rattle.ddrescueverify_words.specs.Command.{Command}
@@ -38,81 +33,9 @@ use Rattle.ddrescueverify_cli.specs.Asked.{heading_of, shown_by}
 use Rattle.ddrescueverify_cli.specs.Stops.{CouldBefore, IsVerifiedMap, LeftAt, StopsSafely}
 use Rattle.ddrescueverify_cli.specs.Outside.{Agrees, Found, Outside, place_by}
 use Rattle.ddrescueverify_cli.specs.Work.{Verifies, verify_faults, verify_rows}
-use Rattle.ddrescueverify_cli.proofs.ShapeLemmas.{AreReads, Early, HasSaved, IsNewText, Reads, Saving, Shape, opening, opening_calls, reads_at, reads_keep, reads_until, shape_of}
+use Rattle.ddrescueverify_cli.proofs.ShapeLemmas.{AreReads, Early, IsNewText, Reads, Saving, Shape, opening, opening_calls, reads_at, reads_keep, reads_until, shape_of}
 
 -- ---- a save after other calls
-
--- a site that began so and made these calls
-abbrev site_at : Folder → List Entry → (drafting : Bool) → (faults : ℕ) → SiteState
-site_at start calls drafting faults = record {
-  tells = true;
-  start = start;
-  calls = calls;
-  is_open = false;
-  is_drafting = drafting;
-  faults = faults;
-  is_planned = false;
-  plan = no_plan;
-  starved = 0;
-}
-
--- what a save did, by a result without a value
-abbrev SavesBy : MapNames → List ℕ → Result (Unit {0}) SaveFault → (old new : SiteState) → Type 0
-SavesBy names text result old new = Saves (save_calls names text) false result old new
-
-made_saves : (names : MapNames) (text : List ℕ) (start : Folder) (old new : List Entry)
-    → new ≡ old ++ map Returned (save_calls names text)
-    → SavesBy names text (Ok tt) (site_at start old false 0) (site_at start new false 0)
-made_saves names text start old new grew = record {
-  keeps = record { tells = refl; start = λ t. refl; planned = refl; later = omega arith };
-  made = record { made = λ t. grew; faults = refl };
-  broke = tt;
-  named = tt;
-  image = refl;
-  draft = refl;
-  draft_left = tt;
-}
-
-broke_saves : (names : MapNames) (text : List ℕ) (start : Folder) (at : SiteCall) (old new : List Entry)
-    → BrokeAt at (save_calls names text) old new
-    → SavesBy names text (Err (record { call = at })) (site_at start old false 0)
-    (site_at start new (drafting_after_fault at false) 1)
-broke_saves names text start at old new broke = record {
-  keeps = record { tells = refl; start = λ t. refl; planned = refl; later = omega arith };
-  made = tt;
-  broke = record { broke = λ t. broke; rose = refl };
-  named = broke_named at (save_calls names text) old new broke;
-  image = refl;
-  draft = tt;
-  draft_left = refl;
-}
-
-stops_by_save : (names : MapNames) (text : List ℕ) (start : Folder) (old new : List Entry) → HasSaved names text old new
-    → (k : ℕ) (found : List ℕ → Option File) → length old ≤ k → k ≤ length new → MayBeLeft start new k found
-    → (name : List ℕ) → name ≢ names.draft
-    → IsOldOrNew names text (disk_after (at_rest start) old) (disk_after (at_rest start) (until k new)) name
-    (found name)
-stops_by_save names text start old new (inl grew) k found le most left name apart =
-    stops_in_save names text (Ok tt) (site_at start old false 0) (site_at start new false 0) refl
-    (made_saves names text start old new grew) k found le most left name apart
-stops_by_save names text start old new (inr (at, broke)) k found le most left name apart =
-    stops_in_save names text (Err (record { call = at })) (site_at start old false 0)
-    (site_at start new (drafting_after_fault at false) 1) refl
-    (broke_saves names text start at old new broke) k found le most left name apart
-
-saved_by : (names : MapNames) (text : List ℕ) (start : Folder) (old new : List Entry)
-    → new ≡ old ++ map Returned (save_calls names text)
-    → IsSaved names text (disk_after (at_rest start) old) (disk_after (at_rest start) new)
-saved_by names text start old new grew =
-    saved_where_ok names text (Ok tt) (site_at start old false 0) (site_at start new false 0)
-    (made_saves names text start old new grew) refl
-
-save_after : (names : MapNames) (text : List ℕ) (before rest : List Entry) → HasSaved names text [] rest
-    → HasSaved names text before (before ++ rest)
-save_after names text before rest (inl made) = inl (ap (λ (r : List Entry). before ++ r) made)
-save_after names text before rest (inr (at, broke)) =
-    let P : List Entry → Type 0 = λ r. BrokeAt at (save_calls names text) r (before ++ rest) in
-    inr (at, subst P (append-nil before) (broke_after at (save_calls names text) before [] rest broke))
 
 -- ---- what a stop may show up to the barrier, and after it
 

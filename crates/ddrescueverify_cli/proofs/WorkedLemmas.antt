@@ -15,7 +15,7 @@ use Rattle.save_resume.proofs.NameLemmas.{ne_of}
 use Rattle.work_rules.specs.Work.{Deeds, Works}
 use Rattle.rescue_verify.specs.declared.tally.Tally.{Tally}
 use Rattle.rescue_verify.specs.Comparing.{tally_of}
-use Rattle.rescue_verify.specs.Looking.{IsFrom}
+use Rattle.faulty_source.specs.Journal.{IsFrom}
 use Rattle.ddrescueverify_words.specs.Command.{Command}
 use Rattle.program_promise.specs.World.{WorldState}
 use Rattle.program_promise.specs.Program.{line_by}

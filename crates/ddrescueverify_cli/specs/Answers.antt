@@ -23,7 +23,7 @@ which_text RunMap = codes "mapfile"
 abbrev pub map_error_text : Which → MapError → List ℕ
 map_error_text which error = which_text which ++ codes ": " ++ error_text error
 
--- Words are refused for any fault but a place, which is looked at after the mapfile.
+-- Words are refused for any fault but a place, which is checked after the mapfile.
 abbrev pub usage_kind : UsageFault → Kind
 usage_kind (Word fault) = Wrong (Word fault)
 usage_kind (BadValue n) = Wrong (BadValue n)
@@ -72,11 +72,11 @@ drafting_left NoMemory = false
 abbrev pub status_of_ending : VerifyEnding → ℕ
 status_of_ending e = (row_of e).status
 
--- nothing is said of an answer on standard error: it is what was asked for, and standard output says it
+-- an answer has no message on standard error: it is what was asked for, and standard output says it
 abbrev pub is_silent : VerifyEnding → Bool
 is_silent e = is_silent_kind (row_of e).kind
 
--- what is said of an answer, and the message on standard error
+-- the text on an answer, and the message on standard error
 abbrev pub text_of_ending : VerifyEnding → List ℕ
 text_of_ending e = (row_of e).text
 

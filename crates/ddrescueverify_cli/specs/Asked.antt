@@ -18,7 +18,7 @@ use Rattle.ddrescueverify_words.specs.declared.options.VerifyOptions.{VerifyOpti
 abbrev pub output_from : VerifyOptions → ℕ
 output_from o = unwrap_or o.output_position o.input_position
 
--- the positions that are looked at of an input with this length: those from the input position on, and no more than the
+-- the positions that are compared of an input with this length: those from the input position on, and no more than the
 -- size
 abbrev pub domain_asked : VerifyOptions → (end : ℕ) → ℕ → Bool
 domain_asked o end = whole_domain o.input_position o.size end

@@ -14,7 +14,7 @@ pub record CountsRise (c : Changes) (source source' : SourceState) (site site' :
   pub losses : source'.losses ≡ c.reads source.losses
   pub site_faults : site'.faults ≡ c.calls site.faults
 
--- a failure before the line is put, and a kind of an answer there: never what only words bring, or a whole comparison
+-- a failure before the line is put, and a kind of an answer there: never what only words lead to, or a whole comparison
 abbrev pub IsStopFailure : Failure → Type 0
 IsStopFailure AtOpen = ⊤
 IsStopFailure AtRead = ⊤
@@ -35,7 +35,7 @@ pub record StopCause (e : VerifyEnding) (source source' : SourceState) (site sit
   pub also : (row_of e).also
   pub counts : CountsRise (changes_of (row_of e).kind) source source' site site'
 
--- the same by its outcome
+-- what the work after the words did to the counts, by its outcome
 abbrev pub WorkCause : Result Tally VerifyEnding → (source source' : SourceState) → (site site' : SiteState) → Type 0
 WorkCause (Ok tally) source source' site site' = CountsRise none_rises source source' site site'
 WorkCause (Err e) source source' site site' = StopCause e source source' site site'

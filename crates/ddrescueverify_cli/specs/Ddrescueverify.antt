@@ -76,7 +76,7 @@ verify_program = record {
 abbrev pub VerifyWorked : Command → (words : List (List ℕ)) → VerifyEnding → (old new : WorldState) → Type 0
 VerifyWorked c words e old new = Worked verify_program c words e old new
 
--- what is done before anything is said on standard error
+-- what is done before any message is put on standard error
 abbrev pub VerifyDone : (words : List (List ℕ)) → VerifyEnding → (quiet : Bool) → (old new : WorldState) → Type 0
 VerifyDone words e quiet old new = IsDone verify_program words e quiet old new
 

@@ -50,7 +50,7 @@ IsComparedUnless = (t : Told VerifyEnding) (c : Command) (d : Ddrescueverify t) 
 
 -- ---- one verdict, and one read of a position
 
--- an answer that the names, the files, the length and the looks bring, whatever fails
+-- an answer that the names, the files, the length and the looks lead to, whatever fails
 abbrev pub IsVerdict : VerifyEnding → Type 0
 IsVerdict e = IsVerdictOf verify_program e
 
@@ -59,7 +59,7 @@ abbrev pub VerifyWorks : Command → Outside → VerifyEnding → Deeds → Type
 VerifyWorks c o e d =
     Works verify_faults (verify_rows c o.found o.end) (Verifies c o.line o.found o.end o.looks) e d
 
--- An outside brings one such answer at most.
+-- An outside leads to one such answer at most.
 abbrev pub HasOneVerdict : Type 0
 HasOneVerdict = (c : Command) (o : Outside) (e e' : VerifyEnding) (d d' : Deeds) → VerifyWorks c o e d
     → VerifyWorks c o e' d' → IsVerdict e → IsVerdict e' → e ≡ e'

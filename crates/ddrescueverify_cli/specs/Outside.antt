@@ -6,9 +6,9 @@ use Rattle.crash_site.specs.SiteState.{SiteState, files_in}
 use Rattle.rescue_domain.specs.Places.{place_from}
 use Rattle.work_rules.specs.Work.{Deeds}
 use Rattle.rescue_verify.specs.Looks.{Look, reads_of, seen_in}
-use Rattle.rescue_verify.specs.Looking.{IsFrom}
+use Rattle.faulty_source.specs.Journal.{IsFrom}
 use Rattle.ddrescueverify_words.specs.Command.{Command}
-use Rattle.program_promise.specs.Opens.{AreOpens}
+use Rattle.work_rules.specs.Opens.{AreOpens}
 use Rattle.ddrescueverify_cli.specs.Asked.{output_from}
 
 -- the output and the mapfile, as the steps found them
@@ -20,7 +20,7 @@ pub record Found : Type 0 where
 abbrev pub found_in : Command → (List ℕ → Option File) → Found
 found_in c files = record { output = files c.outfile; mapfile = files c.mapfile }
 
--- where a position stands in the output
+-- where a position is in the output
 abbrev pub place_by : Command → ℕ → ℕ
 place_by c x = place_from c.options.input_position (output_from c.options) x
 

@@ -1,4 +1,4 @@
--- What is said of a comparison on standard output, and what is answered once the map is saved.
+-- The line on a comparison, on standard output, and what is answered once the map is saved.
 use Rattle.std.specs.Prelude.{◌≡◌, ◌⊎◌, ℕ, Bool, true, false, IsTrue, List, ◌++◌, codes}
 use Rattle.std.specs.Fmt.{decimal}
 use Rattle.fault_count.specs.Plan.{with_call}
@@ -10,14 +10,14 @@ use Rattle.ddrescueverify_cli.specs.declared.ending.VerifyEnding.{VerifyEnding}
 use Rattle.ddrescueverify_cli.specs.declared.ending.VerifyEnding.TheVariants.{ConsoleFault}
 use Rattle.ddrescueverify_cli.specs.Work.{answer_of_tally}
 
--- `compared 1536 B, differing 512 B, unread 0 B`: how much was compared, how much of that differs, and how much couldn't
--- be read whole
+-- `compared 1536 B, differing 512 B, unread 0 B`: how much was compared, how much of that differs, and how much
+-- couldn't be read whole
 abbrev pub line_of_tally : Tally → List ℕ
 line_of_tally t =
     with_newline (codes "compared " ++ decimal t.compared ++ codes " B, differing " ++ decimal t.differing
     ++ codes " B, unread " ++ decimal t.unread ++ codes " B")
 
--- it was one put, by the plan of a console that has one
+-- the line was one put, by the plan of a console that has one
 abbrev pub IsOnePut : (old new : ConsoleState) → Type 0
 IsOnePut old new = IsTrue old.is_planned → new.plan ≡ with_call old.plan
 

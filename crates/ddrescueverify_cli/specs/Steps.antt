@@ -100,7 +100,7 @@ DidWork c o did (Ok tally) =
 DidWork c o did (Err e) =
     Works verify_faults (opened_rows c o.found o.end) (Verifies c o.line o.found o.end o.looks) e did
 
--- What the work did once the names were looked at: there is an outside that agrees with what the objects tell.
+-- What the work did once the names were checked: there is an outside that agrees with what the objects tell.
 pub record WentOn (c : Command) (line : List ℕ) (result : Result Tally VerifyEnding) (source source' : SourceState)
     (site site' : SiteState) : Type 0 where
   pub outside : Outside

@@ -29,8 +29,8 @@ LeftAt site calls k files = MayBeLeft site.start (site.calls ++ calls) (length s
 abbrev pub CouldBefore : SiteState → (name : List ℕ) → (found : Option File) → Type 0
 CouldBefore site name found = MayShow ((disk_of site).shows name) found
 
--- The new mapfile, whole: all pieces were looked at, and it is the printed map of what the mapfile stood for, verified by
--- the reads that were made and by the output as it was.
+-- The new mapfile, whole: all pieces were compared, and it is the printed map of what the mapfile gave, verified by the
+-- reads that were made and by the output as it was.
 pub record IsVerifiedMap (c : Command) (line : List ℕ) (o : Outside) (site : SiteState) (found : Option File)
     : Type 0 where
   pub statuses : List Status
@@ -58,7 +58,7 @@ pub record StopsSafely (c : Command) (line : List ℕ) (o : Outside) (did : Deed
   -- once the call has answered that it is done, or that something differs, the new one.
   pub kept : (files : List ℕ → Option File) → is_saved answer ≡ true
       → LeftAt site did.gain.calls (length did.gain.calls) files → IsVerifiedMap c line o site (files c.mapfile)
-  -- Any other file could be found so before, but for the draft.
+  -- Any other file could be found so before, except the draft.
   pub others : (k : ℕ) (files : List ℕ → Option File) (name : List ℕ) → k ≤ length did.gain.calls
       → LeftAt site did.gain.calls k files → name ≢ c.outfile → name ≢ c.mapfile
       → name ≢ (names_of c.mapfile).draft → CouldBefore site name (files name)

@@ -77,7 +77,7 @@ pub data EndsAfter (c : Command) (p : ComparisonPlan) (text : List ℕ) (looks :
       (EndsSaved c.options.quiet (tally_of looks)) e d
       → EndsAfter c p text looks e d
 
--- the same deeds after these reads, and after calls that returned
+-- these deeds after these reads, and after calls that returned
 abbrev pub after_looks : (place : ℕ → ℕ) → List Look → Deeds → Deeds
 after_looks place looks d = record {
   opens = d.opens;

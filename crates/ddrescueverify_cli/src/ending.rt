@@ -28,7 +28,7 @@ pub enum Which {
 pub enum VerifyEnding {
     /// The outfile has all that the infile gave, and the map was saved.
     Done,
-    /// The outfile hasn't some of it: the pieces of so many bytes became non-tried, and the map was saved.
+    /// The outfile hasn't some of it: pieces with this number of bytes became non-tried, and the map was saved.
     Differs { bytes: u64 },
     /// The words ask for nothing that can be done.
     Usage(UsageFault),
@@ -49,7 +49,7 @@ pub enum VerifyEnding {
     SiteFault { call: SiteCall },
     /// The map was saved, and the numbers couldn't be printed, or not all of them.
     ConsoleFault,
-    /// Memory wasn't there. Nothing was saved.
+    /// There wasn't enough memory. Nothing was saved.
     NoMemory,
 }
 

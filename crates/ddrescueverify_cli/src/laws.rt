@@ -17,7 +17,7 @@ pub fn nothing_else_is_answered()
     ensures { IsComparedUnless }
 {}
 
-/// An outside brings one verdict at most.
+/// An outside has one verdict at most.
 pub fn comparisons_have_one_verdict()
     ensures { HasOneVerdict }
 {}

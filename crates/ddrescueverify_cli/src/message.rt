@@ -1,4 +1,4 @@
-//! What is said of an answer on standard error.
+//! The message on an answer, on standard error.
 ghost use Rattle.std.specs.Prelude.{◌≡◌, ◌+◌, ◌≤◌, ◌++◌};
 ghost use Rattle.arrayvec.specs.ArrayVec.{array_vec_len};
 ghost use Rattle.ddrescueverify_cli.specs.Answers.{is_silent, map_error_text, message, text_of_ending, which_text};
@@ -32,7 +32,7 @@ fn add_refusal(message: &mut Message, which: Which, error: MapError)
     add_map_error(message, error);
 }
 
-/// Adds what is said of an answer.
+/// Adds the message on an answer.
 fn add_ending(message: &mut Message, ending: VerifyEnding)
     requires { array_vec_len message.old ≤ 20 }
     ensures text { message.new.items ≡ message.old.items ++ text_of_ending ending }

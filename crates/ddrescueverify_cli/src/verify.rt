@@ -194,9 +194,9 @@ fn work<S: Source, D: Site, P: Console>(
 /// one message says why, on the console's second channel.
 ///
 /// The refusals come in this order: words that ask for nothing, two files of one name, an infile that can't be opened,
-/// an outfile that isn't there, a mapfile that isn't there, says nothing or is no map, a position without a place in
-/// the output. At any time the infile may be lost, a call on the files may fail, and memory may run out; then nothing
-/// is saved.
+/// and an outfile that isn't there. Then come a mapfile that isn't there, says nothing or is no map, and a position
+/// without a place in the output. At any time the infile may be lost, a call on the files may fail, and memory may run
+/// out; then nothing is saved.
 pub fn ddrescueverify<S: Source, D: Site, P: Console>(
     alloc: Global,
     words: &Words,

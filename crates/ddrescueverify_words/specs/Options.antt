@@ -6,7 +6,7 @@ use Rattle.option_values.specs.Values.{Meaning, OptionRow, meanings_of, size_by}
 use Rattle.option_values.specs.Values.{options_in as options_by}
 use Rattle.ddrescueverify_words.specs.declared.options.VerifyOptions.{VerifyOptions}
 
--- an option that stands alone, and one with a value
+-- an option without a value, and one with a value
 abbrev pub flag : (letter : ℕ) → List ℕ → (VerifyOptions → VerifyOptions) → OptionRow VerifyOptions
 flag letter name sets =
     record { letter = Some letter; name = name; takes = Never; sets = λ sector o value. Some (sets o) }
@@ -15,8 +15,8 @@ abbrev pub valued : (letter : ℕ) → List ℕ → (ℕ → VerifyOptions → O
     → OptionRow VerifyOptions
 valued letter name sets = record { letter = Some letter; name = name; takes = Always; sets = sets }
 
--- The letters of options that are looked at by themselves: the size of a sector (`-b`) is set before all others, and
--- `-q` asks that nothing be said.
+-- The letters of options that are read by themselves. The size of a sector (`-b`) is set before all others, and `-q`
+-- asks for no message.
 abbrev pub sector_letter : ℕ
 sector_letter = 98
 

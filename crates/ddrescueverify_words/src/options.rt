@@ -54,7 +54,7 @@ pub struct VerifyOptions {
     pub input_position: u64,
     /// Where it begins in the outfile, in bytes; as in the infile if it isn't given.
     pub output_position: Option<u64>,
-    /// How many bytes are looked at, at most; no limit if it isn't given.
+    /// How many bytes are compared, at most; no limit if it isn't given.
     pub size: Option<u64>,
     /// Nothing is put on the console; by default the numbers and messages are.
     pub quiet: bool,

@@ -5,7 +5,7 @@ use Rattle.std.specs.Prelude.{◌≡◌, ℕ, ◌+◌, ◌-◌, ◌^◌, ◌≤�
 abbrev pub raised : ℕ → ℕ
 raised n = min (n + 1) (2 ^ 64 - 1)
 
--- the count rose by one, or it stood at the end of its type
+-- the count rose by one, or it was at the end of its type
 abbrev pub Rose : ℕ → ℕ → Type 0
 Rose before now = now ≡ raised before
 

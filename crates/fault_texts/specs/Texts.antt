@@ -10,15 +10,15 @@ use Rattle.option_words.specs.declared.fault.WordFault.TheVariants.{UnknownShort
 use Rattle.option_words.specs.declared.fault.UsageFault.{UsageFault}
 use Rattle.option_words.specs.declared.fault.UsageFault.TheVariants.{Word, BadValue, Conflict, Modes, Operands, PlaceTooLarge}
 
--- a number after a word, and what is said of it
+-- a number after a word, and a text on it
 abbrev pub numbered_text : List ℕ → ℕ → List ℕ → List ℕ
 numbered_text what n says = what ++ decimal n ++ says
 
--- what is said of a word
+-- the text on a word
 abbrev pub at_word : ℕ → List ℕ → List ℕ
 at_word n says = numbered_text (codes "word ") n (codes ": " ++ says)
 
--- what is said of a line
+-- the text on a line
 abbrev pub at_line : ℕ → List ℕ → List ℕ
 at_line n says = numbered_text (codes "line ") n (codes ": " ++ says)
 

@@ -8,7 +8,7 @@ abbrev pub count_of : Got → ℕ
 count_of (Read n) = n
 count_of (End n) = n
 
--- it met the input's end
+-- the read met the input's end
 abbrev pub is_end : Got → Bool
 is_end (Read n) = false
 is_end (End n) = true

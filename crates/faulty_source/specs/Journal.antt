@@ -1,5 +1,5 @@
 -- The reads of an input, and how much of each is kept.
-use Rattle.std.specs.Prelude.{ℕ, ◌+◌, ◌-◌, ◌*◌, ◌/◌, Bool, List, length, nat_eq, nat_le, nat_lt, ◌&&◌, ◌||◌, not, if◌then◌else◌}
+use Rattle.std.specs.Prelude.{◌≡◌, ℕ, ◌+◌, ◌-◌, ◌*◌, ◌/◌, Bool, List, length, slice_range, nat_eq, nat_le, nat_lt, ◌&&◌, ◌||◌, not, if◌then◌else◌}
 
 -- one read that was answered: where it began, how many bytes were asked for, the bytes that were given, and whether the
 -- input ended after them
@@ -8,6 +8,10 @@ pub record Reading : Type 0 where
   pub asked : ℕ
   pub given : List ℕ
   pub ended : Bool
+
+-- a read gave the input's own bytes
+abbrev pub IsFrom : (bytes : List ℕ) → Reading → Type 0
+IsFrom bytes r = r.given ≡ slice_range bytes r.pos (r.pos + length r.given)
 
 -- the read gave all that it was asked for
 abbrev pub is_whole : Reading → Bool

@@ -30,9 +30,9 @@ one_less (Some n) = Some (n - 1)
 abbrev pub met : List BadRange → ℕ → List BadRange
 met bad x = map (λ r. if is_bad_at x r then record r { attempts = one_less r.attempts } else r) bad
 
--- What a read of asked bytes at pos gives, of an input that ends here: one that meets a bad position in front of the
--- end gives what comes before that; any other gives all that there is, and meets the end where that is less than was
--- asked for.
+-- What a read of asked bytes at pos gives, of an input that ends here. A read that meets a bad position before the end
+-- gives what comes before that. Any other gives all that there is, and meets the end if that is less than was asked
+-- for.
 pub record ReadGives (end : ℕ) (bad : List BadRange) (pos asked : ℕ) (got : Got) : Type 0 where
   pub few : count_of got ≤ asked
   pub good : (x : ℕ) → pos ≤ x → x < pos + count_of got → is_bad bad x ≡ false

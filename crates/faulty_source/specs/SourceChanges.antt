@@ -23,7 +23,7 @@ pub record Keeps (old new : SourceState) : Type 0 where
   pub below : new.below ≡ old.below
   pub journals_below : IsTrue old.tells → AllGain old.journals_below new.journals_below
 
--- the same, and the input stays open or not, under its name, with no further open
+-- what no call changes, and the input stays open or not, under its name, with no further open
 pub record Stays (old new : SourceState) : Type 0 where
   pub keeps : Keeps old new
   pub input : new.is_open ≡ old.is_open

@@ -15,7 +15,7 @@ pub(crate) struct ExpectedReads {
 }
 
 impl ExpectedReads {
-    /// Nothing is expected. There is so much room to read ahead.
+    /// Nothing is expected. `room` is what is read ahead into.
     pub fn new(room: Vec<u8>) -> ExpectedReads
         ensures { result.ahead ≡ nothing_held (vec_len room) }
     {
@@ -64,9 +64,8 @@ impl ExpectedReads {
     }
 
     /// Fills a buffer with the bytes at a position: with those that were read ahead, or else by one read ahead of what
-    /// is expected from there. It leaves the buffer as it was where no more than the buffer takes may be read ahead, or
-    /// where that gives too few. The first read ahead that doesn't come whole is the last one. The reader stands at the
-    /// position.
+    /// is expected from there. It leaves the buffer as it was if no more than the buffer takes may be read ahead, or if
+    /// that gives too few. The first read ahead that doesn't come whole is the last one. The reader is at the position.
     pub fn give<R: Read>(&mut self, reader: &mut R, pos: u64, buf: &mut [u8]) -> bool
         requires place { pos + length buf.old < 2 ^ 63 }
         ensures held { holds self.old.ahead pos (length buf.old) ≡ true

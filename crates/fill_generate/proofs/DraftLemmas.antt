@@ -2,7 +2,7 @@
 use Rattle.std.proofs.Common.{◌≡◌, false, Option, Some, None, refl, sym, ap, ◌∙◌}
 use Rattle.crash_site.specs.SiteState.{SiteState}
 use Rattle.rescue_rules.specs.declared.stop.Stop.{Stop}
-use Rattle.rescue_rules.specs.declared.stop.Stop.TheVariants.{SourceLost, Site, LimitMet, NoMemory}
+use Rattle.rescue_rules.specs.declared.stop.Stop.TheVariants.{Site}
 use Rattle.rescue_rules.specs.declared.stop.RunEnd.{RunEnd}
 use Rattle.rescue_rules.specs.Setting.{Setting}
 use Rattle.rescue_rules.specs.Work.{end_of}
@@ -13,10 +13,8 @@ use Rattle.fill_generate.specs.Steps.{SavesLast, LastSaved, LastFailed, ClosesFi
 
 -- after a stop the last calls may be made
 pub may_close : (stop : Stop) (site : SiteState) → site.is_drafting ≡ drafting_at_stop stop → MayClose (Some stop) site
-may_close SourceLost site left = left
 may_close (Site call) site left = tt
-may_close (LimitMet limit) site left = left
-may_close NoMemory site left = left
+may_close _ site left = left
 
 left_last : (s : Setting) (m : Sweep) (stop : Option Stop) (end : RunEnd) (site site' : SiteState)
     → drafting_after (end_of stop) ≡ false → SavesLast s m stop end site site' → site'.is_drafting ≡ drafting_after end
@@ -32,9 +30,6 @@ left_whole s m end site site' closes = left_last s m None end site site' refl cl
 pub left_stopped : (s : Setting) (m : Sweep) (stop : Stop) (end : RunEnd) (site site' : SiteState)
     → site.is_drafting ≡ drafting_at_stop stop → ClosesFiles s m (Some stop) end site site'
     → site'.is_drafting ≡ drafting_after end
-left_stopped s m SourceLost end site site' left closes = left_last s m (Some SourceLost) end site site' refl closes
 left_stopped s m (Site call) end site site' left (is, same) =
     ap (λ (d : SiteState). d.is_drafting) same ∙ left ∙ ap drafting_after (sym is)
-left_stopped s m (LimitMet limit) end site site' left closes =
-    left_last s m (Some (LimitMet limit)) end site site' refl closes
-left_stopped s m NoMemory end site site' left closes = left_last s m (Some NoMemory) end site site' refl closes
+left_stopped s m e end site site' left closes = left_last s m (Some e) end site site' refl closes

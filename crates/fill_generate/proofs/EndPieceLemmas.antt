@@ -21,7 +21,6 @@ use Rattle.rescue_rules.specs.Said.{is_line_due}
 use Rattle.rescue_rules.specs.Step.{save_interval}
 use Rattle.rescue_rules.specs.Lines.{phase_front, report_text}
 use Rattle.rescue_rules.specs.Work.{end_of}
-use Rattle.rescue_core.specs.Closing.{end_of as core_end_of}
 use Rattle.sweep_rules.specs.Sweep.{Sweep, sweep_snapshot, sweep_end}
 use Rattle.sweep_rules.specs.SweepWork.{sweep_report}
 use Rattle.fill_generate.specs.declared.sweeping.Piece.{Piece}
@@ -103,15 +102,11 @@ last_is : (stop : Option Stop) (m : Sweep) (last : MapState) → ShowsLast stop 
 last_is None m last is = ap (showing m) is
 last_is (Some stop) m last is = ap (showing m) is
 
-end_is : (stop : Option Stop) → core_end_of stop ≡ end_of stop
-end_is None = refl
-end_is (Some stop) = refl
-
 pub saves_whole : {T : Type 0} (stop : Option Stop) (r : SweepState) (last : MapState) (end : RunEnd) (saved : T) (a c : SiteState)
-    → ShowsLast stop r.sweep.shown last → end ≡ core_end_of stop → Saves (calls_showing r last) false (Ok saved) a c
+    → ShowsLast stop r.sweep.shown last → end ≡ end_of stop → Saves (calls_showing r last) false (Ok saved) a c
     → SavesLast (setting_of r) r.sweep stop end a c
 saves_whole stop r last end saved a c shows is s =
-    LastSaved (is ∙ end_is stop)
+    LastSaved is
     (subst (λ (p : Snapshot). Makes (closing_calls (setting_of r) p) a c) (last_is stop r.sweep last shows) s.made) s.draft
 
 pub saves_broken : {T : Type 0} (stop : Option Stop) (r : SweepState) (last : MapState) (fault : SaveFault) (a c : SiteState)

@@ -47,7 +47,7 @@ pub record IsFound (r : SweepState) (p : Piece) : Type 0 where
   pub short : p.pos + p.len < 2 ^ 63
   pub placed : place (setting_of r) p.pos + p.len < 2 ^ 63
 
--- the same sweep, heard or not
+-- this sweep, heard or not
 abbrev pub heard_as : SweepState → Bool → SweepState
 heard_as r heard = record r { heard = heard }
 
@@ -107,9 +107,9 @@ pub data Halted (G : Swept → Type 0) (s : Setting) (w : Sweeper) (m m' : Sweep
       → BreaksAfter call (w.call event ∷ []) (save_of s (due_save w m event)) o.site o.site'
       → Halted G s w m m' heard heard' stop o
 
--- Pieces one after another, but for their calls.
-pub record SweepWent (G : Swept → Type 0) (s : Setting) (w : Sweeper) (m m' : Sweep) (heard heard' : Bool) (es : List Swept)
-    (o : Around) : Type 0 where
+-- Pieces one after another, without their calls.
+pub record SweepWent (G : Swept → Type 0) (s : Setting) (w : Sweeper) (m m' : Sweep) (heard heard' : Bool)
+    (es : List Swept) (o : Around) : Type 0 where
   pub run : IsSweep s w m es
   pub given : All G es
   pub state : m' ≡ after_pieces w m es
@@ -177,9 +177,9 @@ pub record StepsPastPiece (piece : Piece) (written after : ℕ) (r r' : SweepSta
       (moved (current_in r.mode) r.sweep piece.pos piece.len written after)) r'.heard
   pub says : SpeaksOn (out_pieces (line_after r r' after)) r.heard r'.heard o.console o.console'
 
--- the same with its save, if one is due, or with one that broke off
-pub record EndsPiece {T : Type 0} (result : Result T Stop) (piece : Piece) (written : ℕ) (r r' : SweepState) (o : Around)
-    : Type 0 where
+-- what follows a piece, with its save, if one is due, or with one that broke off
+pub record EndsPiece {T : Type 0} (result : Result T Stop) (piece : Piece) (written : ℕ) (r r' : SweepState)
+    (o : Around) : Type 0 where
   pub after : ℕ
   pub passes : StepsPastPiece piece written after r r' o
   pub made : OnOk result (Makes (save_after r r' after) o.site o.site')
@@ -196,7 +196,7 @@ pub record LooksUp (piece : Piece) (r r' : SweepState) (site site' : SiteState) 
   pub told : IsTrue site.tells
       → got ≡ take piece.len (drop (place (setting_of r) piece.pos) (bytes_of (image_in site)))
 
--- memory ran out in front of it, or its read failed
+-- memory ran out before it, or its read failed
 pub data LooksNot (stop : Stop) (piece : Piece) (r : SweepState) (site site' : SiteState) : Type 0 where
   NoRoom : stop ≡ NoMemory → site' ≡ site → LooksNot stop piece r site site'
   NoRead : stop ≡ Site ImageRead
@@ -209,7 +209,7 @@ abbrev pub IsLookedUp : Setting → SiteState → Swept → Type 0
 IsLookedUp s site e =
     IsTrue site.tells → IsApart s.names site → e.got ≡ take e.len (drop (place s e.pos) (bytes_of (image_in site)))
 
--- the same sweep that stands elsewhere, heard or not
+-- this sweep at another state, heard or not
 abbrev pub gone_to : (r r' : SweepState) → SweepState
 gone_to r r' = record r { sweep = r'.sweep; heard = r'.heard }
 

@@ -14,8 +14,8 @@ use Rattle.sweep_rules.specs.Sweep.{Sweep}
 use Rattle.fill_generate.specs.declared.mode.SweepMode.{SweepMode}
 use Rattle.fill_generate.specs.declared.sweeping.Tally.{Tally}
 
--- its settings, its domain, the names of its mapfile and of its draft, the command line, what kind of sweep it is and
--- where it stands; and whether it is heard: lines are asked for, and each was put
+-- a sweep's settings, its domain, the names of its mapfile and of its draft, the command line, what kind of sweep it is
+-- and where it stands; and whether it is heard: lines are asked for, and each was put
 pub record SweepState : Type 0 where
   pub settings : Settings
   pub domain : List Range
@@ -63,7 +63,7 @@ pub record IsSweeping (r : SweepState) : Type 0 where
   pub suits : Suits r.settings (covers r.domain) (length r.sweep.map)
   pub places : HasPlaces r.settings (covers r.domain)
 
--- the same sweep that stands elsewhere
+-- this sweep at another state
 abbrev pub standing : SweepState → Sweep → SweepState
 standing r m = record r { sweep = m }
 

@@ -45,13 +45,15 @@ pub record BreaksAfter (at : SiteCall) (made calls : List Call) (old new : SiteS
 -- The end of a sweep by these pieces, by its calls:
 pub data EndsSweep (s : Setting) (w : Sweeper) (m : Sweep) (es : List Swept) (end : RunEnd) (site site' : SiteState)
     : Type 0 where
-  -- it ended, and its last calls returned
+  -- the sweep ended, and its last calls returned
   Saved : (stop : Option Stop) → SweepEndsBy stop s w (after_pieces w m es) → end ≡ end_of stop
       → Makes (doing_calls s (deeds_of w m es) (sweep_end (is_none stop) (after_pieces w m es))) site site'
       → EndsSweep s w m es end site site'
-  -- it ended, and one of them failed
-  Unsaved : (stop : Option Stop) (call : SiteCall) → SweepEndsBy stop s w (after_pieces w m es) → end ≡ SaveFailed call stop
-      → BreaksAfter call (sweep_calls s w m es) (closing_calls s (sweep_end (is_none stop) (after_pieces w m es))) site site'
+  -- the sweep ended, and one of its last calls failed
+  Unsaved : (stop : Option Stop) (call : SiteCall) → SweepEndsBy stop s w (after_pieces w m es)
+      → end ≡ SaveFailed call stop
+      → BreaksAfter call (sweep_calls s w m es)
+      (closing_calls s (sweep_end (is_none stop) (after_pieces w m es))) site site'
       → EndsSweep s w m es end site site'
   -- the call of the next piece failed, which isn't one that was done
   Cut : (p q : ℕ) → IsPiece s w (after_pieces w m es) p q → end ≡ Stopped (Site (call_name (lost_call w p q)))
@@ -79,7 +81,7 @@ EndsAreTold = (s : Setting) (w : Sweeper) (m : Sweep) (es : List Swept) (end : R
 abbrev pub times_after : List Swept → List ℕ
 times_after es = map (λ e. e.after) es
 
--- A sweep from a state, by its pieces: the clock is read after each, and its lines are said.
+-- A sweep from a state, by its pieces: the clock is read after each, and its lines are put.
 pub record SweepTold (s : Setting) (w : Sweeper) (m : Sweep) (heard heard' : Bool) (end : RunEnd) (o : Around)
     : Type 0 where
   pub events : List Swept

@@ -76,7 +76,8 @@ fn fill_pieces<D: Site, K: Clock, C: Console, T: Tiles>(
     requires image { (D.state site.old).is_open ≡ true }
     requires no_draft { (D.state site.old).is_drafting ≡ false }
     ensures { (types : TypeSet) → sweeping.old.mode ≡ Fill types
-        → PiecesEnd (λ e. ⊤) result (filler (setting_of sweeping.old) types buffer.now) sweeping.old sweeping.new (record {
+        → PiecesEnd (λ e. ⊤) result (filler (setting_of sweeping.old) types buffer.now) sweeping.old sweeping.new
+        (record {
           site = D.state site.old;
           site' = D.state site.new;
           clock = K.state clock.old;

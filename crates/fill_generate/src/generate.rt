@@ -22,9 +22,9 @@ use rescue_core::closing::Closed;
 use rescue_rules::stop::Stop;
 
 /// Reads each piece of the positions that weren't tried from the output, from the lowest up, and marks as finished what
-/// the output holds of it. The buffer is a cluster long; after the call it holds any bytes. The map is saved
-/// meanwhile when it is due, and at the end. It stops when a call on the output or the mapfile fails; and for want of
-/// memory, in front of a piece whose marks the map has no room for.
+/// the output holds of it. The buffer is a cluster long; after the call it holds any bytes. The map is saved meanwhile
+/// when it is due, and at the end. It stops if a call on the output or the mapfile fails. For want of memory it stops
+/// before a piece whose marks the map has no room for.
 pub fn run_generate<D: Site, K: Clock, C: Console, T: Tiles>(
     job: Job<T>,
     buffer: &mut [u8],

@@ -14,7 +14,7 @@ pub struct Job<T: Tiles> {
     pub domain: Domain,
     /// The map that it begins with.
     pub tiles: T,
-    /// What the mapfile showed, if it was there: a sweep of the same kind goes on from its position.
+    /// What the mapfile showed, if it was there: a sweep of the same kind resumes from its position.
     pub loaded: Option<MapState>,
     pub names: Names,
     /// Its times are set when the map is saved.

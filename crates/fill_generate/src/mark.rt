@@ -18,9 +18,9 @@ pub(crate) fn room_for(sector: u64, pos: u64, end: u64) -> usize
     2 * (end / sector - pos / sector) as usize + 4
 }
 
-/// Marks as finished what an output holds of a piece that begins at a position: of each sector, where one of these bytes
-/// is other than zero, as many positions as there are bytes. They are cut at multiples of the sector; what is marked side
-/// by side is one mark.
+/// Marks as finished what an output holds of a piece that begins at a position: of each sector, where one of these
+/// bytes is other than zero, as many positions as there are bytes. They are cut at multiples of the sector; what is
+/// marked side by side is one mark.
 pub(crate) fn mark_held<T: Tiles>(tiles: &mut T, sector: u64, pos: u64, bytes: &[u8])
     requires sector { 0 < sector }
     requires sector_max { sector ≤ 1048576 }
@@ -57,7 +57,7 @@ fn mark_range<T: Tiles>(tiles: &mut T, from: u64, to: u64)
     }
 }
 
-/// Whether one of some bytes is other than zero. Mostly the first one tells; else all are looked at, many at a time.
+/// Whether one of some bytes is other than zero. Mostly the first one tells; else all are compared, many at a time.
 fn has_byte(bytes: &[u8]) -> bool
     ensures { result ≡ list_any is_byte bytes.now }
 {

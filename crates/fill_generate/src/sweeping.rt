@@ -61,7 +61,7 @@ pub(crate) struct Tally {
     pub due_at: u64,
     /// What a saved mapfile shows.
     pub shown: MapState,
-    /// The line that was said last after a piece, if one was.
+    /// The line that was put last after a piece, if there was one.
     pub said: Option<Said>,
 }
 
@@ -92,13 +92,14 @@ impl<T: Tiles> Model for Sweeping<T> {
 
     ghost Value = { SweepState };
 
-    ghost view = { λ r. state_at r.settings r.domain r.names r.heading.line (T.statuses r.tiles) r.mode r.tally r.heard };
+    ghost view = { λ r. state_at r.settings r.domain r.names r.heading.line (T.statuses r.tiles) r.mode r.tally
+        r.heard };
 
     ghost invariant = { λ r. IsSweeping (state_at r.settings r.domain r.names r.heading.line (T.statuses r.tiles) r.mode
         r.tally r.heard) × (r.heading.program ≡ Ddrescue) };
 }
 
-/// Where a sweep begins, which goes on from the position that a mapfile showed if that was of its kind.
+/// Where a sweep begins, which resumes from the position that a mapfile showed if that was of its kind.
 fn first_cursor(loaded: Option<MapState>, current: Current) -> u64
     ensures { result ≡ sweep_from current loaded }
 {
@@ -120,7 +121,7 @@ impl Tally {
     ghost use Rattle.sweep_rules.specs.Sweep.{Sweeper, sweep_over};
     ghost use Rattle.fill_generate.specs.SweepState.{sweep_at, moved};
 
-    /// That of a sweep which begins at this moment, and may go on from a state that a mapfile showed.
+    /// The tally of a sweep that begins at this moment, and may go on from a state that a mapfile showed.
     fn first(loaded: Option<MapState>, current: Current, moment: u64) -> Tally
         ensures { (w : Sweeper) (map : List Status) → w.current ≡ current
             → sweep_at map result ≡ sweep_over w map loaded moment }
@@ -229,7 +230,7 @@ impl<T: Tiles> Sweeping<T> {
         })
     }
 
-    /// Where a piece stands in the output.
+    /// Where a piece is in the output.
     pub fn place_of(&self, piece: Piece) -> u64
         requires { IsFound self.now piece }
         ensures { result ≡ place (setting_of self.now) piece.pos }

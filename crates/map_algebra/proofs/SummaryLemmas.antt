@@ -22,11 +22,8 @@ each_of f = 0 + f NonTried + f NonTrimmed + f NonScraped + f BadSector + f Finis
 -- a position has one status
 one_status : (inside : Bool) (s : Status) → each_of (λ u. one_if (inside && same s u)) ≡ one_if inside
 one_status true NonTried = refl
-one_status true NonTrimmed = refl
-one_status true NonScraped = refl
-one_status true BadSector = refl
-one_status true Finished = refl
 one_status false s = refl
+one_status true _ = refl
 
 added : (domain : ℕ → Bool) (statuses : List Status) (xs : List ℕ)
     → each_of (λ u. count_by (has_status domain statuses u) xs) ≡ count_by domain xs

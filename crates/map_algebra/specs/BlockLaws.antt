@@ -17,8 +17,8 @@ ListedAre =
     × ((k : ℕ) → Contains (listed w) k
     ↔ ((x : ℕ) × (x < length w.statuses) × (has_wanted_type w x ≡ true) × (block_of w.shape x ≡ k)))
 
--- Who takes the first listed number from the least one on, and goes on from the number after it until there is none,
--- has taken the listed numbers.
+-- Who takes the first listed number from the least one on, and then the first from the number after it, until there is
+-- none, has taken the listed numbers.
 pub record ListingGoesOn (w : Wanted) : Type 0 where
   pub begins : listed_from w 0 ≡ listed w
   pub goes_on : (least k : ℕ) → IsFirst (IsListed w) least k → listed_from w least ≡ k ∷ listed_from w (k + 1)
@@ -32,7 +32,7 @@ ListingsGoOn = (w : Wanted) → ListingGoesOn w
 abbrev pub StandsInOne : Type 0
 StandsInOne = (s : Shape) (k x : ℕ) → s.ipos ≤ x → (is_in_block s k x ≡ true) ↔ (k ≡ block_of s x)
 
--- A created map has each listed block: the positions of the domain that stand in one have the one status, its other
+-- A created map has each listed block: the positions of the domain that lie in one have the one status, its other
 -- positions the other one, and what isn't in the domain is non-tried.
 pub record CreatedHas (s : Shape) (ks : List ℕ) (domain : ℕ → Bool) (listed rest : Status) (end : ℕ) : Type 0 where
   pub blocks : (k x : ℕ) → x < end → domain x ≡ true → Contains ks k → is_in_block s k x ≡ true

@@ -11,11 +11,11 @@ pub record IsShape (s : Shape) : Type 0 where
   pub from : s.ipos < 2 ^ 63
   pub to : s.opos < 2 ^ 63
 
--- the number of the block in which a position stands in the output
+-- the number of the block that a position lies in, in the output
 abbrev pub block_of : Shape → ℕ → ℕ
 block_of s x = place_from s.ipos s.opos x / s.size
 
--- a position stands in a block; none in front of the input position does
+-- a position lies in a block; none before the input position does
 abbrev pub is_in_block : Shape → (k x : ℕ) → Bool
 is_in_block s k x = nat_le s.ipos x && nat_eq (block_of s x) k
 
@@ -27,7 +27,7 @@ begin_of s k = s.ipos + (k * s.size - s.opos)
 abbrev pub end_of : Shape → (k : ℕ) → ℕ
 end_of s k = s.ipos + (k * s.size + s.size - s.opos)
 
--- a position stands in one of these blocks
+-- a position lies in one of these blocks
 abbrev pub is_in_blocks : Shape → List ℕ → ℕ → Bool
 is_in_blocks s ks x = list_any (λ k. is_in_block s k x) ks
 

@@ -23,12 +23,12 @@ is_typed types domain statuses x = domain x && has_type types (status_at statuse
 abbrev pub has_wanted_type : Wanted → ℕ → Bool
 has_wanted_type w x = is_typed w.types w.domain w.statuses x
 
--- a number is listed where some position of the map is wanted and stands in its block
+-- a number is listed if some position of the map is wanted and lies in its block
 abbrev pub is_listed : Wanted → ℕ → Bool
 is_listed w k =
     list_any (λ x. has_wanted_type w x && nat_eq (block_of w.shape x) k) (range_with_len 0 (length w.statuses))
 
--- the same as a fact
+-- a number is listed, as a fact
 abbrev pub IsListed : Wanted → ℕ → Type 0
 IsListed w k = is_listed w k ≡ true
 
@@ -36,7 +36,7 @@ IsListed w k = is_listed w k ≡ true
 abbrev pub listed : Wanted → List ℕ
 listed w = filter (is_listed w) (range_with_len 0 (block_of w.shape (length w.statuses) + 1))
 
--- those of them that are a number or greater
+-- the numbers that are listed and are this number or greater
 abbrev pub listed_from : Wanted → (least : ℕ) → List ℕ
 listed_from w least =
     filter (λ k. nat_le least k && is_listed w k) (range_with_len 0 (block_of w.shape (length w.statuses) + 1))

@@ -25,7 +25,7 @@ number_in s [] = None
 number_in s (f ∷ []) = option_and_then (in_range s) (result_ok (number f))
 number_in s (f ∷ g ∷ more) = None
 
--- a number in front of others, or the line that has none
+-- a number before others, or the line that has none
 abbrev pub in_front_of : (line : ℕ) → Option ℕ → Result (List ℕ) ℕ → Result (List ℕ) ℕ
 in_front_of line None rest = Err line
 in_front_of line (Some k) (Ok ks) = Ok (k ∷ ks)

@@ -1,8 +1,8 @@
 //! What the definitions on blocks mean.
 ghost use Rattle.map_algebra.specs.BlockLaws.{CreatedHaveBlocks, ListedAre, ListingsGoOn, StandsInOne};
 
-/// The listed numbers are those of the blocks in which wanted positions stand, each position stands in one, and a
-/// listing gives them in order.
+/// The listed numbers are those of the blocks that wanted positions lie in, each position lies in one, and a listing
+/// gives them in order.
 pub fn listed_numbers_are_blocks()
     ensures listed { ListedAre }
     ensures in_order { ListingsGoOn }

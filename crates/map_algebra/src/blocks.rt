@@ -6,7 +6,7 @@ ghost use Rattle.map_algebra.specs.Numbers.{IsInRange};
 use crate::shape::Shape;
 use block_list::block::Range;
 
-/// The positions of a block: none where all its places lie in front of that of the first position.
+/// The positions of a block: none if all its places are before that of the first position.
 pub(crate) fn positions_of(number: u64, shape: Shape) -> Range
     requires shape { IsShape shape }
     requires limit { IsInRange shape number }

@@ -16,7 +16,7 @@ use block_list::tiles::{NoMemory, Tiles};
 use rescue_domain::domain::Domain;
 use std::alloc::Global;
 
-/// The same numbers in ascending order.
+/// These numbers in ascending order.
 fn sorted(alloc: Global, numbers: &[u64]) -> Result<Vec<u64>, NoMemory>
     ensures order { IfOk result (λ sorted. IsNonDecreasing sorted.items) }
     ensures same { IfOk result (λ sorted. IsPermutation numbers.now sorted.items) }
@@ -48,8 +48,8 @@ fn marks(alloc: Global, ascending: &[u64], shape: Shape, end: u64) -> Result<Pla
     Ok(marks)
 }
 
-/// The marks of the positions below an end, by the numbers of the blocks in any order. Numbers that ascend are read where
-/// they stand.
+/// The marks of the positions below an end, by the numbers of the blocks in any order. Numbers that ascend are read
+/// where they stand.
 fn marks_of(alloc: Global, numbers: &[u64], shape: Shape, end: u64) -> Result<PlainTiles, NoMemory>
     requires shape { IsShape shape }
     requires limits { All (IsInRange shape) numbers.now }
@@ -103,10 +103,10 @@ fn created(
     Ok(map)
 }
 
-/// The map of the positions below an end: those of a domain have one status where they stand in a listed block, and
-/// another elsewhere, and the others are non-tried. Numbers may come in any order and more than once; it takes time
-/// n log n in them, and linear time where they ascend. `NoMemory` says that the memory for the map, or for the numbers
-/// once more where they don't ascend, wasn't there.
+/// The map of the positions below an end: those of a domain have one status if they lie in a listed block, and another
+/// elsewhere, and the others are non-tried. Numbers may come in any order and more than once; it takes time n log n in
+/// them, and linear time where they ascend. `NoMemory` says that the memory for the map, or for the numbers once more
+/// where they don't ascend, wasn't there.
 pub fn create(
     alloc: Global,
     numbers: &[u64],

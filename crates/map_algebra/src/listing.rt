@@ -38,8 +38,8 @@ impl Model for Listing {
 }
 
 impl Listing {
-    /// The numbers of the blocks in which a position of these types stands. Blocks have `size` bytes in the output,
-    /// where the position `ipos` stands at the place `opos`.
+    /// The numbers of the blocks that a position of these types lies in. Blocks have `size` bytes in the output, where
+    /// the position `ipos` is at the place `opos`.
     pub fn begin(types: TypeSet, ipos: u64, opos: u64, size: u64) -> Listing
         requires { 0 < size }
         ensures { result ≡ record {
@@ -78,7 +78,7 @@ impl Listing {
     }
 }
 
-/// The first position that can stand in the block with a number or in a later one.
+/// The first position that can lie in the block with a number or in a later one.
 fn first_of(number: u64, shape: Shape) -> u64
     requires { 0 < shape.size }
     ensures { (x : ℕ) → x < 2 ^ 63 → shape.ipos ≤ x → place_from shape.ipos shape.opos x < 2 ^ 63

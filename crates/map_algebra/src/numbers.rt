@@ -17,7 +17,7 @@ pub enum NumberError {
     /// The first line that isn't blank and isn't one number of a block that ends in time.
     #[error("BadNumber")]
     BadNumber { line: usize },
-    /// Memory wasn't there.
+    /// There wasn't enough memory.
     #[error("NoMemory")]
     NoMemory,
 }

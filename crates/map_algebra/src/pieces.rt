@@ -54,7 +54,7 @@ impl Nearby {
     }
 }
 
-/// The same for two maps.
+/// Where to look first, in each of two maps and in a domain.
 #[derive(Clone, Copy)]
 pub(crate) struct PairNearby {
     first: Nearby,
@@ -112,7 +112,8 @@ pub(crate) fn piece_at<T: Tiles>(
     }
 }
 
-/// The same of two maps.
+/// The positions from one on, below a limit, that have one status in each of two maps, all of them in a domain, or
+/// none.
 pub(crate) fn pair_at<T: Tiles, U: Tiles>(
     first: &T,
     second: &U,

@@ -1,9 +1,9 @@
-//! Where blocks stand in the output.
+//! Where blocks are in the output.
 
-/// Blocks of `size` bytes each in the output, in which the position `ipos` stands at the place `opos`.
+/// Blocks of `size` bytes each in the output, in which the position `ipos` is at the place `opos`.
 #[derive(Clone, Copy, Debug, PartialEq, Eq)]
 pub struct Shape {
-    /// The first position that stands in the output.
+    /// The first position that has a place in the output.
     pub ipos: u64,
     /// Its place there.
     pub opos: u64,

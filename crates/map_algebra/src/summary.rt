@@ -137,7 +137,7 @@ fn is_one(status: Status, statuses: &[Status]) -> bool
     statuses.iter().any(|s| symbol == s.symbol())
 }
 
-/// A count with so many more positions, if they count. They begin an area, unless one is begun already.
+/// A count with `size` more positions, if they count. They begin an area, unless one is begun already.
 fn counted(count: Count, size: u64, counts: bool, begun: bool) -> Count
     requires bytes { count.bytes + size < 2 ^ 64 }
     requires areas { count.areas + 1 < 2 ^ 64 }

@@ -10,7 +10,7 @@ use Rattle.mapfile_text.specs.declared.heading.Program.{Program}
 use Rattle.mapfile_text.specs.declared.heading.Program.TheVariants.{Ddrescue, Ddrescuelog}
 use Rattle.mapfile_text.specs.declared.state.MapState.{MapState}
 use Rattle.mapfile_text.specs.declared.text_position.TextPart.{TextPart}
-use Rattle.mapfile_text.specs.declared.text_position.TextPart.TheVariants.{Program as ProgramLine, Label, Words, Newline, Start, Now, StateColumns, State, Columns, Block as BlockLine}
+use Rattle.mapfile_text.specs.declared.text_position.TextPart.TheVariants.{Program as ProgramLine, Block as BlockLine}
 use Rattle.mapfile_text.specs.declared.text_position.TextPosition.{TextPosition}
 use Rattle.mapfile_text.specs.HeadingLines.{HeadingLines}
 use Rattle.mapfile_text.specs.Printed.{printed, block_line, time_lines, program_line, command_heading, heading_text, state_line, state_text, with_newline, shown_byte}
@@ -143,28 +143,12 @@ pub not_there : {A : Type 0} → (b : Bool) → b ≡ false → (A → IsTrue b)
 not_there b e h a = false≢true (sym e ∙ h a)
 
 pub heading_number : (p : TextPart) → ((i : ℕ) → p ≡ BlockLine i → ⊥) → number_of p < 9
-heading_number ProgramLine h = omega arith
-heading_number Label h = omega arith
-heading_number Words h = omega arith
-heading_number Newline h = omega arith
-heading_number Start h = omega arith
-heading_number Now h = omega arith
-heading_number StateColumns h = omega arith
-heading_number State h = omega arith
-heading_number Columns h = omega arith
 heading_number (BlockLine i) h = absurd (h i refl)
+heading_number _ h = omega arith
 
 heading_position : (p : TextPart) → number_of p < 9 → position_of p ≡ 0
-heading_position ProgramLine l = refl
-heading_position Label l = refl
-heading_position Words l = refl
-heading_position Newline l = refl
-heading_position Start l = refl
-heading_position Now l = refl
-heading_position StateColumns l = refl
-heading_position State l = refl
-heading_position Columns l = refl
 heading_position (BlockLine pos) l = absurd (omega arith)
+heading_position _ l = refl
 
 -- after a part of the heading are the parts from the next one on
 pub heading_goes_on : (h : HeadingLines) (s : MapState) (statuses : List Status) (part next : TextPart) (line : List ℕ)

@@ -9,10 +9,10 @@ use Rattle.std.proofs.lemmas.Fmt.{digits_is_IsNumeral, decimal_is_IsNumeral, fir
 use Rattle.size_suffixes.specs.Number.{base_of, digits_of_text}
 use Rattle.size_suffixes.proofs.Digits.{number_of_digits, decimal_number}
 use Rattle.block_list.specs.declared.status.Status.{Status}
-use Rattle.block_list.specs.declared.status.Status.TheVariants.{NonTried, NonTrimmed, NonScraped, BadSector, Finished}
+use Rattle.block_list.specs.declared.status.Status.TheVariants.{NonTried}
 use Rattle.block_list.specs.Status.{symbol}
 use Rattle.mapfile_text.specs.declared.state.Current.{Current}
-use Rattle.mapfile_text.specs.declared.state.Current.TheVariants.{Copying, Trimming, Scraping, Retrying, Filling, Generating, Finished as Done}
+use Rattle.mapfile_text.specs.declared.state.Current.TheVariants.{Copying}
 use Rattle.mapfile_text.specs.Fields.{numeral, numeral_by, current_of_symbol, begins_with_digit, above_zero, pass_of}
 use Rattle.mapfile_text.specs.Printed.{hexadecimal, current_symbol}
 
@@ -59,25 +59,12 @@ pass_is_read n some small =
 
 pub current_is_read : (c : Current) → current_of_symbol (current_symbol c) ≡ Some c
 current_is_read Copying = refl
-current_is_read Trimming = refl
-current_is_read Scraping = refl
-current_is_read Retrying = refl
-current_is_read Filling = refl
-current_is_read Generating = refl
-current_is_read Done = refl
+current_is_read _ = refl
 
 pub symbol_from : (s : Status) → 33 ≤ symbol s
 symbol_from NonTried = omega arith
-symbol_from NonTrimmed = omega arith
-symbol_from NonScraped = omega arith
-symbol_from BadSector = omega arith
-symbol_from Finished = omega arith
+symbol_from _ = omega arith
 
 pub current_symbol_from : (c : Current) → 33 ≤ current_symbol c
 current_symbol_from Copying = omega arith
-current_symbol_from Trimming = omega arith
-current_symbol_from Scraping = omega arith
-current_symbol_from Retrying = omega arith
-current_symbol_from Filling = omega arith
-current_symbol_from Generating = omega arith
-current_symbol_from Done = omega arith
+current_symbol_from _ = omega arith

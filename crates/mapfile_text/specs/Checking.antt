@@ -8,8 +8,8 @@ use Rattle.mapfile_text.specs.declared.check.MapShape.{MapShape}
 use Rattle.mapfile_text.specs.Lines.{Line, said_lines}
 use Rattle.mapfile_text.specs.MapText.{text_limit, Lists, IsMapText, MapFault}
 
--- a text is a map of this shape: its state, first position and whether a block is listed are those of the reading, its
--- end is the number of positions, and its lines are those after the status line that say something
+-- A text is a map of this shape: its state, first position and whether a block is listed are those of the reading. Its
+-- end is the number of positions, and its lines are those after the status line that say something.
 pub record IsMapShape (text : List ℕ) (mode : Mode) (shape : MapShape) : Type 0 where
   pub statuses : List Status
   pub reads : IsMapText text mode shape.state shape.first shape.listed statuses

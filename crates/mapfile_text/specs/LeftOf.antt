@@ -23,8 +23,8 @@ abbrev pub now_line : Program → ℕ → List ℕ
 now_line Ddrescue now_s = with_newline (codes "# Current time: " ++ decimal now_s)
 now_line Ddrescuelog now_s = []
 
--- the parts of the text in front of the blocks: a line each, but for the one on the command line, which may have any
--- length: it is three
+-- the parts of the text before the blocks: a line each, except the line on the command line, which may have any length
+-- and is three
 abbrev pub heading_parts : HeadingLines → MapState → List (List ℕ)
 heading_parts h s =
     program_line h.program
@@ -33,7 +33,7 @@ heading_parts h s =
     ∷ with_newline (codes "# current_pos  current_status  current_pass") ∷ state_line s
     ∷ with_newline (codes "#      pos        size  status") ∷ []
 
--- how many of them stand in front of a part: all nine where it is a line of the map
+-- how many of them come before a part: all nine if it is a line of the map
 abbrev pub number_of : TextPart → ℕ
 number_of ProgramLine = 0
 number_of Label = 1

@@ -17,7 +17,7 @@ use Rattle.mapfile_text.specs.HeadingLines.{HeadingLines}
 abbrev pub with_newline : List ℕ → List ℕ
 with_newline text = text ++ 10 ∷ []
 
--- digits with zeros in front of them, so that they are at least eight
+-- digits with zeros before them, so that they are at least eight
 abbrev pub at_least_eight : List ℕ → List ℕ
 at_least_eight ds = replicate (8 - length ds) 48 ++ ds
 
@@ -36,7 +36,8 @@ program_name Ddrescuelog = codes "ddrescuelog"
 -- the lines on the times, which ddrescue alone prints
 abbrev pub time_lines : Program → ℕ → ℕ → List ℕ
 time_lines Ddrescue start_s now_s =
-    with_newline (codes "# Start time:   " ++ decimal start_s) ++ with_newline (codes "# Current time: " ++ decimal now_s)
+    with_newline (codes "# Start time:   " ++ decimal start_s)
+    ++ with_newline (codes "# Current time: " ++ decimal now_s)
 time_lines Ddrescuelog start_s now_s = []
 
 -- the line on the program that printed the mapfile
@@ -63,7 +64,8 @@ current_symbol Finished = 43
 -- the position, five spaces, the current status, fifteen spaces, the pass
 abbrev pub state_line : MapState → List ℕ
 state_line s =
-    with_newline (hexadecimal s.pos ++ replicate 5 32 ++ current_symbol s.current ∷ [] ++ replicate 15 32 ++ decimal s.pass)
+    with_newline
+    (hexadecimal s.pos ++ replicate 5 32 ++ current_symbol s.current ∷ [] ++ replicate 15 32 ++ decimal s.pass)
 
 -- the state's line, below one with the names of its columns
 abbrev pub state_text : MapState → List ℕ
@@ -71,7 +73,8 @@ state_text s = with_newline (codes "# current_pos  current_status  current_pass"
 
 -- one line of a stretch: position, size and status, two spaces apart
 abbrev pub block_line : Block → List ℕ
-block_line b = with_newline (hexadecimal b.pos ++ codes "  " ++ hexadecimal b.size ++ codes "  " ++ symbol b.status ∷ [])
+block_line b =
+    with_newline (hexadecimal b.pos ++ codes "  " ++ hexadecimal b.size ++ codes "  " ++ symbol b.status ∷ [])
 
 -- the text of a mapfile: the heading, the state, and a line for each maximal stretch of equal statuses
 abbrev pub printed : HeadingLines → MapState → List Status → List ℕ

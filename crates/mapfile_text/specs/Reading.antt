@@ -1,4 +1,4 @@
--- How a text is read: numbers cut at a limit, and what fills the places in front of a block.
+-- How a text is read: numbers cut at a limit, and what fills the places before a block.
 use Rattle.std.specs.Prelude.{ℕ, ◌-◌, ◌^◌, min, Bool, true, false, List, [], replicate}
 use Rattle.block_list.specs.declared.status.Status.{Status}
 use Rattle.block_list.specs.declared.status.Status.TheVariants.{NonTried}
@@ -25,8 +25,7 @@ abbrev pub gap_of : Mode → (end pos : ℕ) → List Status
 gap_of Tight end pos = []
 gap_of (Loose status) end pos = replicate (pos - end) status
 
--- what is put in front of a block: non-tried positions in front of the first one, and in front of another what stands
--- between
+-- what is put before a block: non-tried positions before the first one, and before another what lies between
 abbrev pub padding : Mode → (listed : Bool) → (end pos : ℕ) → List Status
 padding mode true end pos = gap_of mode end pos
 padding mode false end pos = replicate pos NonTried

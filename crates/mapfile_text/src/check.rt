@@ -12,10 +12,10 @@ use crate::read::{MapError, Mode, TEXT_LIMIT};
 use crate::state::MapState;
 use block_list::block::Block;
 
-/// What a mapfile says but for its blocks.
+/// What a mapfile says, except its blocks.
 #[derive(Clone, Copy, Debug, PartialEq, Eq)]
 pub struct MapShape {
-    /// Where the run that saved it stood.
+    /// How far the run that saved it had come.
     pub state: MapState,
     /// The position of the first block, 0 where none is listed.
     pub first: u64,
@@ -40,7 +40,8 @@ impl MapShape {
         }) }
         ensures gap { OnOk result (IsTrue self.old.listed
             → IsGap mode self.old.end block.pos (gap_of mode self.old.end block.pos)) }
-        ensures fault { IfErr result (λ e. IsTrue self.old.listed × PlaceFault mode self.old.end (line_of line.now) block e) }
+        ensures fault { IfErr result (λ e.
+            IsTrue self.old.listed × PlaceFault mode self.old.end (line_of line.now) block e) }
     {
         if self.listed {
             check_place(mode, self.end, line, block)?;

@@ -26,14 +26,14 @@ pub const TEXT_LIMIT: usize = 268_435_456;
 pub enum Mode {
     /// Each block begins where the one before ends.
     Tight,
-    /// A block may begin later, and the gap in front of it gets this status.
+    /// A block may begin later, and the gap before it gets this status.
     Loose(Status),
 }
 
 /// A mapfile that was read.
 #[derive(Drop)]
 pub struct ReadMap {
-    /// Where the run that saved it stood.
+    /// How far the run that saved it had come.
     pub state: MapState,
     /// The position of the first block, 0 where none is listed.
     pub first: u64,
@@ -58,7 +58,7 @@ pub enum MapError {
     /// A block begins past the end of the one before.
     #[error("Gap")]
     Gap { line: usize },
-    /// A block begins in front of the end of the one before.
+    /// A block begins before the end of the one before.
     #[error("Overlap")]
     Overlap { line: usize },
     /// A position, a size or a block's end is 2^63 or more, or a pass 2^32 or more.
@@ -67,7 +67,7 @@ pub enum MapError {
     /// The text has more than 268,435,456 bytes.
     #[error("TooLong")]
     TooLong,
-    /// Memory wasn't there.
+    /// There wasn't enough memory.
     #[error("NoMemory")]
     NoMemory,
 }
@@ -175,7 +175,8 @@ fn read_blocks(
     requires listed { map.listed ≡ false }
     requires statuses { map.tiles.statuses ≡ [] }
     ensures state { IfOk result (λ done. done.state ≡ map.state) }
-    ensures lists { IfOk result (λ done. Lists mode (no_comments lines.entry) done.first done.listed done.tiles.statuses) }
+    ensures lists { IfOk result (λ done.
+        Lists mode (no_comments lines.entry) done.first done.listed done.tiles.statuses) }
     ensures fault { IfErr result (λ e. (e ≡ OutOfMemory) ⊎ ListsFault mode (no_comments lines.entry) e) }
 {
     while let Some(mut line) = lines.first_said() {

@@ -1,8 +1,8 @@
-//! Where a printer stands in the text of a mapfile.
+//! How far a printer is in the text of a mapfile.
 ghost use Rattle.std.specs.Prelude.{◌≡◌, ◌+◌, ◌-◌, ◌<◌, ◌≤◌};
 ghost use Rattle.mapfile_text.specs.LeftOf.{number_of, position_of};
 
-/// A part of the text: a line, but for the one on the command line, which is three.
+/// A part of the text. Each part is a line, except the line on the command line, which is three parts.
 #[derive(Clone, Copy)]
 pub(crate) enum TextPart {
     Program,

@@ -9,7 +9,7 @@ use Rattle.memory_console.specs.declared.memory.MemoryChannel.{MemoryChannel}
 use Rattle.memory_console.specs.declared.memory.MemoryConsole.{MemoryConsole}
 use Rattle.memory_console.specs.declared.memory.MemoryFeed.{MemoryFeed}
 
--- a clock in memory tells the readings that it made, until their count stands at the end of its type
+-- a clock in memory tells the readings that it made, until their count is at the end of its type
 abbrev pub state_of_clock : MemoryClock → ClockState
 state_of_clock c = record {
   tells = nat_lt c.made (2 ^ 64 - 1);

@@ -147,7 +147,7 @@ impl MemoryConsole {
         self.plan.fail_call(number).map_err(|_| NoMemory)
     }
 
-    /// What stands on a channel.
+    /// What is on a channel.
     pub fn text(&self, channel: Channel) -> &[u8]
         ensures { result.now ≡ (channel_of channel (state_of_console self.now)).text }
     {

@@ -8,7 +8,7 @@ use Rattle.crash_site.specs.Folder.{Folder}
 use Rattle.crash_site.specs.Disk.{Disk, at_rest, entered}
 use Rattle.crash_site.specs.Left.{until}
 
--- the byte that stands where any may
+-- the byte that is found where any may be
 abbrev pub any_byte : ℕ
 any_byte = 90
 

@@ -44,7 +44,7 @@ pub record HasSpoilt (was : File) (ranges : List (ℕ × ℕ)) (found : File) : 
       → slice_index_or found.bytes x 0 ≡ slice_index_or was.bytes x 0
   pub regular : IsTrue was.regular → IsTrue found.regular
 
--- the same of what stands under a name
+-- a file, if there is one, with other bytes in these ranges, and in them alone
 abbrev pub IsSpoilt : Option File → List (ℕ × ℕ) → Option File → Type 0
 IsSpoilt None ranges None = ⊤
 IsSpoilt None ranges (Some found) = ⊥
@@ -60,13 +60,13 @@ GarbageIsUnsynced = (start : Folder) (calls : List Entry) (k : ℕ) (n : List �
 abbrev pub IsUnsure : Version → ℕ → Type 0
 IsUnsure v x = IsLoose v.loose x ⊎ (length (bytes_of v.file) ≤ x)
 
--- a file is found that is this version but for what isn't sure, and these ranges are what isn't sure in it
+-- a file is found that is this version except for what isn't sure, and these ranges are what isn't sure in it
 pub record IsUnsyncedOf (v : Version) (was : Option File) (ranges : List (ℕ × ℕ)) : Type 0 where
   pub matches : MatchesFile v.file v.loose was
   pub all : (x : ℕ) → x < length (bytes_of was) → IsUnsure v x → IsLoose ranges x
   pub alone : (x : ℕ) → x < length (bytes_of was) → IsLoose ranges x → IsUnsure v x
 
--- the same of one of these versions
+-- a file is found that is one of these versions except for what isn't sure, and these ranges are what isn't sure in it
 abbrev pub IsUnsyncedOfOne : List Version → Option File → List (ℕ × ℕ) → Type 0
 IsUnsyncedOfOne [] was ranges = ⊥
 IsUnsyncedOfOne (v ∷ vs) was ranges = IsUnsyncedOf v was ranges ⊎ IsUnsyncedOfOne vs was ranges
@@ -76,7 +76,7 @@ abbrev pub IsWholeUnsynced : Option File → List (ℕ × ℕ) → Type 0
 IsWholeUnsynced was ranges = (x : ℕ) → x < length (bytes_of was) → IsLoose ranges x
 
 -- What a stop may show decides which ranges of a file aren't synced: those of the version found, or all of a text in
--- whose place any may stand. Of a name under which a draft was kept nothing is said.
+-- whose place any may stand. A name under which a draft was kept may show anything.
 abbrev pub MayBeUnsynced : Showing → Option File → List (ℕ × ℕ) → Type 0
 MayBeUnsynced s was ranges = IsTrue s.anything
     ⊎ ((IsTrue s.any_text × IsWholeUnsynced was ranges) ⊎ IsUnsyncedOfOne (s.durable ∷ s.since) was ranges)

@@ -13,7 +13,7 @@ use Rattle.memory_site.specs.FilesLeft.{begins_at, sure_name, left_entry}
 abbrev pub with_ranges : List ℕ → List (ℕ × ℕ) → (List ℕ → List (ℕ × ℕ)) → List ℕ → List (ℕ × ℕ)
 with_ranges name ranges unsynced n = if bytes_eq n name then ranges else unsynced n
 
--- the same where there is a name
+-- ranges by name, with others under one, if there is a name
 abbrev pub ranges_at : Option (List ℕ) → (List ℕ → List (ℕ × ℕ)) → (List ℕ → List (ℕ × ℕ)) → List ℕ → List (ℕ × ℕ)
 ranges_at None ranges unsynced = unsynced
 ranges_at (Some name) ranges unsynced = with_ranges name (ranges name) unsynced
@@ -62,14 +62,14 @@ part_unsynced (draft_publish name) reads firm files unsynced =
 part_unsynced (map_settle name) reads firm files unsynced = unsynced
 part_unsynced (map_remove name) reads firm files unsynced = with_ranges name [] unsynced
 
--- the same of a call: a sync or a settle that returned Ok leaves none
+-- the ranges that aren't synced after a call: a sync or a settle that returned Ok leaves none
 abbrev pub entry_unsynced : Disk → Entry → (files : List ℕ → Option File) → (List ℕ → List (ℕ × ℕ)) → List ℕ
     → List (ℕ × ℕ)
 entry_unsynced d (Done call) files unsynced =
     ranges_at (sure_name call d.reads) (λ n. []) (part_unsynced call d.reads d.firm files unsynced)
 entry_unsynced d (Failed call) files unsynced = part_unsynced call d.reads d.firm files unsynced
 
--- the same of the calls of a record
+-- the ranges that aren't synced after the calls of a record
 abbrev pub along_unsynced : Disk → (files : List ℕ → Option File) → (List ℕ → List (ℕ × ℕ)) → List Entry → List ℕ
     → List (ℕ × ℕ)
 along_unsynced d files unsynced [] = unsynced

@@ -31,7 +31,7 @@ fn first_bad(bad: &[BadRange], pos: u64, end: u64) -> u64
     stop
 }
 
-/// What a read at a position gives of so many bytes, of an input that ends here.
+/// What a read of `asked` bytes at a position gives, of an input that ends here.
 fn given(input_end: u64, bad: &[BadRange], pos: u64, asked: usize) -> Got
     requires { pos + asked < 2 ^ 63 }
     ensures { ReadGives input_end bad.now pos asked result }
@@ -82,9 +82,9 @@ fn end_read(bad: &mut [BadRange], pos: u64, asked: usize, got: Got)
 /// The greatest length of a name under which an input opens, in bytes, as on many file systems.
 const NAME_LIMIT: usize = 4096;
 
-/// An input in memory. It opens under any name of at most 4,096 bytes but `missing`; its reads fail at bad ranges, and
-/// meet an end where its bytes end or before; a call whose number was handed to `fail_call` fails; and once its journal
-/// is full the next read is a loss.
+/// An input in memory. It opens under any name of at most 4,096 bytes, except `missing`. Its reads fail at bad ranges,
+/// and meet an end where its bytes end or before. A call whose number was handed to `fail_call` fails. Once its journal
+/// is full, the next read is a loss.
 #[derive(Drop)]
 pub struct MemorySource {
     bytes: Vec<u8>,

@@ -1,10 +1,10 @@
 -- By any grammar words ask for one thing, or are refused for one fault.
-use Rattle.std.proofs.Common.{◌≡◌, ◌↔◌, ◌⊎◌, inl, inr, ◌≤◌, ℕ, Bool, true, false, List, length, All, Ok, Err, refl, sym, ◌∙◌, ap}
+use Rattle.std.proofs.Common.{◌≡◌, ◌↔◌, ◌⊎◌, inl, inr, ◌≤◌, ℕ, true, false, List, length, All, Ok, Err, refl, sym, ◌∙◌, ap}
 use Rattle.std.proofs.lemmas.List.Elements.{All-weaker}
 use Rattle.option_words.specs.declared.row.Row.{Row}
 use Rattle.option_words.specs.declared.reading.Item.{Item}
 use Rattle.option_words.specs.declared.fault.WordFault.{WordFault}
-use Rattle.option_words.specs.declared.fault.WordFault.TheVariants.{UnknownShort, UnknownLong, Ambiguous, MissingValue, UnwantedValue, NoMemory}
+use Rattle.option_words.specs.declared.fault.WordFault.TheVariants.{NoMemory}
 use Rattle.option_words.specs.declared.fault.UsageFault.{UsageFault}
 use Rattle.option_words.specs.declared.fault.UsageFault.TheVariants.{Word}
 use Rattle.option_words.specs.Reading.{IsReading, WordFaultAt}
@@ -122,16 +122,9 @@ module _ {C : Type 0} (g : Grammar C) (words : List (List ℕ)) where
   -- a fault of words is their refusal, but for want of memory
   pub unread_is : (rows : List Row) (f : WordFault) → AreOptionsOf g rows → (f ≡ NoMemory) ⊎ WordFaultAt rows words f
       → IsErrorBy g words (unread_error f)
-  unread_is rows (UnknownShort n c) o w =
-      elim w [ inl e ↦ absurd (cc) | inr at ↦ unread_refused rows (UnknownShort n c) o at ]
-  unread_is rows (UnknownLong n) o w =
-      elim w [ inl e ↦ absurd (cc) | inr at ↦ unread_refused rows (UnknownLong n) o at ]
-  unread_is rows (Ambiguous n) o w = elim w [ inl e ↦ absurd (cc) | inr at ↦ unread_refused rows (Ambiguous n) o at ]
-  unread_is rows (MissingValue n) o w =
-      elim w [ inl e ↦ absurd (cc) | inr at ↦ unread_refused rows (MissingValue n) o at ]
-  unread_is rows (UnwantedValue n) o w =
-      elim w [ inl e ↦ absurd (cc) | inr at ↦ unread_refused rows (UnwantedValue n) o at ]
   unread_is rows NoMemory o w = tt
+  unread_is rows x o w =
+      elim w [ inl e ↦ absurd (cc) | inr at ↦ unread_refused rows x o at ]
 
 -- the operands of a reading are words
 pub operands_named : (words : List (List ℕ)) (rows : List Row) (is : List Item) (os : List ℕ)

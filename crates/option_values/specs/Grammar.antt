@@ -39,7 +39,7 @@ pub data AreRefusedBy {C : Type 0} (g : Grammar C) (words : List (List ℕ)) (fa
   Wrong : (rows : List Row) (items : List Item) (operands : List ℕ) → AreOptionsOf g rows
       → IsReading rows words items operands → g.asked words items operands ≡ Err fault → AreRefusedBy g words fault
 
--- they can be read, and ask that nothing be said
+-- the words can be read, and ask for no message
 pub record AskSilence {C : Type 0} (g : Grammar C) (words : List (List ℕ)) : Type 0 where
   pub rows : List Row
   pub options : AreOptionsOf g rows
@@ -61,7 +61,7 @@ pub record AskForOnly {C : Type 0} (g : Grammar C) (words : List (List ℕ)) (c 
   pub accepted : (fault : UsageFault) → AreRefusedBy g words fault → ⊥
   pub quiet_is : AskSilence g words ↔ (quiet ≡ true)
 
--- they are refused for this fault, and ask for nothing
+-- the words are refused for this fault, and ask for nothing
 pub record IsRefusalBy {C : Type 0} (g : Grammar C) (words : List (List ℕ)) (fault : UsageFault) (quiet : Bool)
     : Type 0 where
   pub refused : AreRefusedBy g words fault

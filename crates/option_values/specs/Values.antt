@@ -12,9 +12,9 @@ use Rattle.option_words.specs.declared.reading.Spot.{Spot}
 
 -- ---- the rows of a program's options
 
--- One option of a program: its letter, if it has one, its long name, whether it takes a value, and what it sets by the
--- text of its value, if it has one, where sizes go by a sector; nothing where that is a bad value. A later option is a
--- row more.
+-- One option of a program: its letter, if it has one, its long name, and whether it takes a value. What it sets by the
+-- text of its value, if it has one, when sizes go by a sector; nothing if that is a bad value. A later option is a row
+-- more.
 pub record OptionRow (O : Type 0) : Type 0 where
   pub letter : Option ℕ
   pub name : List ℕ

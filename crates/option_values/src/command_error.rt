@@ -7,9 +7,9 @@ use option_words::fault::{UsageFault, WordFault};
 /// Why words ask for nothing.
 #[derive(Clone, Copy, Debug, PartialEq, Eq)]
 pub enum CommandError {
-    /// They are refused, for a fault and whether they ask that nothing be said.
+    /// The words are refused for this fault. `quiet` says whether they ask for no message.
     Usage { fault: UsageFault, quiet: bool },
-    /// Memory wasn't there.
+    /// There wasn't enough memory.
     NoMemory,
 }
 

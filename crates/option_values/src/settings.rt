@@ -12,7 +12,7 @@ use option_words::words::Words;
 
 /// What the options of a program set.
 pub trait Settings: Copy {
-    /// Its rows.
+    /// The rows of the program's options.
     ghost rows: { List (OptionRow Self) };
 
     /// What the option of a row sets by the text of its value, if it has one; nothing where that is a bad value, or

@@ -19,7 +19,7 @@ use Rattle.option_words.specs.declared.fault.WordFault.TheVariants.{UnknownShort
 use Rattle.option_words.specs.Forms.{form_of}
 use Rattle.option_words.specs.Rows.{has_letter, first_row, chosen_by_name}
 
--- what a word brings: options, operands, and how the next word is read
+-- what a word gives: options, operands, and how the next word is read
 pub record Brought : Type 0 where
   pub items : List Item
   pub operands : List ℕ
@@ -72,7 +72,7 @@ abbrev pub letter_meaning :
 letter_meaning None n c at rest further = Err (UnknownShort n c)
 letter_meaning (Some chosen) n c at rest further = letter_by chosen.takes chosen.row n at rest further
 
--- the letters of a word, the first of which stands at byte `at`, one after the other
+-- the letters of a word, the first of which is at byte `at`, one after the other
 abbrev pub letters_meaning : List Row → (n at : ℕ) → List ℕ → Result Brought WordFault
 letters_meaning rows n at [] = Ok (nothing Anything)
 letters_meaning rows n at (c ∷ cs) =
@@ -83,7 +83,7 @@ letters_meaning rows n at (c ∷ cs) =
 abbrev pub equals_sign : List ℕ → Option ℕ
 equals_sign text = position (λ b. nat_eq b 61) text
 
--- the name in front of it, or all of the text
+-- the name before it, or all of the text
 abbrev pub name_before : Option ℕ → List ℕ → List ℕ
 name_before None text = text
 name_before (Some k) text = take k text
@@ -104,7 +104,7 @@ abbrev pub name_meaning : List Row → ℕ → List ℕ → Result Brought WordF
 name_meaning rows n text =
     choice_meaning (chosen_by_name rows (name_before (equals_sign text) text)) n (value_after n (equals_sign text))
 
--- a word that is no value and has no `--` in front of it
+-- a word that is no value and has no `--` before it
 abbrev pub form_meaning : Form → List Row → ℕ → List ℕ → Result Brought WordFault
 form_meaning Plain rows n word = Ok (one_operand n Anything)
 form_meaning Stop rows n word = Ok (nothing Operand)

@@ -20,7 +20,7 @@ IsUnserved Anything fault = ⊥
 IsUnserved (Value wanted) fault = fault ≡ MissingValue wanted.word
 IsUnserved Operand fault = ⊥
 
--- the words from number n on bring these options and these operands, each word in its turn
+-- the words from number n on give these options and these operands, each word in its turn
 abbrev pub Bring : List Row → NextWord → ℕ → List (List ℕ) → List Item → List ℕ → Type 0
 Bring rows next n [] items operands = IsServed next × (items ≡ []) × (operands ≡ [])
 Bring rows next n (word ∷ words) items operands =

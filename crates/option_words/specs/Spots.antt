@@ -11,6 +11,6 @@ pub record IsSpot (words : List (List ℕ)) (spot : Spot) : Type 0 where
   pub within : spot.word ≤ length words
   pub boundary : IsCharBoundary (word words spot.word) spot.from
 
--- the value of an item, if it has one, stands in these words
+-- the value of an item, if it has one, is in these words
 abbrev pub HasSpot : List (List ℕ) → Item → Type 0
 HasSpot words item = IfSome item.value (IsSpot words)

@@ -5,12 +5,12 @@ use Rattle.option_words.specs.declared.fault.WordFault.{WordFault}
 use Rattle.option_words.specs.declared.fault.WordFault.TheVariants.{NoMemory}
 use Rattle.option_words.specs.Meanings.{Brought}
 
--- a reader took what a word brings
+-- a reader took what a word gives
 pub record Took (old new : Reader) (b : Brought) : Type 0 where
   pub items : new.items.items ≡ old.items.items ++ b.items
   pub operands : new.operands.items ≡ old.operands.items ++ b.operands
   pub next : new.next ≡ b.next
 
--- the fault of a meaning, but for want of memory, which is free
+-- the fault of a meaning, except want of memory, which is free
 abbrev pub IsFaultOf : Result Brought WordFault → WordFault → Type 0
 IsFaultOf meant fault = (fault ≡ NoMemory) ⊎ (meant ≡ Err fault)

@@ -20,7 +20,7 @@ pub enum WordFault {
     /// A long name has a value, and its option takes none.
     #[error("UnwantedValue")]
     UnwantedValue { word: usize },
-    /// Memory wasn't there.
+    /// There wasn't enough memory.
     #[error("NoMemory")]
     NoMemory,
 }
@@ -37,10 +37,10 @@ pub enum UsageFault {
     /// The option in this word doesn't go with others that are given.
     #[error("Conflict")]
     Conflict { word: usize },
-    /// So many modes aren't wanted.
+    /// The number of modes isn't the one that is wanted.
     #[error("Modes")]
     Modes { given: usize },
-    /// So many operands aren't wanted.
+    /// The number of operands isn't the one that is wanted.
     #[error("Operands")]
     Operands { given: usize },
     /// The output would have a place of 2^63 or more.

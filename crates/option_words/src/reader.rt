@@ -37,7 +37,7 @@ pub(crate) enum NextWord {
     Operand,
 }
 
-/// What the words so far have brought.
+/// What the words so far have given.
 #[derive(Drop)]
 pub(crate) struct Reader {
     pub items: Vec<Item>,
@@ -82,7 +82,7 @@ impl Reader {
         Ok(())
     }
 
-    /// Takes an option that stands in a word, with the value that this word has for it.
+    /// Takes an option that a word has, with the value that this word has for it.
     fn put_option(
         &mut self,
         chosen: Chosen,
@@ -170,7 +170,7 @@ impl Reader {
         }
     }
 
-    /// What all words have brought.
+    /// What all words have given.
     fn finish(self) -> Result<WordReading, WordFault>
         ensures ok { OnOk result (IsServed self.next) }
         ensures items { IfOk result (λ r. r.items.items ≡ self.items.items) }

@@ -12,7 +12,7 @@ pub struct Spot {
 pub struct Item {
     /// Its row in the table, counted from 0.
     pub row: usize,
-    /// The word in which the option stands, counted from 1; its value may stand in the next one.
+    /// The word that the option is in, counted from 1; its value may be in the next one.
     pub word: usize,
     /// Its value, if it has one.
     pub value: Option<Spot>,

@@ -5,11 +5,11 @@ ghost use Rattle.option_words.specs.Rows.{is_alone};
 /// Whether an option takes a value.
 #[derive(Clone, Copy, Debug, PartialEq, Eq)]
 pub enum Takes {
-    /// It stands alone.
+    /// The option has no value.
     Never,
-    /// It has a value: after the letter, after `=`, or else the whole next word, whatever that is.
+    /// The option has a value: after the letter, after `=`, or else the whole next word, whatever that is.
     Always,
-    /// It may have a value, after the letter or after `=`, and never takes the next word.
+    /// The option may have a value, after the letter or after `=`, and never takes the next word.
     Optional,
 }
 

@@ -85,7 +85,7 @@ fn differs_from_all(row: &Row, others: &[Row]) -> bool
     others.iter().all(|other| differ(row, other))
 }
 
-/// Whether a row may stand in front of others.
+/// Whether a row may come before others.
 fn fits_before(row: &Row, others: &[Row]) -> bool
     ensures { result ≡ fits_table row.now others.now }
 {

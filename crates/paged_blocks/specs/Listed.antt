@@ -8,9 +8,10 @@ pub record EntryList : Type 0 where
   pub items : List PageEntry
   pub room : ℕ
 
--- those after the gap are kept last first, and all may come to lie on either side of it
+-- the list of entries: those after the gap are kept last first, and all may come to lie on either side of it
 abbrev pub listed_entries : Inside → EntryList
-listed_entries e = record { items = e.front.items ++ reverse e.back.items; room = min (vec_capacity e.front) (vec_capacity e.back) }
+listed_entries e =
+    record { items = e.front.items ++ reverse e.back.items; room = min (vec_capacity e.front) (vec_capacity e.back) }
 
 -- there is room for all on each side
 pub record HasRoomForAll (e : Inside) : Type 0 where

@@ -18,7 +18,7 @@ blocks_of pages e = slice_index_or pages e.page []
 abbrev pub flat : List (List Block) → List PageEntry → List Block
 flat pages entries = flat_map (blocks_of pages) entries
 
--- how many blocks stand in the pages of the first i entries
+-- how many blocks the pages of the first i entries have
 abbrev pub before : List (List Block) → List PageEntry → ℕ → ℕ
 before pages entries i = length (flat pages (take i entries))
 

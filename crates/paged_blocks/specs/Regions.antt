@@ -1,4 +1,4 @@
--- Pages that stand beside each other, and the blocks that come in the place of theirs.
+-- Pages that are next to each other, and the blocks that come in the place of theirs.
 use Rattle.std.specs.Prelude.{◌≡◌, ◌+◌, ◌-◌, ◌<◌, ◌≤◌, List, ◌++◌, length, take, drop, slice_index_or}
 use Rattle.block_list.specs.declared.block.Block.{Block}
 use Rattle.paged_blocks.specs.declared.entry.PageEntry.{PageEntry}

@@ -39,7 +39,7 @@ pub record IsLastBlock (bs : List Block) (s : Status) (to : ℕ) (b : Block) : T
   pub others : HasNoneOf bs s (index + 1) to
   pub has : b.status ≡ s
 
--- some blocks of a page were looked at, of which it has at most 64
+-- some blocks of a page were read, of which it has at most 64
 pub record IsWalk (old new blocks : ℕ) : Type 0 where
   pub within : new ≤ old + blocks
   pub few : new ≤ old + 64

@@ -12,8 +12,8 @@ use std::alloc::Global;
 use std::marker::Model;
 use std::sync::ledger::Ledger;
 
-/// Entries with a gap where one was last put in or taken out, so that few move if changes are near each other.
-/// Those after the gap are kept last first.
+/// Entries with a gap where one was last put in or taken out, so that few move if changes are near each other. The
+/// entries after the gap are kept last first.
 #[derive(Drop)]
 pub struct Entries {
     front: Vec<PageEntry>,
@@ -120,7 +120,7 @@ impl Entries {
         self.back.reserve(back).map_err(|_| NoMemory)
     }
 
-    /// Puts an entry in front of the one with an index.
+    /// Puts an entry before the one with an index.
     pub fn insert(&mut self, k: usize, entry: PageEntry)
         requires index { k ≤ length self.old.items }
         requires room { length self.old.items < self.old.room }

@@ -14,7 +14,7 @@ use crate::gathered::Gathered;
 use crate::page::Page;
 use crate::regions::Region;
 
-/// Files a page in front of the entry with an index, under the number of a free page.
+/// Files a page before the entry with an index, under the number of a free page.
 fn place(pages: &mut Vec<Page>, entries: &mut Entries, free: &mut Vec<usize>, k: usize, page: Page)
     requires filed { AreFiled pages.old.items entries.old.items free.old.items }
     requires index { k ≤ length entries.old.items }
@@ -60,8 +60,8 @@ fn release(entries: &mut Entries, free: &mut Vec<usize>, first: usize, past: usi
     entries.take_out(first, past);
 }
 
-/// Files blocks in as few pages as hold them, in front of the entry with an index. Each of the pages has at least 32
-/// blocks, if there are that many.
+/// Files blocks in as few pages as hold them, before the entry with an index. Each of the pages has at least 32 blocks,
+/// if there are that many.
 fn deal(
     pages: &mut Vec<Page>,
     entries: &mut Entries,

@@ -81,7 +81,8 @@ pub fn is_marked(pages: &[Page], entries: &Entries, block: Block) -> bool
     requires paging { IsPaging pages.now entries.now.items }
     requires some { 0 < block.size }
     requires within { block.pos + block.size ≤ length (flat_map covered (flat pages.now entries.now.items)) }
-    ensures { result ≡ true → marked (flat_map covered (flat pages.now entries.now.items)) block.pos block.size block.status
+    ensures { result ≡ true
+        → marked (flat_map covered (flat pages.now entries.now.items)) block.pos block.size block.status
         ≡ flat_map covered (flat pages.now entries.now.items) }
 {
     let held = stretch_at(pages, entries, block.pos);
@@ -106,8 +107,8 @@ pub fn block_at(pages: &[Page], entries: &Entries, i: usize) -> Block
     pages[entries.at(k).page].block(left)
 }
 
-/// The first block with a status in the page of an entry, from the one with an index on. Blocks are looked at only where
-/// the entry counts a position of that status.
+/// The first block with a status in the page of an entry, from the one with an index on. Blocks are read only if the
+/// entry counts a position of that status.
 fn first_in<L: Ledger>(
     pages: &[Page],
     entry: PageEntry,
@@ -142,12 +143,15 @@ pub fn first_with<L: Ledger>(
     requires paging { IsPaging pages.now entries.now.items }
     requires half { AreHalfFull entries.now.items }
     requires within { from < length (flat_map covered (flat pages.now entries.now.items)) }
-    ensures first { IfSome result (λ range. IsFirst (Has (flat_map covered (flat pages.now entries.now.items)) status) from range.from) }
-    ensures range { IfSome result (λ range. IsRangeUp (Has (flat_map covered (flat pages.now entries.now.items)) status) range.from range.to) }
+    ensures first { IfSome result (λ range.
+        IsFirst (Has (flat_map covered (flat pages.now entries.now.items)) status) from range.from) }
+    ensures range { IfSome result (λ range.
+        IsRangeUp (Has (flat_map covered (flat pages.now entries.now.items)) status) range.from range.to) }
     ensures none { IfNone result ((x : ℕ) → from ≤ x
         → Has (flat_map covered (flat pages.now entries.now.items)) status x → ⊥) }
     ensures cost { steps.new ≤ steps.old + length (flat pages.now entries.now.items) / 16 + 130 }
-    ensures there { Has (flat_map covered (flat pages.now entries.now.items)) status from → steps.new ≤ steps.old + 130 }
+    ensures there { Has (flat_map covered (flat pages.now entries.now.items)) status from
+        → steps.new ≤ steps.old + 130 }
 {
     let (held, begun) = held_counted(pages, entries, from + 1, steps);
     steps.tick();
@@ -163,8 +167,8 @@ pub fn first_with<L: Ledger>(
     None
 }
 
-/// The last of the first blocks with a status in the page of an entry. Blocks are looked at only where the entry counts
-/// a position of that status.
+/// The last of the first blocks with a status in the page of an entry. Blocks are read only if the entry counts a
+/// position of that status.
 fn last_in<L: Ledger>(
     pages: &[Page],
     entry: PageEntry,
@@ -198,12 +202,15 @@ pub fn last_with<L: Ledger>(
     requires paging { IsPaging pages.now entries.now.items }
     requires half { AreHalfFull entries.now.items }
     requires within { to ≤ length (flat_map covered (flat pages.now entries.now.items)) }
-    ensures last { IfSome result (λ range. IsLast (Has (flat_map covered (flat pages.now entries.now.items)) status) to range.to) }
-    ensures range { IfSome result (λ range. IsRangeDown (Has (flat_map covered (flat pages.now entries.now.items)) status) range.from range.to) }
+    ensures last { IfSome result (λ range.
+        IsLast (Has (flat_map covered (flat pages.now entries.now.items)) status) to range.to) }
+    ensures range { IfSome result (λ range.
+        IsRangeDown (Has (flat_map covered (flat pages.now entries.now.items)) status) range.from range.to) }
     ensures none { IfNone result ((x : ℕ) → x < to
         → Has (flat_map covered (flat pages.now entries.now.items)) status x → ⊥) }
     ensures cost { steps.new ≤ steps.old + length (flat pages.now entries.now.items) / 16 + 130 }
-    ensures there { Has (flat_map covered (flat pages.now entries.now.items)) status (to - 1) → steps.new ≤ steps.old + 130 }
+    ensures there { Has (flat_map covered (flat pages.now entries.now.items)) status (to - 1)
+        → steps.new ≤ steps.old + 130 }
 {
     if to == 0 {
         return None;

@@ -55,7 +55,7 @@ fn place_after(pages: &[Page], entries: &Entries, entry: usize, begun: usize) ->
     }
 }
 
-/// The place after all but the last of the first blocks of an entry's page, in a map with one before that.
+/// The place before the last of the first blocks of an entry's page, in a map with one before that.
 fn place_in_front(pages: &[Page], entries: &Entries, entry: usize, begun: usize) -> (usize, usize)
     requires paging { IsPaging pages.now entries.now.items }
     requires entry { entry < length entries.now.items }
@@ -89,7 +89,7 @@ fn joined_at(place: (usize, usize), rest: Option<Block>, block: Block) -> Joined
     }
 }
 
-/// A block, joined with the block that holds the position in front of it, in a map with an end.
+/// A block, joined with the block that holds the position before it, in a map with an end.
 fn join_front(pages: &[Page], entries: &Entries, end: u64, block: Block) -> Joined
     requires paging { IsPaging pages.now entries.now.items }
     requires there { 0 < length entries.now.items }

@@ -46,7 +46,7 @@ impl Model for Pages {
 }
 
 impl Pages {
-    /// The map of a plain list, in pages that are full but for the last two.
+    /// The map of a plain list, in pages that are full except the last two.
     pub fn from_plain(alloc: Global, tiles: &PlainTiles) -> Result<Pages, NoMemory>
         ensures { IfOk result (λ t. t.statuses ≡ tiles.now.statuses) }
     {

@@ -78,7 +78,7 @@ fn with_next(pages: &[Page], entries: &Entries, mut region: Region) -> Region
     region
 }
 
-/// A region with the page in front of it.
+/// A region with the page before it.
 fn with_former(pages: &[Page], entries: &Entries, region: Region) -> Region
     requires paging { IsPaging pages.now entries.now.items }
     requires half { AreHalfFull entries.now.items }

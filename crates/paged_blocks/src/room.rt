@@ -7,7 +7,7 @@ use crate::entries::Entries;
 use crate::page::Page;
 use block_list::tiles::NoMemory;
 
-/// How many blocks stand in the pages.
+/// How many blocks the pages have.
 pub fn blocks(pages: &[Page], entries: &Entries) -> usize
     requires { IsPaging pages.now entries.now.items }
     ensures { result ≡ length (flat pages.now entries.now.items) }

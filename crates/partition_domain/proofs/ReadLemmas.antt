@@ -5,7 +5,7 @@ use Rattle.std.proofs.lemmas.List.{length-take-le, map-append, take_all}
 use Rattle.std.proofs.lemmas.List.Elements.{All-append, All-cons, All-nil}
 use Rattle.faulty_source.specs.declared.source.Got.{Got}
 use Rattle.faulty_source.specs.Got.{count_of, is_end}
-use Rattle.faulty_source.specs.Journal.{Reading}
+use Rattle.faulty_source.specs.Journal.{Reading, IsFrom}
 use Rattle.faulty_source.specs.SourceState.{SourceState}
 use Rattle.faulty_source.specs.SourceChanges.{AnswersRead}
 use Rattle.partition_domain.specs.declared.table.TableEntry.{TableEntry}
@@ -14,7 +14,7 @@ use Rattle.partition_domain.specs.declared.stop.SearchStop.TheVariants.{SourceLo
 use Rattle.partition_domain.specs.declared.stop.Refusal.TheVariants.{Unread, NoSignature}
 use Rattle.partition_domain.specs.Table.{table_entries, has_signature, is_whole_sector}
 use Rattle.partition_domain.specs.Part.{next}
-use Rattle.partition_domain.specs.Reads.{AreNext, IsFrom, IsLastRecord, IsSectorRead, StoppedBy, records_of}
+use Rattle.partition_domain.specs.Reads.{AreNext, IsLastRecord, IsSectorRead, StoppedBy, records_of}
 use Rattle.partition_domain.specs.Steps.{Gained, SectorReadsAs, ReadsOne, ReadsTable, StopsAs, Lost, Short, Unsigned}
 use Rattle.partition_domain.proofs.ChainLemmas.{next_short}
 

@@ -25,14 +25,15 @@ next_sector base at (r ∷ chain) = next_sector base (linked base r) chain
 -- record's own sector
 abbrev pub given_by : (at : ℕ) → List ℕ → List Partition
 given_by at r =
-    if is_used (table_entry r 0) then record { first = at + (table_entry r 0).first; count = (table_entry r 0).count } ∷ [] else []
+    if is_used (table_entry r 0)
+    then record { first = at + (table_entry r 0).first; count = (table_entry r 0).count } ∷ [] else []
 
 -- the partitions that records give, in order, of which the first lies at a sector
 abbrev pub given_from : (base at : ℕ) → List (List ℕ) → List Partition
 given_from base at [] = []
 given_from base at (r ∷ chain) = given_by at r ++ given_from base (linked base r) chain
 
--- those of a chain, whose first record lies at the base
+-- the partitions of a chain, whose first record lies at the base
 abbrev pub logical_partitions : (base : ℕ) → List (List ℕ) → List Partition
 logical_partitions base chain = given_from base base chain
 

@@ -23,11 +23,11 @@ domain_map length p =
     replicate (start_of p) NonTried ++ replicate (size_of p) FinishedPosition
     ++ replicate (length - (start_of p + size_of p)) NonTried
 
--- it shows the first position and nothing left to do
+-- the map's state: it shows the first position and nothing left to do
 abbrev pub shown_state : MapState
 shown_state = record { pos = 0; current = Finished; pass = 1 }
 
--- its text, under a heading with a command line
+-- the map's text, under a heading with a command line
 abbrev pub domain_text : (line : List ℕ) → (length : ℕ) → Partition → List ℕ
 domain_text line length p =
     printed (record { program = Ddrescuelog; line = line; start_s = 0; now_s = 0 }) shown_state (domain_map length p)

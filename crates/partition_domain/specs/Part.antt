@@ -33,7 +33,7 @@ partition_of (main ∷ chain) k =
     then (if is_primary k then primary main k else option_and_then (λ e. logical e.first chain k) (extended_entry main))
     else None
 
--- partition k begins at this sector and has so many sectors
+-- partition k begins at this sector and has this number of sectors
 abbrev pub Part : List (List ℕ) → (k first count : ℕ) → Type 0
 Part records k first count = partition_of records k ≡ Some (record { first = first; count = count })
 

@@ -1,5 +1,5 @@
 -- Which reads are made for a partition, and what each outcome of its search says of what they gave.
-use Rattle.std.specs.Prelude.{◌≡◌, ⊤, ℕ, ◌+◌, ◌*◌, ◌<◌, true, false, List, [], ◌∷◌, ◌++◌, length, map, Option, Some, None, is_some, slice_range}
+use Rattle.std.specs.Prelude.{◌≡◌, ⊤, ℕ, ◌+◌, ◌*◌, ◌<◌, true, false, List, [], ◌∷◌, ◌++◌, length, map, Option, Some, None, is_some}
 use Rattle.std.specs.List.{list_all}
 use Rattle.fault_count.specs.Counts.{raised}
 use Rattle.faulty_source.specs.Journal.{Reading}
@@ -13,10 +13,6 @@ use Rattle.partition_domain.specs.Chain.{chain_limit, links_on}
 use Rattle.partition_domain.specs.Part.{are_records, is_lacking, is_primary, next, Part, primary}
 
 -- ---- the reads
-
--- a read gave the input's own bytes
-abbrev pub IsFrom : (bytes : List ℕ) → Reading → Type 0
-IsFrom bytes r = r.given ≡ slice_range bytes r.pos (r.pos + length r.given)
 
 -- the records that reads gave, in order
 abbrev pub records_of : List Reading → List (List ℕ)
@@ -46,7 +42,7 @@ pub record IsUnread (k : ℕ) (records : List (List ℕ)) (sector : ℕ) : Type 
   pub is_last : IsLastRecord k records sector last
   pub short : length last < sector_size
 
--- it was, and isn't one
+-- a record was read whole, and has no signature
 pub record LacksSignature (k : ℕ) (records : List (List ℕ)) (sector : ℕ) : Type 0 where
   pub last : List ℕ
   pub is_last : IsLastRecord k records sector last
@@ -109,7 +105,7 @@ abbrev pub losses_after : SearchStop → (losses : ℕ) → ℕ
 losses_after SourceLost losses = raised losses
 losses_after (Refused refusal) losses = losses
 
--- What records that are all read bring: the partition, or a refusal.
+-- What records that are all read lead to: the partition, or a refusal.
 abbrev pub Brings : Option Refusal → (k : ℕ) → (records : List (List ℕ)) → Type 0
 Brings None k records = HasPart k records
 Brings (Some refusal) k records = RefusedBy refusal k records

@@ -1,7 +1,7 @@
 -- What each step of the search for a partition does, by what a source tells.
 use Rattle.std.specs.Prelude.{◌≡◌, ⊤, ℕ, ◌+◌, ◌-◌, ◌<◌, ◌≤◌, ◌^◌, true, false, IsTrue, List, [], ◌∷◌, ◌++◌, length, All, nat_eq, slice_index_or, Option, Some, None, Result, Ok, Err, if◌then◌else◌}
 use Rattle.std.specs.List.{list_all}
-use Rattle.faulty_source.specs.Journal.{Reading}
+use Rattle.faulty_source.specs.Journal.{Reading, IsFrom}
 use Rattle.faulty_source.specs.SourceState.{SourceState}
 use Rattle.partition_domain.specs.declared.table.TableEntry.{TableEntry}
 use Rattle.partition_domain.specs.declared.table.Partition.{Partition}
@@ -14,7 +14,7 @@ use Rattle.partition_domain.specs.declared.stop.SearchStop.TheVariants.{SourceLo
 use Rattle.partition_domain.specs.Table.{table_entries, extended_entry, has_signature, is_record, is_used, is_whole_sector, sector_size}
 use Rattle.partition_domain.specs.Chain.{links_on, logical_partitions, next_in_chain}
 use Rattle.partition_domain.specs.Part.{are_records, partition_of}
-use Rattle.partition_domain.specs.Reads.{AreNext, IsFrom, IsSectorRead, RefusedBy, StoppedBy, records_of}
+use Rattle.partition_domain.specs.Reads.{AreNext, IsSectorRead, RefusedBy, StoppedBy, records_of}
 
 -- the source's journal gained these reads, which gave its own bytes
 pub record Gained (reads : List Reading) (old new : SourceState) : Type 0 where
@@ -35,7 +35,8 @@ pub data StopsAs (sector : ℕ) (reads : List Reading) (e : SearchStop) : Type 0
   Lost : e ≡ SourceLost → reads ≡ [] → StopsAs sector reads e
   Short : (last : List ℕ) → e ≡ Refused (Unread sector) → ReadsOne sector reads last → length last < sector_size
       → StopsAs sector reads e
-  Unsigned : (last : List ℕ) → e ≡ Refused (NoSignature sector) → ReadsOne sector reads last → is_whole_sector last ≡ true
+  Unsigned : (last : List ℕ) → e ≡ Refused (NoSignature sector) → ReadsOne sector reads last
+      → is_whole_sector last ≡ true
       → has_signature last ≡ false → StopsAs sector reads e
 
 -- the entries of a record that was read, or why there are none
@@ -59,7 +60,7 @@ pub record IsNear (k : ℕ) (c : Chain) : Type 0 where
   pub given : c.given ≤ k - 5
   pub read : c.read ≤ 128
 
--- the same after one more record, or of the partition that it gives
+-- the numbers of a search are small after one more record, or those of the partition that it gives are
 abbrev pub LeadsNear : (k : ℕ) → (c : Chain) → Link → Type 0
 LeadsNear k c (Found p) = (p.first < 2 ^ 34) × (p.count < 2 ^ 32)
 LeadsNear k c (On n) = IsNear k n × (n.read ≡ c.read + 1)

@@ -29,11 +29,11 @@ table_entries r = table_entry r 0 ∷ table_entry r 1 ∷ table_entry r 2 ∷ ta
 abbrev pub is_used : TableEntry → Bool
 is_used e = not (nat_eq e.kind 0)
 
--- it is for an extended partition, which holds a chain of records
+-- an entry is for an extended partition, which holds a chain of records
 abbrev pub is_extended : TableEntry → Bool
 is_extended e = nat_eq e.kind 0x05 || nat_eq e.kind 0x0F || nat_eq e.kind 0x85
 
--- it protects a disk that has a partition table of another kind
+-- an entry protects a disk that has a partition table of another kind
 abbrev pub is_protective : TableEntry → Bool
 is_protective e = nat_eq e.kind 0xEE
 
@@ -41,11 +41,11 @@ is_protective e = nat_eq e.kind 0xEE
 abbrev pub is_whole_sector : List ℕ → Bool
 is_whole_sector r = nat_eq (length r) sector_size
 
--- it ends with the bytes 0x55 and 0xAA
+-- what was read ends with the bytes 0x55 and 0xAA
 abbrev pub has_signature : List ℕ → Bool
 has_signature r = nat_eq (slice_index r 510) 0x55 && nat_eq (slice_index r 511) 0xAA
 
--- it is a record
+-- what was read is a record
 abbrev pub is_record : List ℕ → Bool
 is_record r = is_whole_sector r && has_signature r
 

@@ -31,11 +31,11 @@ pub struct Chain {
 /// What comes of a record of a chain.
 #[derive(Clone, Copy, Debug)]
 pub enum Link {
-    /// It gives the partition that is looked for.
+    /// The record gives the partition that is looked for.
     Found(Partition),
-    /// It leads on to a further record.
+    /// The record leads on to a further one.
     On(Chain),
-    /// It doesn't give the partition, and is the last one.
+    /// The record doesn't give the partition, and is the last one.
     End,
 }
 

@@ -17,7 +17,7 @@ there length pos asked = min (length - pos) asked
 abbrev pub given_at : (length : ℕ) → List Status → (pos asked : ℕ) → ℕ
 given_at length statuses pos asked = finished_front statuses pos (there length pos asked)
 
--- it meets the end where all that there is is given, and is less than was asked for
+-- a read meets the end if all that there is is given, and is less than was asked for
 abbrev pub meets_end : (length : ℕ) → List Status → (pos asked : ℕ) → Bool
 meets_end length statuses pos asked =
     nat_eq (given_at length statuses pos asked) (there length pos asked) && nat_lt (there length pos asked) asked

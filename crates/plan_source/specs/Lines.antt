@@ -19,7 +19,7 @@ planned r = record { pos = r.pos; asked = r.asked; given = length r.given }
 abbrev pub planned_entry : ReadEntry → PlannedRead
 planned_entry e = record { pos = e.pos; asked = e.asked; given = e.given }
 
--- its line: three numbers in decimal, one space between, and a newline
+-- the line of a planned read: three numbers in decimal, one space between, and a newline
 abbrev pub line_of : PlannedRead → List ℕ
 line_of r = decimal r.pos ++ 32 ∷ [] ++ decimal r.asked ++ 32 ∷ [] ++ decimal r.given ++ 10 ∷ []
 
@@ -30,6 +30,6 @@ line_of_entry e = line_of (planned_entry e)
 abbrev pub lines_of : List PlannedRead → List ℕ
 lines_of reads = flat_map line_of reads
 
--- those of a journal's entries
+-- the lines of a journal's entries
 abbrev pub lines_of_entries : List ReadEntry → List ℕ
 lines_of_entries entries = flat_map line_of_entry entries

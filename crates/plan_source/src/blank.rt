@@ -4,8 +4,8 @@ ghost use Rattle.plan_source.specs.Blank.{blank_state};
 
 use crash_site::site::{ImageKind, MapRead, Site, SiteFault};
 
-/// A site that never fails and tells nothing but whether an image is open and a draft begun. Each image is a regular
-/// file that is there, and empty; no mapfile is.
+/// A site that never fails, and tells only whether an image is open and a draft begun. Each image is a regular file
+/// that is there, and empty; no mapfile is.
 #[derive(Clone, Copy, Debug)]
 pub struct BlankSite {
     open: bool,

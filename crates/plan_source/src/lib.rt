@@ -1,4 +1,4 @@
-//! What the run of a plan stands on: a source that says each of its reads, and a site that keeps nothing.
+//! What the run of a plan goes by: a source that says each of its reads, and a site that keeps nothing.
 #![tactic(auto)]
 
 pub mod blank;

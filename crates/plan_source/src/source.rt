@@ -87,7 +87,7 @@ fn say<C: Console>(console: &mut C, entry: &ReadEntry) -> Option<PlanLoss>
 impl<'a, C: Console, T: Tiles> PlanSource<'a, C, T> {
     ghost use Rattle.plan_source.specs.Answering.{plan_source_state};
 
-    /// A source of so many bytes.
+    /// A source of `length` bytes.
     pub fn new(alloc: Global, length: u64, tiles: T, console: &'a mut C) -> PlanSource<'a, C, T>
         requires { length < 2 ^ 63 }
         ensures reference { result.console.ghost_name ≡ console.entry.ghost_name }
@@ -101,7 +101,7 @@ impl<'a, C: Console, T: Tiles> PlanSource<'a, C, T> {
 impl<'a, C: Console, T: Tiles, O: Origin> PlanSource<'a, C, T, O> {
     ghost use Rattle.plan_source.specs.Answering.{plan_source_state};
 
-    /// The same on a console of which it is known what it tells now.
+    /// A source of `length` bytes, on a console of which it is known what it tells now.
     pub fn since(
         alloc: Global,
         length: u64,
@@ -171,8 +171,8 @@ impl<C: Console, T: Tiles, O: Origin> Source for PlanSource<'_, C, T, O> {
     ghost use Rattle.std.specs.Prelude.{◌&&◌};
     ghost use Rattle.plan_source.specs.Answering.{plan_source_state};
 
-    ghost state = { λ s. plan_source_state s.length (T.statuses s.tiles) s.console.ghost_name s.entries.items s.name.items
-        (s.opened && s.idle) s.opens s.faults s.losses };
+    ghost state = { λ s. plan_source_state s.length (T.statuses s.tiles) s.console.ghost_name s.entries.items
+        s.name.items (s.opened && s.idle) s.opens s.faults s.losses };
 
     /// Every name opens. It faults for want of memory alone, since the name is kept.
     fn open_input(&mut self, name: &str) -> Result<u64, SourceFault> {

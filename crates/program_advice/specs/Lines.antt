@@ -9,7 +9,7 @@ use Rattle.program_advice.specs.Texts.{doing_text, fact_text, hint_text, option_
 abbrev pub shown_byte : ℕ → ℕ
 shown_byte b = if nat_lt b 32 then 63 else if nat_eq b 127 then 63 else b
 
--- a text, or so many bytes of it and two dots
+-- a text, or `most` bytes of it and two dots
 abbrev pub cut : ℕ → List ℕ → List ℕ
 cut most text = if nat_le (length text) most then text else take most text ++ codes ".."
 
@@ -21,21 +21,21 @@ quoted name = codes "'" ++ cut 150 name ++ codes "'"
 abbrev pub named_text : Named → List ℕ
 named_text file = role_text file.role ++ codes " " ++ quoted file.name.now
 
--- what is said after a limit
+-- the advice after a limit
 abbrev pub resuming_text : Bool → List ℕ
 resuming_text false = []
 resuming_text true = codes "; the same command goes on from the saved map"
 
--- what is said after a file system was full
+-- the advice after a file system was full
 abbrev pub room_text : Bool → List ℕ
 room_text false = []
 room_text true = codes ", which goes on from the last saved map"
 
--- what is said of a mapfile that couldn't be saved
+-- the advice on a mapfile that couldn't be saved
 abbrev pub unsaved_text : (name reason : List ℕ) → List ℕ
 unsaved_text name reason = codes "cannot save " ++ quoted name ++ codes ": " ++ cut 60 reason
 
--- what is said of a cause
+-- the advice on a cause
 abbrev pub cause_text : Cause → List ℕ
 cause_text (Refused doing file reason) = doing_text doing ++ named_text file ++ codes ": " ++ cut 60 reason.now
 cause_text (Unsaved name reason) = unsaved_text name.now reason.now
@@ -50,7 +50,7 @@ cause_text (Argument word wanted) = quoted word.now ++ codes " isn't " ++ cut 15
 cause_text (Usage usage) = codes "usage: " ++ cut 150 usage.now
 cause_text (Hint hint) = hint_text hint
 
--- the line of a cause: the program's name, what is said, each control character as a question mark, and a newline
+-- the line of a cause: the program's name, the advice, each control character as a question mark, and a newline
 abbrev pub line_text : List ℕ → Cause → List ℕ
 line_text program cause = map shown_byte (program ++ codes ": " ++ cause_text cause) ++ 10 ∷ []
 

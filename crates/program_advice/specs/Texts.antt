@@ -32,7 +32,7 @@ doing_text Write = codes "cannot write "
 doing_text Sync = codes "cannot sync "
 doing_text Remove = codes "cannot remove "
 
--- what is said of a file after its name
+-- the text on a file that follows its name
 abbrev pub fact_text : Fact → List ℕ
 fact_text InUse = codes " is in use by another rescue"
 fact_text NotApart = codes " is the infile or the outfile by another name"
@@ -56,7 +56,7 @@ option_text ReadErrors = codes "option -X set this limit"
 option_text BadAreas = codes "option -e set this limit"
 option_text Timeout = codes "option -T set this limit"
 
--- what is said without any name
+-- the advice that names nothing
 abbrev pub hint_text : Hint → List ℕ
 hint_text SameFile = codes "infile and outfile are the same file"
 hint_text InputLost = codes "reconnect the disk and give the same command (its name may have changed)"

@@ -32,25 +32,25 @@ pub enum Doing {
     Remove,
 }
 
-/// What is so of a file.
+/// What is true of a file.
 #[derive(Clone, Copy)]
 pub enum Fact {
-    /// Another rescue has locked it.
+    /// Another rescue has locked the file.
     InUse,
-    /// It is the infile or the outfile.
+    /// The file is the infile or the outfile.
     NotApart,
-    /// It or its draft is.
+    /// The file or its draft is the infile or the outfile.
     DraftNotApart,
-    /// It is no regular file, and only such a file is read or replaced.
+    /// The file is no regular file, and only such a file is read or replaced.
     NotRegular,
-    /// It is no regular file, and an option allows it all the same.
+    /// The file is no regular file, and an option allows it all the same.
     NeedsForce,
     Absent,
     Exists,
     Empty,
-    /// Its text is no map.
+    /// The file's text is no map.
     NoMap,
-    /// Its name led elsewhere when it was to be renamed.
+    /// The file's name led elsewhere when it was to be renamed.
     Replaced,
 }
 
@@ -61,7 +61,7 @@ pub enum Stream {
     Output,
 }
 
-/// What is said without any name.
+/// The advice that names nothing.
 #[derive(Clone, Copy)]
 pub enum Hint {
     /// The infile and the outfile are one file with two names.

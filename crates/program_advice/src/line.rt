@@ -19,7 +19,7 @@ fn add(line: &mut Line, text: &str)
     let _fits = line.try_extend_from_slice(text.as_bytes());
 }
 
-/// Adds a text, or so many of its bytes and two dots.
+/// Adds a text, or its first `most` bytes and two dots.
 fn add_cut(line: &mut Line, text: &str, most: usize)
     requires { array_vec_len line.old + most ≤ 509 }
     ensures text { line.new.items ≡ line.old.items ++ cut most text.now }
@@ -55,7 +55,7 @@ fn add_named(line: &mut Line, file: Named<'_>)
     add_quoted(line, file.name);
 }
 
-/// Adds what is said after a limit.
+/// Adds the advice after a limit.
 fn add_resuming(line: &mut Line, resumes: bool)
     requires { array_vec_len line.old ≤ 400 }
     ensures text { line.new.items ≡ line.old.items ++ resuming_text resumes }
@@ -66,7 +66,7 @@ fn add_resuming(line: &mut Line, resumes: bool)
     }
 }
 
-/// Adds what is said after a file system was full.
+/// Adds the advice after a file system was full.
 fn add_room(line: &mut Line, resumes: bool)
     requires { array_vec_len line.old ≤ 400 }
     ensures text { line.new.items ≡ line.old.items ++ room_text resumes }
@@ -77,7 +77,7 @@ fn add_room(line: &mut Line, resumes: bool)
     }
 }
 
-/// Adds what is said of a mapfile that couldn't be saved.
+/// Adds the advice on a mapfile that couldn't be saved.
 fn add_unsaved(line: &mut Line, name: &str, reason: &str)
     requires { array_vec_len line.old ≤ 20 }
     ensures text { line.new.items ≡ line.old.items ++ unsaved_text name.now reason.now }
@@ -89,7 +89,7 @@ fn add_unsaved(line: &mut Line, name: &str, reason: &str)
     add_cut(line, reason, 60);
 }
 
-/// Adds what is said of a cause.
+/// Adds the advice on a cause.
 fn add_cause(line: &mut Line, cause: Cause<'_>)
     requires { array_vec_len line.old ≤ 20 }
     ensures text { line.new.items ≡ line.old.items ++ cause_text cause.entry }

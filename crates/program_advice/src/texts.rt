@@ -35,7 +35,7 @@ pub(crate) fn doing_text(doing: Doing) -> &'static str
     }
 }
 
-/// What is said of a file after its name.
+/// The text on a file that follows its name.
 pub(crate) fn fact_text(fact: Fact) -> &'static str
     ensures text { result.now ≡ fact_text fact }
     ensures len { length result.now ≤ 90 }
@@ -81,7 +81,7 @@ pub(crate) fn option_text(option: LimitOption) -> &'static str
     }
 }
 
-/// What is said without any name.
+/// The advice that names nothing.
 pub(crate) fn hint_text(hint: Hint) -> &'static str
     ensures text { result.now ≡ hint_text hint }
     ensures len { length result.now ≤ 90 }

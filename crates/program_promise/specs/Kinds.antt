@@ -12,9 +12,9 @@ pub data Failure : Type 0 where
   AtPut : Failure
 
 pub data Kind : Type 0 where
-  -- it is what was asked for, and nothing is said of it
+  -- the answer is what was asked for, and has no message
   Asked : Kind
-  -- what is there brings it, as a refusal of a file
+  -- what is there leads to it, as a refusal of a file
   Brought : Kind
   -- the words ask for nothing
   Wrong : (fault : UsageFault) → Kind
@@ -23,7 +23,7 @@ pub data Kind : Type 0 where
   -- memory wasn't there
   Starved : Kind
 
--- nothing is said of an answer of this kind
+-- an answer of this kind has no message
 abbrev pub is_silent_kind : Kind → Bool
 is_silent_kind Asked = true
 is_silent_kind Brought = false
@@ -31,7 +31,7 @@ is_silent_kind (Wrong fault) = false
 is_silent_kind (Failed at) = false
 is_silent_kind Starved = false
 
--- what is there brings it, whatever fails
+-- what is there leads to it, whatever fails
 abbrev pub IsVerdictKind : Kind → Type 0
 IsVerdictKind Asked = ⊤
 IsVerdictKind Brought = ⊤

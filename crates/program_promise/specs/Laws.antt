@@ -29,17 +29,17 @@ module _ {C E O : Type 0} (p : Program C E O) where
   IsNoFaultUnless = (t : Told E) (c : C) → Promise p t → AskFor p.grammar t.words c → NothingFailed t
       → IsNoFaultKind (kind_of p t.answer)
 
-  -- and unless memory ran out, what is there brings it.
+  -- and unless memory ran out, what is there leads to it.
   abbrev pub IsBroughtUnless : Type 0
   IsBroughtUnless = (t : Told E) (c : C) → Promise p t → AskFor p.grammar t.words c → NothingFailed t
       → kind_of p t.answer ≢ Starved → IsVerdict p t.answer
 
-  -- Words that are refused touch nothing: all that is done is said.
+  -- Words that are refused touch nothing: a message is all that they lead to.
   abbrev pub RefusedTouchNothing : Type 0
   RefusedTouchNothing = (t : Told E) (fault : UsageFault) (d : Promise p t) → AreRefusedBy p.grammar t.words fault
       → d.between ≡ t.before
 
-  -- What is said on standard error is a beginning of one message: all of it, nothing, or if a put failed a part.
+  -- What is put on standard error is a beginning of one message: all of it, nothing, or if a put failed a part.
   abbrev pub SaysOneMessage : Type 0
   SaysOneMessage = (t : Told E) (d : Promise p t) → IsTrue d.between.console.tells
       → TextGoesOn (message_by p t.answer) d.between.console.err.text t.after.console.err.text

@@ -9,4 +9,3 @@ pub mod Promise
 pub mod WellMade
 pub mod Laws
 pub mod Printing
-pub mod Opens

@@ -20,6 +20,6 @@ PutsByKind (Wrong fault) All Part Early old new = new ≡ old
 PutsByKind (Failed at) All Part Early old new = PutsFailing at Part old new
 PutsByKind Starved All Part Early old new = Early
 
--- The same of one text, for which memory is taken before it is put: all of it, or if a put failed a beginning of it.
+-- One text, for which memory is taken before it is put, is put: all of it, or if a put failed a beginning of it.
 abbrev pub PutsText : Kind → (text : List ℕ) → (old new : ConsoleState) → Type 0
 PutsText kind text old new = PutsByKind kind (Puts Out text old new) (PutsPart Out text old new) (new ≡ old) old new

@@ -36,7 +36,7 @@ pub record Program (C E O : Type 0) : Type 1 where
 abbrev pub kind_of : {C E O : Type 0} → Program C E O → E → Kind
 kind_of p e = (p.row e).kind
 
--- whether nothing is said of an answer
+-- whether an answer has no message
 abbrev pub is_silent_of : {C E O : Type 0} → Program C E O → E → Bool
 is_silent_of p e = is_silent_kind (p.row e).kind
 

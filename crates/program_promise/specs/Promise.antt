@@ -28,8 +28,8 @@ module _ {C E O : Type 0} (p : Program C E O) where
     pub asks : AskFor p.grammar words command
     pub fits : p.Fits command e
 
-  -- What an answer says of the words, by its kind: they are refused exactly if they bring a refusal, except that memory
-  -- may run out first.
+  -- What an answer says of the words, by its kind: they are refused exactly if they lead to a refusal, except that
+  -- memory may run out first.
   abbrev pub SaysOfWords : Kind → E → (words : List (List ℕ)) → Type 0
   SaysOfWords Asked e words = AreAccepted words e
   SaysOfWords Brought e words = AreAccepted words e
@@ -38,7 +38,7 @@ module _ {C E O : Type 0} (p : Program C E O) where
   SaysOfWords Starved e words = ⊤
 
   -- What was done for a command: there is an outside, and deeds there, which agree with what the objects tell; the
-  -- answer is what the work brings, and so is what it left.
+  -- answer is what the work leads to, and so is what it left.
   pub record DoneFor (c : C) (line : List ℕ) (e : E) (old new : WorldState) : Type 0 where
     pub outside : O
     pub did : Deeds
@@ -46,15 +46,14 @@ module _ {C E O : Type 0} (p : Program C E O) where
     pub work : Works p.faults (p.rows c outside) (p.Run c outside) e did
     pub leaves : p.Leaves c line outside e did old new
 
-  -- The same, with the cause that the answer's row says, and with what stays.
+  -- What was done for a command, with the cause that the answer's row says, and with what stays.
   pub record Worked (c : C) (words : List (List ℕ)) (e : E) (old new : WorldState) : Type 0 where
     pub done : DoneFor c (line_by p words) e old new
     pub cause : Changed (changes_of (kind_of p e)) old new
     pub also : (p.row e).also
     pub keeps : p.Keeps e old new
 
-  -- What was done for the words of a call, before anything is said of the answer; `quiet` says whether nothing is to be
-  -- said.
+  -- What was done for the words of a call, before the message on the answer; `quiet` says whether there is to be none.
   pub record IsDone (words : List (List ℕ)) (e : E) (quiet : Bool) (old new : WorldState) : Type 0 where
     pub words_are : SaysOfWords (kind_of p e) e words
     pub cause : Changed (changes_of (kind_of p e)) old new
@@ -67,7 +66,7 @@ module _ {C E O : Type 0} (p : Program C E O) where
     pub silent : quiet ≡ true → AskSilence p.grammar words
     pub loud : quiet ≡ false → AskSilence p.grammar words → (e ≡ p.faults.memory) × (new ≡ old)
 
-  -- What is said on standard error when the work is done, and the world is `between`: nothing of an answer that was
+  -- What is put on standard error when the work is done, and the world is `between`: nothing for an answer that was
   -- asked for, and nothing if the words ask for that. Else the message of the answer, as one put; or a beginning of it,
   -- if the console failed.
   pub data Says (t : Told E) (between : WorldState) : Type 0 where
@@ -91,5 +90,5 @@ module _ {C E O : Type 0} (p : Program C E O) where
     pub asked_for : (c : C) → AskFor p.grammar t.words c → DoneFor c (line_by p t.words) t.answer t.before between
     pub nothing : ((c : C) → AskFor p.grammar t.words c → ⊥) → between ≡ t.before
     pub keeps : p.Keeps t.answer t.before between
-    -- Then comes what is said.
+    -- Then comes the message.
     pub says : Says t between

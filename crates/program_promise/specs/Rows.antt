@@ -1,5 +1,5 @@
--- An answer as a row: its kind, the exit status, what is said of it, and what else holds of it. What the answer says of
--- the words, which count rose and whether anything is said follow from its kind alone.
+-- An answer as a row: its kind, the exit status, the text on it, and what else holds of it. What the answer says of the
+-- words, which count rose and whether there is a message follow from its kind alone.
 use Rattle.std.specs.Prelude.{⊤, ℕ, List, [], codes}
 use Rattle.option_words.specs.declared.fault.UsageFault.{UsageFault}
 use Rattle.fault_texts.specs.Texts.{usage_text}

@@ -13,7 +13,7 @@ use Rattle.program_promise.specs.Program.{Program, kind_of}
 use Rattle.program_promise.specs.Promise.{DoneFor}
 
 module _ {C E O : Type 0} (p : Program C E O) where
-  -- an answer that is brought by what is there, whatever fails
+  -- an answer that what is there leads to, whatever fails
   abbrev pub IsVerdict : E → Type 0
   IsVerdict e = IsVerdictKind (kind_of p e)
 

@@ -51,7 +51,7 @@ no_clock = record { tells = false; readings = []; is_planned = false; plan = [] 
 abbrev pub no_feed : FeedState
 no_feed = record { tells = false; left = []; faults = 0; is_planned = false; plan = no_plan }
 
--- the same world, but for its console
+-- this world with another console
 abbrev pub with_console : WorldState → ConsoleState → WorldState
 with_console w console =
     record { source = w.source; site = w.site; clock = w.clock; feed_ = w.feed_; console = console }

@@ -1,4 +1,4 @@
-//! How a call ends: what is said of its answer.
+//! How a call ends: the message on its answer.
 ghost use Rattle.std.specs.Prelude.{◌≡◌, ℕ, List, Bool};
 ghost use Rattle.program_promise.specs.Saying.{SaysAs};
 
@@ -7,13 +7,13 @@ use rescue_console::console::{Channel, Console};
 
 /// An answer of a program.
 pub trait Answer: Copy {
-    /// Whether nothing is said of the answer.
+    /// Whether the answer has no message.
     ghost silent: { Self → Bool };
 
     /// The answer's message.
     ghost said: { Self → List ℕ };
 
-    /// Whether nothing is said of the answer, since it is what was asked for.
+    /// Whether the answer has no message, since it is what was asked for.
     fn is_silent(self) -> bool
         ensures { result ≡ silent self };
 

@@ -15,7 +15,7 @@ const NOWHERE: &str = "/dev/null";
 /// What a standard stream is taken for that was closed when the program began.
 #[derive(Clone, Copy, Debug, PartialEq, Eq)]
 pub enum ClosedStream {
-    /// It leads nowhere: nothing comes in, and what is put is dropped.
+    /// The stream leads nowhere: nothing comes in, and what is put is dropped.
     Silent,
     /// Each take and each put fails.
     Faulty,

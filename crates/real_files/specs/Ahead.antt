@@ -10,7 +10,7 @@ pub record Ahead : Type 0 where
   pub room : ℕ
   pub is_whole : Bool
 
--- so many bytes from a position on are held
+-- this number of bytes from a position on are held
 abbrev pub holds : Ahead → (pos asked : ℕ) → Bool
 holds a pos asked = nat_le a.pos pos && nat_le (pos + asked) (a.pos + length a.bytes)
 

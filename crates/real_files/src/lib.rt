@@ -1,5 +1,5 @@
-//! What the forms for real files stand on: reads and writes at a place, what is read ahead, what an error means, and
-//! which file a name reaches.
+//! What the forms for real files use: reads and writes at a place, what is read ahead, what an error means, and which
+//! file a name reaches.
 #![tactic(auto)]
 
 pub mod file_cursor;

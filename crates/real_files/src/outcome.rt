@@ -32,7 +32,8 @@ pub fn folder_synced(outcome: io::Result<()>) -> io::Result<()>
 /// What was opened, and None where it may not be opened and isn't needed. Whatever else went wrong stays an error.
 pub fn if_allowed<T>(outcome: io::Result<T>, needed: bool) -> io::Result<Option<T>>
     ensures there { IfOk outcome (λ value. result ≡ Ok (Some value)) }
-    ensures denied { needed ≡ false → IfErr outcome (λ e. error_kind e ≡ ErrorKind.PermissionDenied → result ≡ Ok None) }
+    ensures denied { needed ≡ false
+        → IfErr outcome (λ e. error_kind e ≡ ErrorKind.PermissionDenied → result ≡ Ok None) }
     ensures needed { needed ≡ true → IsErr outcome → IsErr result }
     ensures other { IfErr outcome (λ e. error_kind e ≢ ErrorKind.PermissionDenied → IsErr result) }
 {
@@ -65,8 +66,8 @@ pub fn removable(outcome: io::Result<()>) -> io::Result<()>
     }
 }
 
-/// The kernel's numbers of errors by which a medium doesn't give what is asked for: it can't be read there, there is no
-/// data, the data is damaged, it takes too long, or a device behind another one failed.
+/// The kernel's numbers of errors by which a medium doesn't give what is asked for. It can't be read there, there is no
+/// data, the data is damaged, it takes too long, or a device that is reached through another one failed.
 const EIO: i32 = 5;
 
 const ENODATA: i32 = 61;

@@ -36,7 +36,7 @@ impl Model for ReadAhead {
 }
 
 impl ReadAhead {
-    /// Nothing is held, and there is so much room. Without any nothing is read ahead.
+    /// Nothing is held. `room` is what is read ahead into. Without any nothing is read ahead.
     pub fn new(room: Vec<u8>) -> ReadAhead
         ensures { result ≡ nothing_held (vec_len room) }
     {
@@ -75,7 +75,7 @@ impl ReadAhead {
 
     /// Fills a buffer with the bytes at a position: with those that are held, or else by one read ahead from there, of
     /// up to `most` bytes. The buffer stays as it was where such a read gives too few, and where it would ask for no
-    /// more than the buffer takes. The reader stands at the position.
+    /// more than the buffer takes. The reader is at the position.
     pub fn give<R: Read>(&mut self, reader: &mut R, pos: u64, most: u64, buf: &mut [u8]) -> bool
         requires place { pos + length buf.old < 2 ^ 63 }
         ensures held { holds self.old pos (length buf.old) ≡ true
@@ -124,7 +124,7 @@ impl ReadAhead {
         true
     }
 
-    /// Holds what one read gives of so many bytes from a position on.
+    /// Holds what one read of `asked` bytes from a position on gives.
     fn read<R: Read>(&mut self, reader: &mut R, pos: u64, asked: usize)
         requires { asked ≤ self.old.room }
         ensures place { self.new.pos ≡ pos }
@@ -141,7 +141,7 @@ impl ReadAhead {
     }
 }
 
-/// How many bytes one read gives, of so many that it asks for, into the room's front: none where it fails.
+/// How many bytes one read of `asked` bytes gives into the room's front: none if it fails.
 fn read_front<R: Read>(reader: &mut R, room: &mut [u8], asked: usize) -> usize
     requires { asked ≤ length room.old }
     ensures count { result ≤ asked }

@@ -5,7 +5,7 @@ use Rattle.fault_count.specs.Plan.{Plan, with_call, FailsNext}
 use Rattle.rescue_console.specs.declared.console.Channel.{Channel}
 use Rattle.rescue_console.specs.declared.console.Channel.TheVariants.{Out, Err}
 
--- what stands on a channel, and how often a put there failed
+-- what is on a channel, and how often a put there failed
 pub record ChannelState : Type 0 where
   pub text : List ℕ
   pub faults : ℕ

@@ -1,4 +1,4 @@
--- What is said on a console, piece by piece, up to the first put that fails.
+-- What is put on a console, piece by piece, up to the first put that fails.
 use Rattle.std.specs.Prelude.{◌≡◌, ◌⊎◌, ℕ, Bool, true, false, IsTrue, List, [], ◌∷◌, ◌++◌, map}
 use Rattle.fault_count.specs.Plan.{with_call}
 use Rattle.rescue_console.specs.declared.console.Channel.{Channel}
@@ -30,8 +30,8 @@ Speaks [] old new = new ≡ old
 Speaks (p ∷ ps) old new =
     ((between : ConsoleState) × PutsWhole p old between × Speaks ps between new) ⊎ PutsBroken p old new
 
--- The same of one who has been heard so far, or not: who isn't heard says nothing; who is heard stays so while each put
--- succeeds.
+-- Pieces are put in order by one who has been heard so far, or not: who isn't heard says nothing; who is heard stays so
+-- while each put succeeds.
 abbrev pub SpeaksOn : List SpokenPiece → (heard heard' : Bool) → (old new : ConsoleState) → Type 0
 SpeaksOn ps false heard' old new = (heard' ≡ false) × (new ≡ old)
 SpeaksOn [] true heard' old new = (heard' ≡ true) × (new ≡ old)
@@ -51,7 +51,7 @@ abbrev pub texts_on : Channel → List SpokenPiece → List ℕ
 texts_on channel [] = []
 texts_on channel (p ∷ ps) = text_on channel p.channel p.text ++ texts_on channel ps
 
--- What is said in two parts, one after the other, is said together.
+-- What is put in two parts, one after the other, is put together.
 abbrev pub SpeechesJoin : Type 0
 SpeechesJoin = (ps qs : List SpokenPiece) (h h' h'' : Bool) (a b c : ConsoleState) → SpeaksOn ps h h' a b
     → SpeaksOn qs h' h'' b c → SpeaksOn (ps ++ qs) h h'' a c
@@ -60,7 +60,7 @@ SpeechesJoin = (ps qs : List SpokenPiece) (h h' h'' : Bool) (a b c : ConsoleStat
 abbrev pub HeardSpeak : Type 0
 HeardSpeak = (ps : List SpokenPiece) (h' : Bool) (a b : ConsoleState) → SpeaksOn ps true h' a b → Speaks ps a b
 
--- One piece is said by one put.
+-- One piece takes one put.
 abbrev pub OnePieceIsSaid : Type 0
 OnePieceIsSaid = (p : SpokenPiece) (a b : ConsoleState) → PutsWhole p a b → SpeaksOn (p ∷ []) true true a b
 

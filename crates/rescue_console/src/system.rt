@@ -14,17 +14,17 @@ use real_files::file_cursor;
 use std::io::{self, ErrorKind, Read, Stderr, Stdin, Stdout, Write};
 use std::time::{Clock as SystemClocks, Duration, SystemTime, UNIX_EPOCH};
 
-/// Where a clock began: the time of day then, in milliseconds since 1970, and what the clock that isn't set back read, in
-/// whole milliseconds.
+/// Where a clock began: the time of day then, in milliseconds since 1970, and what the clock that isn't set back read,
+/// in whole milliseconds.
 #[derive(Clone, Copy)]
 struct ClockStart {
     time: u64,
     at: u64,
 }
 
-/// The system's clock. It reads the time of day once, at its first reading, and goes on from there by a clock that isn't
-/// set back; so it never goes back. A time before 1970 is taken for 1970. Where one of both clocks can't be read its
-/// last reading is repeated, 0 at first.
+/// The system's clock. It reads the time of day once, at its first reading, and from then on it adds the time of a
+/// clock that isn't set back; so it never goes back. A time before 1970 is taken for 1970. If one of both clocks can't
+/// be read, its last reading is repeated, 0 at first.
 #[derive(Drop)]
 pub struct SystemClock {
     rt: HostRuntime,

@@ -11,7 +11,8 @@ use Rattle.rescue_rules.specs.declared.stop.RunEnd.TheVariants.{SaveFailed}
 use Rattle.rescue_rules.specs.Snapshots.{Snapshot}
 use Rattle.rescue_rules.specs.RunCalls.{closing_calls}
 use Rattle.rescue_core.specs.RunState.{RunState, setting_in}
-use Rattle.rescue_core.specs.Closing.{closing_snapshot, end_of, LastSave, Saved, Unsaved}
+use Rattle.rescue_rules.specs.Work.{end_of}
+use Rattle.rescue_core.specs.Closing.{closing_snapshot, LastSave, Saved, Unsaved}
 
 -- what a save says of a run that shows this
 abbrev pub with_shown : RunState → MapState → Snapshot

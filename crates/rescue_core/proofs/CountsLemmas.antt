@@ -45,17 +45,11 @@ passes_at test (t ∷ map) (suc x) none = passes_at test map x none
 one_failed : (t : Status)
     → list_any (λ s. same t s) (NonTrimmed ∷ NonScraped ∷ BadSector ∷ []) ≡ has_failed t
 one_failed NonTried = refl
-one_failed NonTrimmed = refl
-one_failed NonScraped = refl
-one_failed BadSector = refl
-one_failed Finished = refl
+one_failed _ = refl
 
 one_finished : (t : Status) → list_any (λ s. same t s) (Finished ∷ []) ≡ has_finished t
 one_finished NonTried = refl
-one_finished NonTrimmed = refl
-one_finished NonScraped = refl
-one_finished BadSector = refl
-one_finished Finished = refl
+one_finished _ = refl
 
 failed_set : (domain : ℕ → Bool) (map : List Status)
     → has_one domain map (NonTrimmed ∷ NonScraped ∷ BadSector ∷ []) ≡ passing has_failed domain map

@@ -25,9 +25,7 @@ after_last s Retrying = s.retries + 1
 passes_in-are : (s : Setting) (phase : Phase) (number : ℕ)
     → passes_in s phase number ≡ map (numbered phase) (range_with_len number (after_last s phase - number))
 passes_in-are s Copying number = refl
-passes_in-are s Trimming number = refl
-passes_in-are s Scraping number = refl
-passes_in-are s Retrying number = refl
+passes_in-are s _ number = refl
 
 -- some passes of a phase, and those after it
 abbrev some_from : Setting → Phase → (number few : ℕ) → List Pass

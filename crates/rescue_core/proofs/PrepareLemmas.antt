@@ -80,11 +80,6 @@ pub prepared_parted : (again retrim : Bool) (s : Status)
     → replaced BadSector (prepared_status again retrim BadSector)
     (replaced NonScraped (prepared_status again retrim NonScraped)
     (replaced NonTrimmed (prepared_status again retrim NonTrimmed) s)) ≡ prepared_status again retrim s
-prepared_parted false false NonTried = refl
-prepared_parted false false NonTrimmed = refl
-prepared_parted false false NonScraped = refl
-prepared_parted false false BadSector = refl
-prepared_parted false false Finished = refl
 prepared_parted false true NonTried = refl
 prepared_parted false true NonTrimmed = refl
 prepared_parted false true NonScraped = refl
@@ -100,6 +95,7 @@ prepared_parted true true NonTrimmed = refl
 prepared_parted true true NonScraped = refl
 prepared_parted true true BadSector = refl
 prepared_parted true true Finished = refl
+prepared_parted false false _ = refl
 
 module _ (domain : ℕ → Bool) (again retrim : Bool) (trimmed scraped bad : Status)
     (a : trimmed ≡ prepared_status again retrim NonTrimmed) (b : scraped ≡ prepared_status again retrim NonScraped)
@@ -136,10 +132,7 @@ left_alone false from to s never = refl
 
 was_replaced : (from to : Status) → replaced from to from ≡ to
 was_replaced NonTried to = refl
-was_replaced NonTrimmed to = refl
-was_replaced NonScraped to = refl
-was_replaced BadSector to = refl
-was_replaced Finished to = refl
+was_replaced _ to = refl
 
 -- of a domain, the positions in front of one have a status replaced
 module _ (domain : ℕ → Bool) (from to : Status) (at : ℕ) (old mid : List Status) (i : IsChanged (below domain at) (replaced from to) old mid) where

@@ -11,7 +11,7 @@ use Rattle.transfer_token.specs.declared.token.Request.{Request}
 use Rattle.rescue_rules.specs.declared.stop.Stop.{Stop}
 use Rattle.rescue_rules.specs.declared.stop.TrimMode.TheVariants.{Lead, Tail}
 use Rattle.rescue_rules.specs.declared.phase.Phase.{Phase}
-use Rattle.rescue_rules.specs.declared.phase.Phase.TheVariants.{Copying, Trimming, Scraping, Retrying}
+use Rattle.rescue_rules.specs.declared.phase.Phase.TheVariants.{Copying, Trimming}
 use Rattle.rescue_rules.specs.Setting.{Setting, IsSensible}
 use Rattle.rescue_rules.specs.Passes.{Pass, taken, numbered}
 use Rattle.rescue_rules.specs.Machine.{Machine, pass_of, is_live, is_wanted, IsRequest, has_request}
@@ -60,9 +60,7 @@ never_asked r room e t gone =
 
 pub copies_is : (phase : Phase) → copies phase ≡ true → phase ≡ Copying
 copies_is Copying is = refl
-copies_is Trimming is = absurd (cc)
-copies_is Scraping is = absurd (cc)
-copies_is Retrying is = absurd (cc)
+copies_is _ is = absurd (cc)
 
 never_copies : (r : RunState) (room : ℕ) (e : Event) → IsTurn r room e → IsGone NonTried r → is_copying r.machine ≡ true → ⊥
 never_copies r room e t gone on =

@@ -55,7 +55,7 @@ Tallies tally turn after shown end tally' =
     → shown ≡ (step (setting_in r) r.machine e).shown → end ≡ end_met e.reading
     → tally' ≡ tally_of (step (setting_in r) r.machine e)
 
--- its counts
+-- the counts of a run after a turn
 abbrev pub Recounts : Counts → Live → List Status → Phase → Request → Turn → (end : Option ℕ) → Counts → Type 0
 Recounts counts live map' phase request turn end counts' =
     (r : RunState) (e : Event) (heard : Bool) → HasCounts r counts → IsMarkedRead r e phase request turn live map'

@@ -7,10 +7,11 @@ use Rattle.save_resume.specs.Saving.{IsNameIn, drafting_after_fault}
 use Rattle.rescue_rules.specs.declared.stop.Stop.{Stop}
 use Rattle.rescue_rules.specs.declared.stop.Stop.TheVariants.{SourceLost, Site, LimitMet, NoMemory}
 use Rattle.rescue_rules.specs.declared.stop.RunEnd.{RunEnd}
-use Rattle.rescue_rules.specs.declared.stop.RunEnd.TheVariants.{Done, Stopped, SaveFailed}
+use Rattle.rescue_rules.specs.declared.stop.RunEnd.TheVariants.{Stopped, SaveFailed}
 use Rattle.rescue_rules.specs.Snapshots.{Snapshot, snapshot_of, finished_snapshot}
 use Rattle.rescue_rules.specs.RunCalls.{closing_calls}
 use Rattle.rescue_rules.specs.Lines.{is_done, last_line}
+use Rattle.rescue_rules.specs.Work.{end_of}
 use Rattle.rescue_console.specs.Speaking.{SpokenPiece, out_pieces}
 use Rattle.rescue_core.specs.RunState.{RunState, setting_in}
 
@@ -26,12 +27,7 @@ abbrev pub closing_snapshot : Option Stop → RunState → Snapshot
 closing_snapshot None r = finished_snapshot r.machine
 closing_snapshot (Some stop) r = snapshot_of r.machine
 
--- how a run ends whose last calls returned
-abbrev pub end_of : Option Stop → RunEnd
-end_of None = Done
-end_of (Some stop) = Stopped stop
-
--- its last calls returned, a save or without a mapfile an image sync, or one of them failed
+-- a run's last calls returned, a save or without a mapfile an image sync, or one of them failed
 pub data LastSave (stop : Option Stop) (r : RunState) (end : RunEnd) (site site' : SiteState) : Type 0 where
   Saved : end ≡ end_of stop → Makes (closing_calls (setting_in r) (closing_snapshot stop r)) site site'
       → site'.is_drafting ≡ false → LastSave stop r end site site'

@@ -9,13 +9,13 @@ use Rattle.rescue_core.specs.Search.{IsMarked}
 abbrev pub replaced : (from to : Status) → Status → Status
 replaced from to status = if same status from then to else status
 
--- from a place on, the positions that have a property make so many ranges
+-- from a place on, the positions that have a property make this number of ranges
 abbrev pub HasRanges : (ℕ → Type 0) → (from count : ℕ) → Type 0
 HasRanges P from zero = (x : ℕ) → from ≤ x → P x → ⊥
 HasRanges P from (suc count) =
     (start : ℕ) × (end : ℕ) × IsFirst P from start × IsRangeUp P start end × HasRanges P end count
 
--- the positions of a domain whose status is to be replaced by another one make so many ranges
+-- the positions of a domain whose status is to be replaced by another one make this number of ranges
 pub record HasChanges (domain : ℕ → Bool) (map : List Status) (from to : Status) (ranges : ℕ) : Type 0 where
   pub some : from ≢ to → HasRanges (IsMarked domain map from) 0 ranges
   pub none : from ≡ to → ranges ≡ 0
@@ -26,7 +26,7 @@ pub record HasRoom (domain : ℕ → Bool) (map : List Status) (from to : Status
   pub changes : HasChanges domain map from to ranges
   pub enough : 2 * ranges ≤ spare
 
--- so many blocks, and two more for each of them
+-- this number of blocks, and two more for each of them
 pub record TakesRoom (domain : ℕ → Bool) (map : List Status) (from to : Status) (others room : ℕ) : Type 0 where
   pub ranges : ℕ
   pub changes : HasChanges domain map from to ranges

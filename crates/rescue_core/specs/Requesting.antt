@@ -12,7 +12,7 @@ use Rattle.rescue_core.specs.Search.{IsMarked}
 abbrev pub search_by : Search → RulesSearch
 search_by f = record { up = f.up; from = f.from; front = f.front; size = f.size }
 
--- a machine stands at a place of a phase, over a map, and this is where the input was found to end, if it was
+-- a machine is at a place of a phase, over a map, and this is where the input was found to end, if it was
 pub record StandsAt (m : Machine) (phase : Phase) (progress : Progress) (statuses : List Status) (end : Option ℕ)
     : Type 0 where
   pub passes : m.passes ≡ numbered phase progress.pass ∷ drop 1 m.passes

@@ -17,14 +17,14 @@ use Rattle.rescue_rules.specs.MachineLaws.{IsInOrder}
 use Rattle.rescue_rules.specs.Moves.{begun}
 use Rattle.rescue_rules.specs.declared.report.Counts.{Counts}
 use Rattle.rescue_rules.specs.Counts.{counts_of}
-use Rattle.rescue_rules.specs.Beginning.{first_pass, nothing_shown, machine_of}
+use Rattle.rescue_rules.specs.Beginning.{first_pass, shown_at_first, machine_of}
 use Rattle.rescue_domain.specs.Parts.{covers}
 use Rattle.rescue_core.specs.declared.settings.Settings.{Settings}
 use Rattle.rescue_core.specs.declared.state.Progress.{Progress}
 use Rattle.rescue_core.specs.declared.state.Tally.{Tally}
 
--- its settings, its domain, the names of its mapfile and its draft if there is a mapfile, the command line, the phase
--- and the pass that it is in, and where it stands; and whether it is heard: lines are asked for, and each was put
+-- A run's settings, its domain, the names of its mapfile and its draft if there is a mapfile, and the command line. The
+-- phase and the pass that it is in, and how far it is. Whether it is heard: lines are asked for, and each was put.
 pub record RunState : Type 0 where
   pub settings : Settings
   pub domain : List Range
@@ -35,14 +35,14 @@ pub record RunState : Type 0 where
   pub machine : Machine
   pub heard : Bool
 
--- those names, which mean nothing where there is no mapfile
+-- the names of a mapfile and its draft, which mean nothing if there is no mapfile
 abbrev pub names_in : Option MapNames → MapNames
 names_in None = record { map = []; draft = [] }
 names_in (Some names) = names
 
 -- what settings, a domain by its intervals, names and a command line ask for. A run knows neither the names of the
 -- input and of the output nor the input's length, nor what the output may be, nor how its map was prepared, nor whether
--- more is said before it.
+-- more lines come before it.
 abbrev pub setting_with : Settings → List Range → Option MapNames → List ℕ → Setting
 setting_with settings domain names line = record {
   infile = [];
@@ -149,7 +149,7 @@ IsLed r = r.phase ≡ Trimming → is_up (setting_in r) (numbered r.phase r.pass
     → x < led_from r.machine.mode r.machine.cursor → is_live (setting_in r) r.machine x ≡ true
     → Has r.machine.map NonTrimmed x → ⊥
 
--- what holds of a run between its turns, with a buffer for so many bytes
+-- what holds of a run between its turns, with a buffer for `room` bytes
 pub record IsRunning (r : RunState) (room : ℕ) : Type 0 where
   pub sound : IsSound r.settings
   pub suits : Suits r.settings (covers r.domain) (length r.machine.map)
@@ -170,11 +170,6 @@ pub record IsRunning (r : RunState) (room : ℕ) : Type 0 where
 pub record HasCounts (r : RunState) (counts : Counts) : Type 0 where
   pub counts_are : counts ≡ counts_of (is_live (setting_in r) r.machine) r.machine.map
 
--- what a run shows at first: what a mapfile showed that it goes on from, or a rescue that has done nothing
-abbrev pub first_shown : Option MapState → MapState
-first_shown None = nothing_shown
-first_shown (Some state) = state
-
 -- a run at its start
 abbrev pub started : Settings → List Range → Option MapNames → List ℕ → List Status → Option MapState → (moment : ℕ)
     → (heard : Bool) → RunState
@@ -185,7 +180,7 @@ started settings domain names line map loaded moment heard = record {
   line = line;
   phase = Copying;
   pass = first_pass loaded;
-  machine = machine_of (setting_with settings domain names line) map loaded (first_shown loaded) moment;
+  machine = machine_of (setting_with settings domain names line) map loaded (shown_at_first loaded) moment;
   heard = heard;
 }
 

@@ -56,14 +56,14 @@ pub record RunsAt (settings : Settings) (phase : Phase) (progress : Progress) (r
   pub mode : r.machine.mode ≡ progress.mode
   pub skip : r.machine.skip ≡ progress.skip
 
--- a read of what was requested, which gave so many bytes, and met the input's end or didn't
+-- a read of what was requested, which gave this number of bytes, and met the input's end or didn't
 pub record IsReadOf (request : Request) (given : ℕ) (ended : Bool) (reading : Reading) : Type 0 where
   pub pos : reading.pos ≡ request.pos
   pub asked : reading.asked ≡ request.len
   pub count : length reading.given ≡ given
   pub end : reading.ended ≡ ended
 
--- A read of what was requested between two readings of the clock, and what it was cut into; what it gave stands at the
+-- A read of what was requested between two readings of the clock, and what it was cut into; what it gave is at the
 -- buffer's front.
 pub record IsTimed (request : Request) (sector : ℕ) (timed : Timed) (buf : List ℕ) (source source' : SourceState)
     (clock clock' : ClockState) : Type 0 where
@@ -88,7 +88,7 @@ fetched_of (EmptyKept over) = Empty over
 abbrev pub end_met : Reading → Option ℕ
 end_met r = if r.ended then Some (r.pos + length r.given) else None
 
--- a read that was cut into this, whose bytes stand at the buffer's front, and whose first byte has this place
+-- a read that was cut into this, whose bytes are at the buffer's front, and whose first byte has this place
 pub record IsCutAt (fetched : Fetched) (buf : List ℕ) (at : ℕ) (s : Setting) (r : Reading) : Type 0 where
   pub cut : IsCut s.sector r fetched
   pub front : take (length r.given) buf ≡ r.given

@@ -31,7 +31,7 @@ pub record IsEvent (request : Request) (e : Event) (source source' : SourceState
   pub pos : e.reading.pos ≡ request.pos
   pub asked : e.reading.asked ≡ request.len
   pub few : length e.reading.given ≤ request.len
-  -- it met the input's end only where it gave less than it was asked for
+  -- the read met the input's end only if it gave less than it was asked for
   pub ends : e.reading.ended ≡ true → length e.reading.given < request.len
   pub right : IsTrue source.tells
       → e.reading.given ≡ slice_range source.bytes request.pos (request.pos + length e.reading.given)
@@ -60,7 +60,7 @@ turn_of r e = record {
   ended = e.reading.ended;
 }
 
--- what is said of an event: its line, if one is due
+-- what an event puts: its line, if one is due
 abbrev pub move_pieces : RunState → Event → List SpokenPiece
 move_pieces r e = out_pieces (move_lines (setting_in r) (move_by r e))
 

@@ -71,7 +71,7 @@ pub(crate) fn go_on_by_kind<T: Tiles>(
     }
 }
 
-/// Does so in any case.
+/// Marks and counts after any read.
 #[inline(always)]
 fn go_on<T: Tiles>(
     settings: &Settings,

@@ -1,7 +1,7 @@
 //! What the end of a run shows and answers.
 ghost use Rattle.std.specs.Prelude.{◌≡◌, MatchOption};
 ghost use Rattle.mapfile_text.specs.declared.state.Current.TheVariants.{Finished};
-ghost use Rattle.rescue_core.specs.Closing.{end_of};
+ghost use Rattle.rescue_rules.specs.Work.{end_of};
 
 use mapfile_text::state::{Current, MapState};
 use rescue_rules::stop::{RunEnd, Stop};

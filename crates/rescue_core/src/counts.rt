@@ -81,7 +81,8 @@ fn fail_after<T: Tiles>(
     }
 }
 
-/// The count of failures, when positions from `from` up to `to` hadn't failed, and those from `kept` on do after a read.
+/// The count of failures, when positions from `from` up to `to` hadn't failed, and those from `kept` on do after a
+/// read.
 #[inline(never)]
 fn failed_more<T: Tiles>(
     failed: Count,
@@ -102,7 +103,8 @@ fn failed_more<T: Tiles>(
     }
 }
 
-/// The count of failures, when positions from `from` up to `to` had failed, and those up to `kept` haven't after a read.
+/// The count of failures, when positions from `from` up to `to` had failed, and those up to `kept` haven't after a
+/// read.
 #[inline(never)]
 fn failed_less<T: Tiles>(
     failed: Count,
@@ -190,7 +192,7 @@ fn failed_at<T: Tiles>(live: Live<'_>, tiles: &T, x: u64) -> bool
     x < tiles.end() && live.holds(x) && has_failed(tiles.at(x))
 }
 
-/// Whether the position right in front of one is left of a domain and failed.
+/// Whether the position right before one is left of a domain and failed.
 fn failed_in_front<T: Tiles>(live: Live<'_>, tiles: &T, x: u64) -> bool
     ensures { result ≡ is_in_front (failed_in live.entry (T.statuses tiles.now)) x }
 {

@@ -6,7 +6,7 @@ ghost use Rattle.rescue_rules.specs.Step.{save_interval};
 use mapfile_text::state::Current;
 use rescue_rules::report::Said;
 
-/// So many milliseconds lie between two due saves.
+/// The milliseconds between two due saves.
 const SAVE_INTERVAL: u64 = 30000;
 
 /// Whether a line is due after an event, in this phase and this second.

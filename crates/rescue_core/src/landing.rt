@@ -1,4 +1,4 @@
-//! What was fetched stands in the output before it is marked.
+//! What was fetched is in the output before it is marked.
 ghost use Rattle.std.specs.Prelude.{◌≡◌, ℕ, ◌+◌, ◌-◌, ◌<◌, ◌≤◌, ◌^◌, true, length, IfOk, OnOk, OnErr};
 ghost use Rattle.faulty_source.specs.Journal.{Reading, kept};
 ghost use Rattle.crash_site.specs.SiteChanges.{Stays, Makes, Breaks};
@@ -14,7 +14,7 @@ use transfer_token::fetch::Fetched;
 use transfer_token::land::land;
 use transfer_token::token::{Landed, Missed, Over};
 
-/// What was fetched, once its kept part stands in the output.
+/// What was fetched, once its kept part is in the output.
 pub(crate) enum Kept {
     Whole(Landed),
     Part(Landed, Missed),
@@ -38,7 +38,7 @@ impl Kept {
     }
 }
 
-/// Writes what was loaded, which stands at the buffer's front, at a place of the output. Where that fails, all that was
+/// Writes what was loaded, which is at the buffer's front, at a place of the output. If that fails, all that was
 /// fetched is set aside.
 #[inline(always)]
 pub(crate) fn land_kept<D: Site>(

@@ -48,7 +48,7 @@ fn name_of(current: Current) -> &'static str
     }
 }
 
-/// Adds how many bytes a second that are, for so many milliseconds.
+/// Adds how many bytes a second are written, if `written` bytes take `taken` milliseconds.
 fn add_rate(line: &mut Line, written: u64, taken: u64)
     requires { array_vec_len line.old ≤ 472 }
     ensures text { line.new.items ≡ line.old.items ++ decimal (rate_of written taken) }

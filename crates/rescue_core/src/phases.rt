@@ -46,11 +46,12 @@ pub struct Copying;
 #[derive(Clone, Copy, Debug)]
 pub struct Trimming;
 
-/// None is non-trimmed either, unless trimming is off.
+/// No position of the domain is non-tried, and none is non-trimmed unless trimming is off.
 #[derive(Clone, Copy, Debug)]
 pub struct Scraping;
 
-/// None is non-scraped either, unless scraping is off.
+/// No position of the domain is non-tried. None is non-trimmed unless trimming is off, and none is non-scraped unless
+/// scraping is off.
 #[derive(Clone, Copy, Debug)]
 pub struct Retrying;
 
@@ -99,7 +100,7 @@ impl<P: Stage, T: Tiles> Model for Rescue<P, T> {
 
 impl<T: Tiles> Rescue<Copying, T> {
     /// A rescue of a domain of a map, at this moment (milliseconds since 1970): in copying's first pass, or in that of
-    /// a state that a mapfile showed, where it goes on from its position. Without a mapfile it saves nothing. It reads
+    /// a state that a mapfile showed, where it resumes from its position. Without a mapfile it saves nothing. It reads
     /// into a buffer for a cluster, and says lines if it is heard.
     pub fn start(
         buf: Vec<u8>,
@@ -210,21 +211,21 @@ impl<T: Tiles> Rescue<Finished, T> {
 }
 
 impl<P: Stage, T: Tiles> Rescue<P, T> {
-    /// What it was asked to do.
+    /// What the rescue was asked to do.
     pub fn settings(&self) -> &Settings
         ensures { result.now ≡ self.now.settings }
     {
         self.running.settings()
     }
 
-    /// The positions that it asks for.
+    /// The positions that the rescue asks for.
     pub fn domain(&self) -> &Domain
         ensures { result.now ≡ self.now.domain }
     {
         self.running.domain()
     }
 
-    /// Its map.
+    /// The rescue's map.
     pub fn tiles(&self) -> &T
         ensures { T.statuses result.now ≡ self.now.machine.map }
     {
@@ -267,10 +268,10 @@ impl<P: Stage, T: Tiles> Rescue<P, T> {
         self.running.begin_pass(phase, pass);
     }
 
-    /// One turn: room in the map, a reading of the clock, the read, another reading, the write of what was kept, the
-    /// marks, the line if one is due and the rescue is heard, and the save if one is due (without a mapfile none is).
-    /// Want of memory comes before the read; a lost read or a failed write leaves the range as it was, and says
-    /// nothing; a call of the save may fail after the marks. After a put that fails it isn't heard any more.
+    /// One turn: room in the map, a reading of the clock, the read, another reading, the write of what was kept, and
+    /// the marks. The line follows, if one is due and the rescue is heard, and the save, if one is due. Without a
+    /// mapfile none is. Want of memory comes before the read; a lost read or a failed write leaves the range as it was,
+    /// and says nothing; a call of the save may fail after the marks. After a put that fails it isn't heard any more.
     // Inlined in the loop of each phase, or a request of one sector costs half as much again (bench/turns).
     #[inline(always)]
     pub fn turn<S: Source, D: Site, K: Clock, C: Console>(

@@ -110,8 +110,9 @@ fn search_at(settings: &Settings, phase: Phase, progress: &Progress, end: u64) -
 /// The next range of positions left of a domain that have a status, by a search.
 #[inline(always)]
 fn next_range<T: Tiles>(live: Live<'_>, tiles: &T, search: Search, status: Status) -> Option<Range>
-    ensures range { IfSome result (λ range. IsNextRange search.up (IsMarked (lives live.entry) (T.statuses tiles.now) status)
-        search.from range.from range.to) }
+    ensures range { IfSome result (λ range.
+        IsNextRange search.up (IsMarked (lives live.entry) (T.statuses tiles.now) status) search.from range.from
+        range.to) }
     ensures none { IfNone result ((x : ℕ) → is_ahead (search_by search) x ≡ true
         → IsMarked (lives live.entry) (T.statuses tiles.now) status x → ⊥) }
 {
@@ -175,7 +176,7 @@ fn request_by<T: Tiles>(
     Some(cut(search, settings.sector, range))
 }
 
-/// The next request of a phase at a place, of a machine that stands there.
+/// The next request of a phase at a place, of a machine that is there.
 #[inline(always)]
 pub(crate) fn next_request<T: Tiles>(
     settings: &Settings,

@@ -83,7 +83,7 @@ impl<T: Tiles> Model for Running<T> {
 
 impl<T: Tiles> Running<T> {
     /// A run that begins with copying: in its first pass, or where it was in the pass of a state that a mapfile showed.
-    /// It reads into a buffer for a cluster.
+    /// The run reads into a buffer for a cluster.
     pub fn start(
         buf: Vec<u8>,
         settings: Settings,
@@ -198,8 +198,9 @@ impl<T: Tiles> Running<T> {
         self.tally.shown = state;
     }
 
-    /// One turn: room in the map, a reading of the clock, the read, another reading, the write of what was kept, the
-    /// marks, the line if one is due, a look at the limits, and the save if one is due: without a mapfile none is.
+    /// One turn: room in the map, a reading of the clock, the read, another reading, the write of what was kept, and
+    /// the marks. The line follows, if one is due, then a look at the limits, and the save, if one is due. Without a
+    /// mapfile none is.
     // Inlined in the loop of each phase, with what it calls that is marked so, or a request of one sector costs half as
     // much again (bench/turns).
     #[inline(always)]

@@ -41,7 +41,7 @@ pub(crate) fn save_now<D: Site, T: Tiles>(
     Ok(())
 }
 
-/// The same at a run's end, where the image is synced if there is no mapfile.
+/// Saves a map at a run's end, with what the run has come to, if there is a mapfile, and otherwise syncs the image.
 pub(crate) fn save_or_sync<D: Site, T: Tiles>(
     site: &mut D,
     names: &Option<Names>,

@@ -7,13 +7,13 @@ pub struct Settings {
     pub sector: u64,
     /// How much copying asks for at most: a multiple of the sector, at most 16,777,216.
     pub cluster: u64,
-    /// A position of the input, and where it stands in the output.
+    /// A position of the input, and where it is in the output.
     pub ipos: u64,
     pub opos: u64,
     /// How far copying jumps after a failed or slow read, at first and at most: multiples of the sector.
     pub skip: u64,
     pub skip_max: u64,
-    /// A read is slow below so many bytes a second; with 0 none is.
+    /// A read is slow below this number of bytes a second; with 0 none is.
     pub min_rate: u64,
     /// How often the bad sectors are read again.
     pub retries: u32,

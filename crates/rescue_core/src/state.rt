@@ -2,13 +2,11 @@
 use crate::request::start_of;
 use crate::settings::Settings;
 use mapfile_text::state::{Current, MapState};
+use rescue_rules::phase::COPYING_PASSES;
 use rescue_rules::report::Said;
 use rescue_rules::stop::TrimMode;
 
-/// How many times copying goes over the input.
-const COPYING_PASSES: u32 = 5;
-
-/// Where a run stands in its map.
+/// How far a run has come in its map.
 #[derive(Clone, Copy, Debug, PartialEq, Eq)]
 pub(crate) struct Progress {
     /// The pass, counted from 1 within its phase.
@@ -88,7 +86,7 @@ pub(crate) struct Tally {
     pub over: Option<u64>,
     /// How many bytes were written.
     pub written: u64,
-    /// The line that was said last after an event, if one was.
+    /// The line that was put last after an event, if there was one.
     pub said: Option<Said>,
     /// How many areas had failed at the start.
     pub first_areas: u64,
@@ -96,10 +94,10 @@ pub(crate) struct Tally {
 
 impl Tally {
     ghost use Rattle.std.specs.Prelude.{◌≡◌, None};
-    ghost use Rattle.rescue_core.specs.RunState.{first_shown};
+    ghost use Rattle.rescue_rules.specs.Beginning.{shown_at_first};
 
-    /// That of a run which begins at this moment, with so many areas that have failed, and may go on from a state that
-    /// a mapfile showed.
+    /// The tally of a run that begins at this moment, with `first_areas` areas that have failed. The run may go on with
+    /// a state that a mapfile showed.
     pub fn first(loaded: Option<MapState>, moment: u64, first_areas: u64) -> Tally
         ensures { result ≡ record {
           failed = 0;
@@ -107,7 +105,7 @@ impl Tally {
           now = moment;
           whole_at = moment;
           due_at = moment;
-          shown = first_shown loaded;
+          shown = shown_at_first loaded;
           over = None;
           written = 0;
           said = None;

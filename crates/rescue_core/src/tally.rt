@@ -20,7 +20,7 @@ use rescue_rules::phase::Phase;
 use rescue_rules::report::Said;
 use transfer_token::token::Request;
 
-/// What a turn answers of what a read gave between two times, of which so many bytes were kept.
+/// What a turn answers of what a read gave between two times, of which `kept` bytes were kept.
 pub(crate) fn turn_after(
     settings: &Settings,
     request: Request,

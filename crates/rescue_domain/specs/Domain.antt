@@ -8,12 +8,12 @@ use Rattle.rescue_domain.specs.Finished.{is_finished_at}
 abbrev pub IsIn : (ℕ → Bool) → ℕ → Type 0
 IsIn domain x = domain x ≡ true
 
--- x lies below the end of so many positions from pos on, if their number is given
+-- x lies below the end of the positions from pos on, if their number is given
 abbrev pub is_below : ℕ → Option ℕ → ℕ → Bool
 is_below pos None x = true
 is_below pos (Some size) x = nat_lt x (pos + size)
 
--- the positions from pos on, so many if that is given, below a limit
+-- the positions from pos on, of the number that is given if one is, below a limit
 abbrev pub whole_domain : ℕ → Option ℕ → ℕ → ℕ → Bool
 whole_domain pos size limit x = nat_le pos x && is_below pos size x && nat_lt x limit
 
@@ -21,7 +21,7 @@ whole_domain pos size limit x = nat_le pos x && is_below pos size x && nat_lt x 
 abbrev pub finished_in : (ℕ → Bool) → List Status → ℕ → Bool
 finished_in domain map x = domain x && is_finished_at map x
 
--- the same where there is a map, and else all of the set
+-- what is finished in a map of a set of positions, if there is a map, and else all of the set
 abbrev pub in_map : (ℕ → Bool) → Option (List Status) → ℕ → Bool
 in_map domain None = domain
 in_map domain (Some map) = finished_in domain map

@@ -1,4 +1,4 @@
--- Where positions stand in the output.
+-- Where positions are in the output.
 use Rattle.std.specs.Prelude.{◌≡◌, ℕ, ◌+◌, ◌-◌, ◌^◌, ◌<◌, ◌≤◌, Bool, true}
 
 -- a position is in the output as far past the output position as it is past the input position

@@ -223,7 +223,7 @@ fn ended_by(parts: &[Range], x: u64) -> usize
     parts.partition_point(|part| part.to <= x)
 }
 
-/// Whether so many intervals end at or before a position, and no more.
+/// Whether `count` intervals end at or before a position, and no more.
 fn are_ended(parts: &[Range], count: usize, x: u64) -> bool
     requires { AreParts 0 parts.now }
     ensures { IsTrue result → EndBy parts.now count x }

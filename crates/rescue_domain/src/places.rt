@@ -9,7 +9,7 @@ use crate::domain::end_of;
 const LIMIT: u64 = 1 << 63;
 
 /// Whether the positions from `pos` on, `size` of them if that is given, and below `end`, all end in the output below
-/// 2^63, where `pos` stands there at `to`.
+/// 2^63, where `pos` is there at `to`.
 pub fn places_fit(pos: u64, size: Option<u64>, to: u64, end: u64) -> bool
     requires to { to < 2 ^ 63 }
     requires end { end < 2 ^ 63 }

@@ -6,10 +6,10 @@ use block_list::status::Status;
 use block_list::tiles::Tiles;
 use faulty_source::source::{Got, Source, SourceFault, SourceLost};
 
-/// A source for trying how a rescue goes. It asks the source below it for all of each read. What came of it in front of
-/// the first position that isn't finished in a map of positions it gives as a read that failed there; if all of it
-/// is finished, it answers as that source did. A position at the map's end or past it isn't finished. All else is as
-/// that source does it: what opens, its length, and how often something failed.
+/// A source for trying how a rescue goes. It asks the source below it for all of each read. It gives what came of it
+/// before the first position that isn't finished in a map, as a read that failed there; if all of it is finished, it
+/// answers as that source did. A position at the map's end or past it isn't finished. All else is as that source does
+/// it: what opens, its length, and how often something failed.
 #[derive(Drop)]
 pub struct TestSource<'a, S, T> {
     inner: &'a mut S,
@@ -48,7 +48,7 @@ impl<S: Source, T: Tiles> Source for TestSource<'_, S, T> {
     }
 }
 
-/// How many of so many positions from one on come before the first that isn't finished.
+/// How many of `count` positions from one on come before the first that isn't finished.
 pub fn count_finished<T: Tiles>(tiles: &T, pos: u64, count: usize) -> usize
     requires { pos + count < 2 ^ 63 }
     ensures { result ≡ finished_front (T.statuses tiles.now) pos count }

@@ -53,7 +53,8 @@ pub record RescueReads (c : RescueCommand) (line : List ℕ) (length time : ℕ)
   pub seen_are : map (seen test) raw ≡ reads_of events
   pub statuses : List Status
   pub fresh : IsFresh length statuses None
-  pub run : IsRun (setting_of c line length no_maps) (machine_over (setting_of c line length no_maps) statuses None time)
+  pub run : IsRun (setting_of c line length no_maps)
+      (machine_over (setting_of c line length no_maps) statuses None time)
       events
 
 -- no option sets a limit, and no read is slow
@@ -63,7 +64,7 @@ pub record AreUnlimited (o : Options) : Type 0 where
   pub areas : o.max_bad_areas ≡ None
   pub time : o.timeout ≡ None
 
--- They are the first ones of the plan for the rescue's options, and all of it where no request is left.
+-- The rescue's reads are the first ones of the plan for its options, and all of it if no request is left.
 pub record RescueIsPlanned (c : RescueCommand) (line : List ℕ) (length time : ℕ) (test : List Status)
     (events : List Event) : Type 0 where
   pub first : BeginsPlan (plan_setting c.options length) length test (map planned (reads_of events))

@@ -41,7 +41,7 @@ pub record BeginsPlan (s : Setting) (length : ℕ) (test : List Status) (reads :
   pub seen : All (IsPlannedIn test) (reads_of events)
   pub are : map planned (reads_of events) ≡ reads
 
--- They are all of it: no pass has a request left.
+-- Reads are all of a plan: no pass has a request left.
 pub record IsPlan (s : Setting) (length : ℕ) (test : List Status) (reads : List PlannedRead) : Type 0 where
   pub begins : BeginsPlan s length test reads
   pub ended : has_ended s (state_after s (plan_start s length) begins.events) ≡ true

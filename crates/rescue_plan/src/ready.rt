@@ -1,47 +1,19 @@
 //! What a plan begins with.
 ghost use Rattle.std.specs.Prelude.{◌≡◌, ◌<◌, ◌^◌, IfOk};
-ghost use Rattle.ddrescue_words.specs.Asking.{AreInLimits as AreOptionsInLimits};
-ghost use Rattle.task_files.specs.Settings.{settings_by};
 ghost use Rattle.ddrescueplan_words.specs.Command.{AreInLimits, told_by};
 ghost use Rattle.rescue_plan.specs.Running.{BeginsPlannedRun, untried_map};
 
 use block_list::plain_tiles::PlainTiles;
 use block_list::tiles::{NoMemory, Tiles};
-use ddrescue_words::options::Options;
 use ddrescueplan_words::command::Command;
 use mapfile_text::heading::{Heading, Program};
 use paged_blocks::paged_tiles::PagedTiles;
 use rescue_core::phases::{Copying, Rescue};
 use rescue_core::prepare::prepare;
-use rescue_core::settings::Settings;
 use rescue_domain::domain::Domain;
 use std::alloc::Global;
 use task_files::load::RunMap;
-
-/// What the rescue is asked to do.
-fn settings_for(options: &Options) -> Settings
-    requires { AreOptionsInLimits options.now }
-    ensures { result ≡ settings_by options.now }
-{
-    Settings {
-        sector: options.sector,
-        cluster: options.cluster(),
-        ipos: options.input_position,
-        opos: options.output_position.unwrap_or(options.input_position),
-        skip: options.first_skip(),
-        skip_max: options.largest_skip(),
-        min_rate: options.min_rate,
-        retries: options.retries,
-        max_errors: options.max_read_errors,
-        max_areas: options.max_bad_areas,
-        new_areas: options.new_areas,
-        timeout: options.timeout,
-        no_trim: options.no_trim,
-        no_scrape: options.no_scrape,
-        reverse: options.reverse,
-        one_way: options.unidirectional,
-    }
-}
+use task_files::settings::settings_for;
 
 /// The map of an input that wasn't tried.
 fn blank_map(alloc: Global, length: u64) -> Result<RunMap, NoMemory>

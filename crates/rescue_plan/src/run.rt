@@ -1,4 +1,4 @@
-//! The run of a plan: a rescue whose reads are said, and which writes nothing.
+//! The run of a plan: a rescue that says its reads, and writes nothing.
 ghost use Rattle.std.specs.Prelude.{◌≡◌, IsTrue};
 ghost use Rattle.ddrescueplan_words.specs.Command.{Command, AreInLimits};
 ghost use Rattle.rescue_plan.specs.Running.{BeginsPlannedRun, IsBegun, PutsPlan, end_by};
@@ -21,7 +21,7 @@ use task_rescue::run::run_rescue;
 pub enum PlanEnd {
     /// The whole plan was put.
     Whole,
-    /// It was put up to a read that is lost.
+    /// The plan was put up to a read that is lost.
     Lost(PlanLoss),
 }
 

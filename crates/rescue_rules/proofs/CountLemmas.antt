@@ -11,7 +11,7 @@ use Rattle.block_list.specs.Areas.{begins_area, count_below, count_of}
 use Rattle.faulty_source.specs.Ends.{is_before}
 use Rattle.faulty_source.specs.Journal.{Reading, is_whole, is_failed, kept}
 use Rattle.rescue_rules.specs.declared.phase.Phase.{Phase}
-use Rattle.rescue_rules.specs.declared.phase.Phase.TheVariants.{Copying, Trimming, Scraping, Retrying}
+use Rattle.rescue_rules.specs.declared.phase.Phase.TheVariants.{Copying}
 use Rattle.rescue_rules.specs.declared.report.Counts.{Counts}
 use Rattle.rescue_rules.specs.declared.stop.TrimMode.{TrimMode}
 use Rattle.rescue_rules.specs.declared.stop.TrimMode.TheVariants.{Lead, Tail}
@@ -83,15 +83,11 @@ rest_not_finished s m size =
 -- what a phase asks for had failed, unless it is copying, and isn't finished
 taken_failed : (phase : Phase) → has_failed (taken phase) ≡ not (copies phase)
 taken_failed Copying = refl
-taken_failed Trimming = refl
-taken_failed Scraping = refl
-taken_failed Retrying = refl
+taken_failed _ = refl
 
 taken_unfinished : (phase : Phase) → has_finished (taken phase) ≡ false
 taken_unfinished Copying = refl
-taken_unfinished Trimming = refl
-taken_unfinished Scraping = refl
-taken_unfinished Retrying = refl
+taken_unfinished _ = refl
 
 -- a position is left of the domain and passes a test, or doesn't
 passing_is : (test : Status → Bool) (s : Setting) (m : Machine) (map : List Status) (x : ℕ) (v : Bool)

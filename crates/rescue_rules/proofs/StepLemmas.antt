@@ -75,9 +75,7 @@ request_asks s ok m p q r =
 -- no phase asks for finished positions
 never_taken : (phase : Phase) → same Finished (taken phase) ≡ false
 never_taken Copying = refl
-never_taken Trimming = refl
-never_taken Scraping = refl
-never_taken Retrying = refl
+never_taken _ = refl
 
 none_taken : (ps : List Pass) → has_taken ps (Some Finished) ≡ false
 none_taken [] = refl
@@ -96,10 +94,8 @@ wanted_domain s m x wanted =
 
 -- in the mode of a range's back, trimming asks for the back of the range that begins there
 pub trims_is : (phase : Phase) → trims phase ≡ true → phase ≡ Trimming
-trims_is Copying is = absurd (cc)
 trims_is Trimming is = refl
-trims_is Scraping is = absurd (cc)
-trims_is Retrying is = absurd (cc)
+trims_is _ is = absurd (cc)
 
 pub tail_trims : (s : Setting) (m : Machine) (low : ℕ) → IsInOrder s m → m.mode ≡ Tail low → is_trimming m ≡ true
 tail_trims s m low order is = true_from_ne_false (is_trimming m) (λ off. let e : Tail low ≡ Lead = sym is ∙ order.lead off in absurd (cc))

@@ -12,7 +12,7 @@ use Rattle.rescue_rules.specs.Counts.{counts_of}
 use Rattle.rescue_rules.specs.Machine.{Machine, start_of}
 use Rattle.rescue_rules.specs.Preparation.{prepared}
 
--- the first pass of copying, and its cursor, where copying goes on from a state that a mapfile showed; the last pass
+-- the first pass of copying, and its cursor, if copying resumes from a state that a mapfile showed; the last pass
 -- always begins at its own start
 abbrev pub first_pass : Option MapState → ℕ
 first_pass None = 1
@@ -33,7 +33,7 @@ abbrev pub shown_at_first : Option MapState → MapState
 shown_at_first None = nothing_shown
 shown_at_first (Some state) = state
 
--- a run over a map, at this time, that goes on from such a state if there is one; what a mapfile showed stands until
+-- a run over a map, at this time, that resumes from such a state if there is one; what a mapfile showed stands until
 -- the first event
 abbrev pub machine_of : Setting → List Status → (from : Option MapState) → (shown : MapState) → (time : ℕ) → Machine
 machine_of s map from shown time = record {
@@ -64,8 +64,8 @@ was_copying NowFilling = false
 was_copying NowGenerating = false
 was_copying NowFinished = false
 
--- Copying goes on from the state that a mapfile showed where that was copying, unless what failed is tried again; else
--- it begins with its first pass.
+-- Copying resumes from the state that a mapfile showed if that was copying, unless what failed is tried again; else it
+-- begins with its first pass.
 abbrev pub goes_on_from : (again : Bool) → Option MapState → Option MapState
 goes_on_from again None = None
 goes_on_from again (Some state) = if again then None else if was_copying state.current then Some state else None

@@ -47,7 +47,7 @@ WritesAt free (image_write pos piece ∷ calls) =
 WritesAt free (image_read pos asked answer ∷ calls) = WritesAt free calls
 WritesAt free (call ∷ calls) = ⊥
 
--- What the mapfile with a number promises of the output (number 0 is the one that stood there before), and which places
+-- What the mapfile with a number promises of the output (number 0 is the one that was there before), and which places
 -- may be written while it is the last one: a promise outlasts any bytes at these places.
 pub record Outlasts (promise : ℕ → List ℕ → Type 0) (free : ℕ → ℕ → Type 0) (start : List ℕ) : Type 0 where
   pub lasts : (n : ℕ) (was now : File) (loose : List (ℕ × ℕ)) → Matches was loose now

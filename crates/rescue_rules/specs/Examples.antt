@@ -9,7 +9,7 @@ use Rattle.rescue_rules.specs.Step.{Event}
 use Rattle.rescue_rules.specs.Moves.{moves, state_after}
 use Rattle.rescue_rules.specs.Beginning.{nothing_shown, machine_of}
 
--- a rescue of so many bytes by sectors of two bytes
+-- a rescue of an input with this length by sectors of two bytes
 abbrev pub small : (end cluster skip : ℕ) → Setting
 small end cluster skip = record {
   infile = 105 ∷ [];
@@ -44,7 +44,7 @@ small end cluster skip = record {
 abbrev pub small_start : (end cluster skip : ℕ) → Machine
 small_start end cluster skip = machine_of (small end cluster skip) (replicate end NonTried) None nothing_shown 0
 
--- a read of so many bytes that gave so many
+-- a read, by how many bytes it asked for and how many it gave
 abbrev pub event_at : (pos asked given : ℕ) → Event
 event_at pos asked given =
     record {

@@ -1,4 +1,4 @@
--- When a limit is looked at.
+-- When a limit is checked.
 use Rattle.std.specs.Prelude.{◌≡◌, ℕ, false, is_none, List, Option, None}
 use Rattle.block_list.specs.declared.status.Status.{Status}
 use Rattle.mapfile_text.specs.declared.state.MapState.{MapState}
@@ -7,7 +7,7 @@ use Rattle.rescue_rules.specs.Machine.{Machine}
 use Rattle.rescue_rules.specs.Step.{Event, step, limit_met}
 use Rattle.rescue_rules.specs.Beginning.{machine_of}
 
--- none is met when a run begins, and after an event a line was said, so that they are looked at
+-- none is met when a run begins, and after an event a line was put, so that they are checked
 pub record LooksAtLimits (s : Setting) (map : List Status) (from : Option MapState) (shown : MapState) (time : ℕ)
     (m : Machine) (e : Event) : Type 0 where
   pub first : limit_met s (machine_of s map from shown time) ≡ None

@@ -69,7 +69,7 @@ move_lines s v =
     then report_text (phase_front v.after.shown) (report_of s v.after) ∷ []
     else []
 
--- those after the moves of events
+-- the lines after the moves of events
 abbrev pub run_lines : Setting → Machine → List Event → List (List ℕ)
 run_lines s m events = flat_map (move_lines s) (moves s m events)
 
@@ -116,7 +116,7 @@ lines_of s m events end =
     run_lines s m (marked_events end events)
     ++ last_line s (is_done end) (state_after s m (marked_events end events)) ∷ []
 
--- What is said first where more is asked for: how many positions of the domain lie below the map's end, and the names of
+-- What is put first if more is asked for: how many positions of the domain lie below the map's end, and the names of
 -- the input and the output.
 abbrev pub opening_lines : Setting → (top : ℕ) → List (List ℕ)
 opening_lines s top =

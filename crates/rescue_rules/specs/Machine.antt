@@ -33,7 +33,7 @@ pub record Machine : Type 0 where
   pub shown : MapState
   -- where reads met the input's end, if they did: what lies there or past it isn't asked for any more
   pub over : Option ℕ
-  -- how many bytes were written, and the line that was said last, if an event had one
+  -- how many bytes were written, and the line that was put last, if an event had one
   pub written : ℕ
   pub said : Option Said
   -- how many areas of the domain had failed at the start
@@ -71,7 +71,7 @@ pub record Search : Type 0 where
   pub front : Bool
   pub size : ℕ
 
--- Trimming takes the front of a range, and then the back of the same range; all else goes on from the cursor.
+-- Trimming takes the front of a range, and then the back of the same range; all else begins at the cursor.
 abbrev pub search_in : Setting → Machine → Phase → TrimMode → Search
 search_in s m Copying mode =
     record { up = is_up s (pass_of m); from = m.cursor; front = is_up s (pass_of m); size = s.cluster }
@@ -95,7 +95,7 @@ IsNextRange false P from start end = IsLast P from end × IsRangeDown P start en
 abbrev pub ceiling : ℕ → ℕ → ℕ
 ceiling b x = (x + (b - 1)) / b * b
 
--- at most so many bytes of a range, up to a sector's boundary: from its front, or from its back
+-- at most this number of bytes of a range, up to a sector's boundary: from its front, or from its back
 abbrev pub cut_start : Search → (sector start end : ℕ) → ℕ
 cut_start f sector start end = if f.front then start else max start (ceiling sector (end - f.size))
 

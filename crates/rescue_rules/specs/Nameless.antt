@@ -1,5 +1,5 @@
 -- A run needs neither the names of its input and its output nor the input's length, nor what its output may be, nor how
--- its map was prepared, nor whether more is said before it.
+-- its map was prepared, nor whether more lines come before it.
 use Rattle.std.specs.Prelude.{◌≡◌, ◌↔◌, false, List, []}
 use Rattle.rescue_rules.specs.Setting.{Setting}
 use Rattle.rescue_rules.specs.Machine.{Machine}
@@ -12,7 +12,8 @@ use Rattle.rescue_rules.specs.Lines.{lines_of}
 
 -- a setting without them
 abbrev pub nameless : Setting → Setting
-nameless s = record s { infile = []; outfile = []; forced = false; end = 0; again = false; retrim = false; verbose = false }
+nameless s =
+    record s { infile = []; outfile = []; forced = false; end = 0; again = false; retrim = false; verbose = false }
 
 -- events are a run with them and without, by the same moves, with the same calls and saves
 pub record RunsAlike (s : Setting) (m : Machine) (events : List Event) : Type 0 where

@@ -9,13 +9,13 @@ use Rattle.rescue_rules.specs.declared.report.Counts.{Counts}
 abbrev pub count_within : (set : ℕ → Bool) → (from to : ℕ) → ℕ
 count_within set from to = count_by set (range_with_len from (to - from))
 
--- the position right in front of one is in a set
+-- the position right before one is in a set
 abbrev pub is_in_front : (set : ℕ → Bool) → ℕ → Bool
 is_in_front set zero = false
 is_in_front set (suc x) = set x
 
 -- Positions from p up to q weren't in a set, and after a change those from k up to q are. One more area begins, unless
--- it goes on from one before them; and one that began right after them doesn't begin there any more.
+-- it continues one before them; and one that began right after them doesn't begin there any more.
 pub record ComesIn (set : ℕ → Bool) (p k q : ℕ) (old new : Count) : Type 0 where
   pub bytes : new.bytes ≡ old.bytes + (q - k)
   pub areas : new.areas + (if set q then 1 else 0)

@@ -21,7 +21,7 @@ abbrev pub output_by : Setting → List ℕ → Reading → List ℕ
 output_by s bytes r =
     if nat_eq (kept s.sector r) 0 then bytes else written bytes (place s r.pos) (take (kept s.sector r) r.given)
 
--- the same after the writes of these events
+-- the bytes of the output after the writes of these events
 abbrev pub output_after : Setting → List ℕ → List Event → List ℕ
 output_after s bytes [] = bytes
 output_after s bytes (e ∷ es) = output_after s (output_by s bytes e.reading) es

@@ -14,7 +14,7 @@ pub record Setting : Type 0 where
   pub names : MapNames
   -- the command line, as a mapfile shows it
   pub line : List ℕ
-  -- the input's length, the positions that are rescued, and where the one at `from` stands in the output
+  -- the input's length, the positions that are rescued, and where the one at `from` is in the output
   pub end : ℕ
   pub domain : ℕ → Bool
   pub from : ℕ
@@ -35,16 +35,16 @@ pub record Setting : Type 0 where
   pub retries : ℕ
   pub reverse : Bool
   pub one_way : Bool
-  -- how many reads may fail; how many areas there may be that failed, and whether those that were there at first come on
-  -- top; and for how many seconds there may be no read but failed ones
+  -- how many reads may fail; how many areas there may be that failed, and whether those that were there at first come
+  -- on top; and for how many seconds there may be no read but failed ones
   pub max_errors : Option ℕ
   pub max_areas : Option ℕ
   pub new_areas : Bool
   pub timeout : Option ℕ
-  -- whether it is said first how much is asked for
+  -- whether a first line says how much is asked for
   pub verbose : Bool
 
--- where a position stands in the output
+-- where a position is in the output
 abbrev pub place : Setting → ℕ → ℕ
 place s x = x - s.from + s.to
 

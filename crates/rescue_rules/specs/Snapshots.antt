@@ -11,7 +11,7 @@ use Rattle.rescue_rules.specs.Machine.{Machine}
 use Rattle.rescue_rules.specs.Step.{Event, is_timely, limit_met}
 use Rattle.rescue_rules.specs.Moves.{Move, moves, state_after, has_ended}
 
--- what a saved mapfile says: a map, where the rescue stood, and the times of the start and of the last event
+-- what a saved mapfile says: a map, how far the rescue was, and the times of the start and of the last event
 pub record Snapshot : Type 0 where
   pub map : List Status
   pub shown : MapState

@@ -1,5 +1,5 @@
 -- What a read changes: the marks, the mode of trimming, the cursor and the skip, the counts and the times, what is left
--- of the domain, and the line that was said last.
+-- of the domain, and the line that was put last.
 use Rattle.std.specs.Prelude.{ℕ, ◌+◌, ◌-◌, ◌*◌, ◌/◌, min, Bool, true, false, ◌&&◌, ◌||◌, not, is_none, nat_le, nat_lt, List, length, Option, Some, None, option_map, if◌then◌else◌}
 use Rattle.block_list.specs.declared.status.Status.{Status}
 use Rattle.block_list.specs.declared.status.Status.TheVariants.{NonTrimmed, NonScraped, BadSector, Finished}
@@ -24,7 +24,7 @@ pub record Event : Type 0 where
   pub before : ℕ
   pub after : ℕ
 
--- it is copying, or trimming
+-- the phase is copying, or trimming
 abbrev pub copies : Phase → Bool
 copies Copying = true
 copies phase = false
@@ -101,7 +101,7 @@ skip_after s m e =
     if is_jump s m e then min (2 * m.skip) s.skip_max
     else if is_failed e.reading || is_slow s e then m.skip else s.skip
 
--- so many milliseconds lie between two due saves
+-- the milliseconds between two due saves
 abbrev pub save_interval : ℕ
 save_interval = 30000
 

@@ -39,12 +39,12 @@ pub record IsNothing (g : Gain) : Type 0 where
 abbrev pub begins : Setting → List Status → Option MapState → Gain → Machine
 begins s statuses state g = machine_over s statuses state (began_at g.times)
 
--- its events
+-- the events of what was done
 abbrev pub events_in : Gain → List Event
 events_in g = events_of g.reads g.times
 
--- Why a run ended, by the state that it came to, and how many readings of the clock there are beyond two for each read:
--- no request is left; or there was one, and the input was lost, or memory ran out; or a limit was met.
+-- Why a run ended, by the state that it came to, and how many readings of the clock there are beyond two for each read.
+-- No request is left; or there was one, and the input was lost, or memory ran out; or a limit was met.
 abbrev pub EndsBy : Option Stop → Setting → Machine → (spare : ℕ) → Type 0
 EndsBy None s m spare = (has_ended s m ≡ true) × (spare ≡ 0)
 EndsBy (Some SourceLost) s m spare = (has_ended s m ≡ false) × (limit_met s m ≡ None) × (spare ≡ 1)
@@ -60,10 +60,10 @@ end_of (Some stop) = Stopped stop
 -- The calls of a run whose reads make these events, by how it ended.
 pub data Ends (s : Setting) (m : Machine) (events : List Event) (spare : ℕ) (calls : List Entry) (end : RunEnd)
     : Type 0 where
-  -- it ended, and its last calls returned
+  -- the run ended, and its last calls returned
   IsSaved : (stop : Option Stop) → EndsBy stop s (state_after s m events) spare → end ≡ end_of stop
       → calls ≡ map Done (run_calls s m events ++ end_calls s m events) → Ends s m events spare calls end
-  -- it ended, and one of them failed
+  -- the run ended, and one of its last calls failed
   IsUnsaved : (stop : Option Stop) (call : SiteCall) → EndsBy stop s (state_after s m events) spare
       → end ≡ SaveFailed call stop → BrokeAt call (end_calls s m events) (map Done (run_calls s m events)) calls
       → Ends s m events spare calls end

@@ -1,5 +1,8 @@
 //! The phases of a rescue.
 
+/// How many times copying goes over the input.
+pub const COPYING_PASSES: u32 = 5;
+
 /// The phases of a rescue, in order (GNU ddrescue manual, "Algorithm").
 #[derive(Clone, Copy, Debug, PartialEq, Eq)]
 pub enum Phase {

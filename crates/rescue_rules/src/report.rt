@@ -10,7 +10,7 @@ pub struct Counts {
     pub failed: Count,
 }
 
-/// The line that was said last after an event: in which phase, and in which second.
+/// The line that was put last after an event: in which phase, and in which second.
 #[derive(Clone, Copy, Debug, PartialEq, Eq)]
 pub struct Said {
     pub current: Current,

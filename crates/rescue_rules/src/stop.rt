@@ -7,11 +7,11 @@ use crash_site::site::SiteCall;
 /// A limit that a run met.
 #[derive(Clone, Copy, Debug, PartialEq, Eq)]
 pub enum Limit {
-    /// More reads failed than may: so many.
+    /// This number of reads failed, which is more than may.
     TooManyErrors(u64),
-    /// More areas failed than may: so many.
+    /// This number of areas failed, which is more than may.
     TooManyAreas(u64),
-    /// So many milliseconds went by without a read that gave all it was asked for, or met the input's end.
+    /// No read gave all it was asked for, or met the input's end, for this number of milliseconds.
     TimedOut(u64),
 }
 
@@ -22,9 +22,9 @@ pub enum Stop {
     SourceLost,
     /// A call on the outfile, the mapfile or its folder failed.
     Site(SiteCall),
-    /// It met a limit that was set to it.
+    /// The run met a limit that was set to it.
     LimitMet(Limit),
-    /// Memory wasn't there.
+    /// There wasn't enough memory.
     NoMemory,
 }
 
@@ -38,11 +38,13 @@ pub enum TrimMode {
 /// How a run ended.
 #[derive(Clone, Copy, Debug, PartialEq, Eq)]
 pub enum RunEnd {
-    /// It went on to its end. Its map was saved or, without a mapfile, its output synced.
+    /// The run went on to its end. Its map was saved or, without a mapfile, its output synced.
     Done,
-    /// It stopped. The same was done, unless it stopped at a call on its files.
+    /// The run stopped. Its map was saved or, without a mapfile, its output synced, unless the run stopped at a call on
+    /// its files.
     Stopped(Stop),
-    /// A call of its last save failed, or that sync. If the run had stopped before, this says why.
+    /// A call of the run's last save failed, or the sync of its output. If the run had stopped before, `earlier` says
+    /// why.
     SaveFailed {
         call: SiteCall,
         earlier: Option<Stop>,

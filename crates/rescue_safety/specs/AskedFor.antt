@@ -15,11 +15,12 @@ pub data AreSeen (r : Rescue) (reads : List Reading) : Type 0 where
   NoRead : r.did.reads ≡ [] → reads ≡ [] → AreSeen r reads
   Untested : r.command.test_map ≡ None → reads ≡ r.did.reads → AreSeen r reads
   Tested : (name : List ℕ) (statuses : List Status) → r.command.test_map ≡ Some name
-      → IsMapOf (files_at_first r name) (map_mode r.command.options.loose) statuses → reads ≡ map (seen statuses) r.did.reads
+      → IsMapOf (files_at_first r name) (map_mode r.command.options.loose) statuses
+      → reads ≡ map (seen statuses) r.did.reads
       → AreSeen r reads
 
--- The position x is asked for: it lies in the input, at the input position or past it, within the size; with a domain
--- map it is finished there; and if only what the mapfile lists is asked for, the mapfile lists it.
+-- The position x is asked for: it lies in the input, at the input position or past it, within the size. With a domain
+-- map it is finished there. If only what the mapfile lists is asked for, the mapfile lists it.
 pub record IsAskedFor (r : Rescue) (x : ℕ) : Type 0 where
   pub from : r.command.options.input_position ≤ x
   pub within : x < length r.did.call.told.source.bytes

@@ -47,7 +47,7 @@ StaysResumable = (r : Rescue) (k : ℕ) (files : List ℕ → Option File) (end 
     → has_barrier (take k r.did.call.calls) ≡ true → Stands (files_at_first r r.mapfile) end map state
     → (found : List Status) × (shown : Option MapState) × Stands (files r.mapfile) end found shown
 
--- The output's old byte stands in a place whose position isn't asked for.
+-- The output's old byte is in a place whose position isn't asked for.
 abbrev pub LeavesTheRest : Type 0
 LeavesTheRest = (r : Rescue) (k : ℕ) (files : List ℕ → Option File) (y : ℕ) → k ≤ length r.did.call.calls
     → LeftBy (run_of r []).past r.did.call.calls k files → has_barrier (take k r.did.call.calls) ≡ true

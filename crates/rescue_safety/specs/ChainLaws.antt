@@ -1,4 +1,4 @@
--- What the headlines stand on, and wrong runs that break what is owed.
+-- What the headlines follow from, and wrong runs that break what is owed.
 use Rattle.std.specs.Prelude.{◌≡◌, ◌↔◌, ℕ, Bool, true, List, [], ◌∷◌, ◌++◌, take, Option}
 use Rattle.block_list.specs.declared.status.Status.{Status}
 use Rattle.block_list.specs.declared.status.Status.TheVariants.{Finished}

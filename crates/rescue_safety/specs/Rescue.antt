@@ -16,7 +16,7 @@ use Rattle.rescue_safety.specs.Safe.{Target, Run}
 -- A call of `ddrescue` on files that tell what was done on them, and the calls that it made.
 pub record Invocation : Type 0 where
   pub told : Told
-  -- it was one: this is what the contract of `ddrescue` ensures
+  -- the call was one of `ddrescue`: this is what its contract ensures
   pub promised : Ddrescue told
   pub site_tells : IsTrue told.site.tells
   pub calls : List Entry

@@ -1,4 +1,4 @@
--- Many runs on one output and one mapfile, each of which goes on from what the one before it left.
+-- Many runs on one output and one mapfile, each of which resumes from what the one before it left.
 use Rattle.std.specs.Prelude.{◌≡◌, ◌≢◌, ℕ, ◌+◌, ◌≤◌, List, [], ◌∷◌, ◌++◌, length, map, take, drop, All, Option, Some, None, if◌then◌else◌}
 use Rattle.std.specs.List.{flat_map}
 use Rattle.faulty_source.specs.Journal.{Reading}
@@ -24,8 +24,8 @@ resting files = record { start = record { files = files; image = None; draft = N
 abbrev pub part_written : (pos : ℕ) → (piece : List ℕ) → (ℕ × ℕ) → Entry
 part_written pos piece p = Done (image_write (pos + p.0) (take p.1 (drop p.0 piece)))
 
--- Of the call that the process was in when it was killed, the first of these: nothing was done; or it counts as one
--- that failed; or any parts of a write were done, in any order; or an append put any bytes into the draft.
+-- What was done of the call in which the process was killed: nothing; or the call counts as failed; or any parts of a
+-- write were done, in any order; or an append put any bytes into the draft.
 pub data LeavesPart (next : List Entry) (part : List Entry) : Type 0 where
   Nothing : part ≡ [] → LeavesPart next part
   Failing : part ≡ in_progress next → LeavesPart next part
@@ -34,7 +34,7 @@ pub data LeavesPart (next : List Entry) (part : List Entry) : Type 0 where
   Appending : (piece torn : List ℕ) → in_progress next ≡ Failed (draft_append piece) ∷ []
       → part ≡ Done (draft_append torn) ∷ [] → LeavesPart next part
 
--- Where the next run begins, when the first k of these calls have returned and the next may be in progress: the machine
+-- Where the next run begins, when the first k of these calls have returned and the next may be in progress. The machine
 -- was stopped, and what it left is durable now; or the process alone ended, and its files go on as they are.
 pub data NextBegins (from : Before) (calls : List Entry) (k : ℕ) (next : Before) : Type 0 where
   Stopped : (files : List ℕ → Option File) → LeftBy from calls k files → next ≡ resting files

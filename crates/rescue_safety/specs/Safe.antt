@@ -36,8 +36,8 @@ reads_until sector writes [] = []
 reads_until sector zero (r ∷ rs) = []
 reads_until sector (suc n) (r ∷ rs) = r ∷ reads_until sector (if nat_eq (kept sector r) 0 then suc n else n) rs
 
--- the same run with only the reads that had begun to be written by then: the first k calls have returned, the next is
--- in progress
+-- this run with only the reads that had begun to be written by then: the first k calls have returned, the next is in
+-- progress
 abbrev pub by_then : Run → (k : ℕ) → Run
 by_then r k = record r { reads = reads_until r.sector (count_by is_write (take (k + 1) r.calls)) r.reads }
 

@@ -1,4 +1,4 @@
--- What is said of a sample that was rescued.
+-- The line on a sample that was rescued.
 use Rattle.std.specs.Prelude.{◌≡◌, ℕ, true, List, [], ◌∷◌, ◌++◌, length, All, count_by, codes}
 use Rattle.std.specs.Fmt.{decimal}
 use Rattle.faulty_source.specs.Journal.{is_failed}
@@ -12,19 +12,19 @@ use Rattle.rescue_rules.specs.Events.{reads_of}
 use Rattle.rescue_sample.specs.declared.source.Answered.{Answered}
 use Rattle.rescue_sample.specs.Sample.{IsSampleRead}
 
--- an event at which the clock stood still
+-- an event at which the clock had not moved
 pub record IsStill (e : Event) : Type 0 where
   pub before : e.before ≡ 0
   pub after : e.after ≡ 0
 
--- the run of a rescue over a sample of so many KiB that goes on to its end, while the clock stands still
+-- the run of a rescue over a sample of `kib` KiB that goes on to its end, while the clock stands still
 pub record IsSampleRun (kib : ℕ) (s : Setting) (m : Machine) (events : List Event) : Type 0 where
   pub run : IsRun s m events
   pub read : All (λ e. IsSampleRead kib e.reading) events
   pub still : All IsStill events
   pub over : has_ended s (state_after s m events) ≡ true
 
--- the line of so many reads and of what there is in the last map
+-- the line of this number of reads and of what there is in the last map
 abbrev pub sample_text : (kib : ℕ) → Answered → Counts → List ℕ
 sample_text kib answered counts =
     codes "sample of " ++ decimal kib ++ codes " KiB: " ++ decimal answered.reads ++ codes " reads, "

@@ -9,7 +9,7 @@ use Rattle.rescue_sample.specs.declared.source.Answered.{Answered}
 abbrev pub sample_byte : ℕ → ℕ
 sample_byte x = x % 251
 
--- how many bytes a sample of so many KiB has
+-- how many bytes a sample of `kib` KiB has
 abbrev pub sample_size : (kib : ℕ) → ℕ
 sample_size kib = kib * 1024
 
@@ -41,8 +41,8 @@ is_in_one sectors x = list_any (λ sector. nat_eq (x / 512) sector) sectors
 abbrev pub is_bad : (kib x : ℕ) → Bool
 is_bad kib x = is_in_one (bad_sectors kib) x
 
--- What a read of asked bytes at pos is answered: one that meets a bad position in front of the sample's end gives what
--- comes before that; any other gives all that there is, and meets the end where that is less than was asked for.
+-- What a read of asked bytes at pos is answered. A read that meets a bad position before the sample's end gives what
+-- comes before that. Any other gives all that there is, and meets the end if that is less than was asked for.
 pub record IsSampleAnswer (kib pos asked given : ℕ) (ended : Bool) : Type 0 where
   pub few : given ≤ asked
   pub good : (x : ℕ) → pos ≤ x → x < pos + given → is_bad kib x ≡ false

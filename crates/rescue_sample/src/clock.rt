@@ -3,8 +3,7 @@ ghost use Rattle.std.specs.Prelude.{◌≡◌, true, false, [], All};
 
 use rescue_console::clock::Clock;
 
-/// A clock that reads 0 each time. It counts its readings, and tells them until the count stands at the end of its
-/// type.
+/// A clock that reads 0 each time. It counts its readings, and tells them until the count is at the end of its type.
 #[derive(Drop)]
 pub struct StillClock {
     made: u64,

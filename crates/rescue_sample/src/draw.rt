@@ -28,7 +28,7 @@ fn sector_of(kib: u64, value: u64) -> u64
     value / (1 << 33) % (2 * kib)
 }
 
-/// The bad sectors of a sample of so many KiB.
+/// The bad sectors of a sample of `kib` KiB.
 pub(crate) fn draw_sectors(alloc: Global, kib: u64) -> Result<Vec<u64>, NoMemory>
     requires low { 0 < kib }
     requires high { kib ≤ 65536 }
@@ -75,7 +75,7 @@ fn first_bad(sectors: &[u64], pos: u64, end: u64) -> u64
     stop
 }
 
-/// What a read at a position gives of so many bytes, by the bad sectors of a sample.
+/// What a read of `asked` bytes at a position gives, by the bad sectors of a sample.
 pub(crate) fn answer(kib: u64, sectors: &[u64], pos: u64, asked: usize) -> Got
     requires place { pos + asked < 2 ^ 63 }
     requires small { kib ≤ 65536 }

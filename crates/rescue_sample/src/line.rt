@@ -25,7 +25,7 @@ fn add_number(line: &mut Vec<u8>, number: u64, text: &str) -> Result<(), NoMemor
     add(line, text)
 }
 
-/// What is said of a sample: its size, the reads of its rescue, and what there is in the last map.
+/// The line on a sample: its size, the reads of its rescue, and what there is in the last map.
 pub fn sample_line(
     alloc: Global,
     kib: u64,

@@ -57,7 +57,7 @@ impl SampleSource {
     ghost use Rattle.rescue_sample.specs.Sample.{AreSampleReads, sample_bytes, sample_size};
     ghost use Rattle.rescue_sample.specs.SourceState.{state_of};
 
-    /// A sample of so many KiB, with no input open. The memory for its journal is taken here: room for three reads of
+    /// A sample of `kib` KiB, with no input open. The memory for its journal is taken here: room for three reads of
     /// each sector, and one more.
     pub fn new(alloc: Global, kib: u64) -> Result<SampleSource, NoMemory>
         requires low { 0 < kib }
@@ -81,7 +81,7 @@ impl SampleSource {
         })
     }
 
-    /// Gives so many of its bytes from a position on.
+    /// Gives `count` of its bytes from a position on.
     fn give(&self, pos: u64, count: usize, buf: &mut [u8])
         requires fits { count ≤ length buf.old }
         requires place { pos + count < 2 ^ 63 }

@@ -74,7 +74,7 @@ pub(crate) enum Command {
     Plan(Words),
     /// A run of ddrescueshow.
     Picture(Words),
-    /// So many calls of the site were made, and then a stop came.
+    /// A stop came after this number of calls of the site.
     Stop {
         calls: usize,
         kind: Left,

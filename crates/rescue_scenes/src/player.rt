@@ -6,7 +6,7 @@ use block_list::tiles::NoMemory;
 use std::alloc::Global;
 use std::io::{self, Write};
 
-/// So many bytes are written at once, or more.
+/// How many bytes are written at once, at least.
 const PIECE: usize = 1 << 16;
 
 /// Plays a transcript, and writes it with its results. Answers whether each of its lines was understood.

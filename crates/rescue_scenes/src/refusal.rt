@@ -6,9 +6,9 @@ use std::io;
 /// Why a line has no results.
 #[derive(Clone, Copy)]
 pub(crate) enum Refusal {
-    /// It can't be read, or asks for what can't be.
+    /// The line can't be read, or asks for what can't be.
     NotUnderstood,
-    /// Memory wasn't there.
+    /// There wasn't enough memory.
     NoMemory,
 }
 

@@ -55,7 +55,7 @@ pub(crate) fn append_calls(
     Ok(())
 }
 
-/// Adds a call, unless it is equal to the last one. Answers the call, and how many equal ones stand there by now.
+/// Adds a call, unless it is equal to the last one. Answers the call, and how many equal ones there are by now.
 fn append_call(
     out: &mut Vec<u8>,
     last: Option<(SiteCall, usize)>,

@@ -52,7 +52,8 @@ pub(crate) fn count_differing(wanted: &[u8], found: &[u8]) -> usize
 pub(crate) fn first_difference(wanted: &[u8], found: &[u8]) -> Option<usize>
     ensures none { IfNone result (wanted.now ≡ found.now) }
     ensures same { IfSome result (λ place. take place wanted.now ≡ take place found.now) }
-    ensures differ { IfSome result (λ place. ¬ (first_line (drop place wanted.now) ≡ first_line (drop place found.now))) }
+    ensures differ { IfSome result (λ place.
+        ¬ (first_line (drop place wanted.now) ≡ first_line (drop place found.now))) }
     ensures start { IfSome result (λ place. IsLineStart wanted.now place) }
     ensures wanted { IfSome result (λ place. place ≤ length wanted.now) }
     ensures found { IfSome result (λ place. place ≤ length found.now) }

@@ -115,7 +115,7 @@ fn byte_of_pair(pair: &[u8]) -> Result<u8, Refusal> {
     }
 }
 
-/// Adds so many bytes of the ramp, or so many times the byte that two digits spell.
+/// Adds `count` bytes: those of the ramp, or each the byte that two digits spell.
 fn append_many(bytes: &mut Vec<u8>, what: &[u8], count: u64) -> Result<(), Refusal> {
     let room = BYTES_LIMIT.saturating_sub(bytes.len());
     if count > room as u64 {

@@ -9,7 +9,7 @@ use Rattle.block_list.specs.declared.status.Status.{Status}
 use Rattle.block_list.specs.declared.status.Status.TheVariants.{NonTried}
 use Rattle.block_list.specs.Map.{marked}
 use Rattle.block_list.proofs.Places.{length-marked}
-use Rattle.faulty_source.specs.Journal.{Reading, is_whole}
+use Rattle.faulty_source.specs.Journal.{Reading, is_whole, IsFrom}
 use Rattle.rescue_domain.specs.Domain.{IsIn}
 use Rattle.faulty_source.specs.SourceState.{SourceState}
 use Rattle.faulty_source.specs.SourceChanges.{Keeps as SourceKeeps, Stays as SourceStays}
@@ -27,7 +27,7 @@ use Rattle.rescue_verify.specs.declared.tally.Tally.{Tally}
 use Rattle.rescue_verify.specs.Pieces.{IsPiece, AskForPieces, end_of_reads}
 use Rattle.rescue_verify.proofs.PieceLemmas.{asks_push}
 use Rattle.rescue_verify.specs.Looks.{Look, reads_of, differs, seen_at, seen_in, look_call, look_calls}
-use Rattle.rescue_verify.specs.Looking.{HaltsLooking, IsFrom, SeesPiece}
+use Rattle.rescue_verify.specs.Looking.{HaltsLooking, SeesPiece}
 use Rattle.rescue_verify.specs.Verified.{judged, judged_by}
 use Rattle.rescue_verify.specs.Comparing.{ComparisonPlan, LossesRise, place_in, tally_of, tally_with, TakesPiece, HaltsAt, HasLooked, Compares}
 

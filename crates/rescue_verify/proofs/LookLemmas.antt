@@ -6,7 +6,7 @@ use Rattle.std.proofs.lemmas.List.{take_min}
 use Rattle.std.proofs.lemmas.Bool.Decides.{nat_tests}
 use Rattle.faulty_source.specs.declared.source.Got.{Got}
 use Rattle.faulty_source.specs.Got.{count_of, is_end}
-use Rattle.faulty_source.specs.Journal.{Reading, is_whole}
+use Rattle.faulty_source.specs.Journal.{Reading, is_whole, IsFrom}
 use Rattle.faulty_source.specs.SourceState.{SourceState}
 use Rattle.faulty_source.specs.SourceChanges.{Reads}
 use Rattle.crash_site.specs.Calls.{Call, Done, image_read}
@@ -16,7 +16,7 @@ use Rattle.crash_site.specs.SiteState.{SiteState, image_in}
 use Rattle.rescue_verify.specs.declared.look.LookResult.{LookResult}
 use Rattle.rescue_verify.specs.declared.look.LookResult.TheVariants.{Unread, Same, Different}
 use Rattle.rescue_verify.specs.Looks.{Look, differs, seen_at, look_call}
-use Rattle.rescue_verify.specs.Looking.{IsFrom, SeesPiece, seen_by}
+use Rattle.rescue_verify.specs.Looking.{SeesPiece, seen_by}
 
 -- what a read of so many bytes that left this in its buffer is in the journal
 abbrev pub reading : (pos asked : ℕ) → (buf : List ℕ) → Got → Reading

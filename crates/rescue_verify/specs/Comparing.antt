@@ -2,7 +2,7 @@
 use Rattle.std.specs.Prelude.{◌≡◌, ℕ, ◌+◌, ◌-◌, Bool, true, not, IsTrue, List, [], ◌∷◌, ◌++◌, map, All, None, Result, Ok, Err, if◌then◌else◌}
 use Rattle.fault_count.specs.Counts.{Rose}
 use Rattle.block_list.specs.declared.status.Status.{Status}
-use Rattle.faulty_source.specs.Journal.{Reading, is_whole}
+use Rattle.faulty_source.specs.Journal.{Reading, is_whole, IsFrom}
 use Rattle.faulty_source.specs.SourceState.{SourceState}
 use Rattle.crash_site.specs.Calls.{Entry, Done, image_read}
 use Rattle.crash_site.specs.CallsMade.{Lost}
@@ -16,10 +16,10 @@ use Rattle.rescue_verify.specs.declared.tally.Tally.{Tally}
 use Rattle.rescue_verify.specs.declared.piece.Comparison.{Comparison}
 use Rattle.rescue_verify.specs.Pieces.{IsPiece, NoneFrom, AskForPieces, end_of_reads}
 use Rattle.rescue_verify.specs.Looks.{Look, reads_of, differs, seen_in, look_calls, compared_bytes, differing_bytes, unread_bytes}
-use Rattle.rescue_verify.specs.Looking.{IsFrom, SeesPiece}
+use Rattle.rescue_verify.specs.Looking.{SeesPiece}
 use Rattle.rescue_verify.specs.Verified.{judged, judged_by}
 
--- What is compared, in sectors of this size, and where a position stands in the image: `from` stands at `to`.
+-- What is compared, in sectors of this size, and where a position is in the image: `from` is at `to`.
 pub record ComparisonPlan : Type 0 where
   pub compared : ℕ → Bool
   pub sector : ℕ
@@ -29,7 +29,7 @@ pub record ComparisonPlan : Type 0 where
 abbrev pub place_in : ComparisonPlan → ℕ → ℕ
 place_in p x = place_from p.from p.to x
 
--- the same of what the code hands on
+-- what is compared, as the code hands it on
 abbrev pub plan_by : Comparison → ComparisonPlan
 plan_by c = record { compared = covers c.compared.now; sector = c.sector; from = c.from; to = c.to }
 
@@ -49,7 +49,7 @@ tally_with t l = record {
   unread = t.unread + (if not (is_whole l.read) then l.read.asked else 0);
 }
 
--- The piece from one position up to another was looked at, counted, and marked in the map if it differs.
+-- The piece from one position up to another was compared, counted, and marked in the map if it differs.
 pub record TakesPiece (p : ComparisonPlan) (from to : ℕ) (tally tally' : Tally) (old new : List Status)
     (source source' : SourceState) (site site' : SiteState) : Type 0 where
   pub look : Look
@@ -57,8 +57,8 @@ pub record TakesPiece (p : ComparisonPlan) (from to : ℕ) (tally tally' : Tally
   pub counts : tally' ≡ tally_with tally look
   pub map_is : new ≡ judged old look
 
--- Why a comparison stopped in front of a piece, or within it, and what it read of input and files meanwhile: room in the
--- map ran out before the piece was read; its read was lost; or it was read whole, and the read of the image failed.
+-- Why a comparison stopped before a piece, or within it, and what it read of input and files meanwhile. Room in the map
+-- ran out before the piece was read; its read was lost; or it was read whole, and the read of the image failed.
 abbrev pub HaltsAt : Halt → ComparisonPlan → (from : ℕ) → List Reading → List Entry → Type 0
 HaltsAt NoMemory p from reads calls = (reads ≡ []) × (calls ≡ [])
 HaltsAt SourceLost p from reads calls =
@@ -67,8 +67,9 @@ HaltsAt ImageFault p from reads calls =
     (r : Reading) × IsPiece p.compared p.sector from r.pos (r.pos + r.asked) × (is_whole r ≡ true) × (reads ≡ r ∷ [])
     × Lost (image_read (place_in p r.pos) r.asked None) [] calls
 
--- It came to the last piece, counted what it saw, and marked it in the map; or it stopped.
-abbrev pub EndsComparing : ComparisonPlan → (old new : List Status) → Result Tally Halt → List Look → List Reading → List Entry
+-- A comparison came to the last piece, counted what it saw, and marked it in the map; or it stopped.
+abbrev pub EndsComparing : ComparisonPlan → (old new : List Status) → Result Tally Halt → List Look → List Reading
+    → List Entry
     → Type 0
 EndsComparing p old new (Ok tally) looks reads calls =
     NoneFrom p.compared (end_of_reads 0 (reads_of looks)) × (new ≡ judged_by old looks) × (tally ≡ tally_of looks)
@@ -94,8 +95,8 @@ pub record HasLooked (p : ComparisonPlan) (looks : List Look) (source source' : 
       → looks ≡ map (seen_in (bytes_of (image_in site)) (place_in p)) (reads_of looks)
 
 -- What a comparison did, by its outcome: looks at the first pieces, in order, and what came after them.
-pub record Compares (p : ComparisonPlan) (old new : List Status) (result : Result Tally Halt) (source source' : SourceState)
-    (site site' : SiteState) : Type 0 where
+pub record Compares (p : ComparisonPlan) (old new : List Status) (result : Result Tally Halt)
+    (source source' : SourceState) (site site' : SiteState) : Type 0 where
   pub looks : List Look
   pub reads : List Reading
   pub calls : List Entry

@@ -1,6 +1,6 @@
 -- What one look at a piece does, by what the objects tell.
-use Rattle.std.specs.Prelude.{◌≡◌, ℕ, ◌+◌, true, IsTrue, List, [], ◌∷◌, length, slice_range, None, if◌then◌else◌}
-use Rattle.faulty_source.specs.Journal.{Reading, is_whole}
+use Rattle.std.specs.Prelude.{◌≡◌, ℕ, true, IsTrue, [], ◌∷◌, None, if◌then◌else◌}
+use Rattle.faulty_source.specs.Journal.{Reading, is_whole, IsFrom}
 use Rattle.faulty_source.specs.SourceState.{SourceState}
 use Rattle.faulty_source.specs.SourceChanges.{Reads, Loses}
 use Rattle.crash_site.specs.declared.site.SiteCall.TheVariants.{ImageRead}
@@ -18,12 +18,8 @@ use Rattle.rescue_verify.specs.Looks.{Look, differs, seen_at, look_call}
 abbrev pub seen_by : Look → LookResult
 seen_by l = if is_whole l.read then (if differs l then Different else Same) else Unread
 
--- a read gave the input's own bytes
-abbrev pub IsFrom : (bytes : List ℕ) → Reading → Type 0
-IsFrom bytes r = r.given ≡ slice_range bytes r.pos (r.pos + length r.given)
-
--- The piece from a position on, of so many bytes, was read once, and if that was whole the image at a place. What each of
--- the two gave is what it has there.
+-- The piece from a position on, of `size` bytes, was read once, and if that was whole the image at a place. What each
+-- of the two gave is what it has there.
 pub record SeesPiece (pos size place : ℕ) (look : Look) (source source' : SourceState) (site site' : SiteState)
     : Type 0 where
   pub pos_is : look.read.pos ≡ pos

@@ -4,8 +4,8 @@ use Rattle.std.specs.Str.{bytes_eq}
 use Rattle.faulty_source.specs.Journal.{Reading, is_whole}
 use Rattle.crash_site.specs.Calls.{Call, image_read}
 
--- A look at a piece: its read of the input, and what the image gave at its place. The image is read only where the input
--- gave the whole piece; else it gave nothing.
+-- A look at a piece: its read of the input, and what the image gave at its place. The image is read only where the
+-- input gave the whole piece; else it gave nothing.
 pub record Look : Type 0 where
   pub read : Reading
   pub there : List ℕ
@@ -14,7 +14,7 @@ pub record Look : Type 0 where
 abbrev pub reads_of : List Look → List Reading
 reads_of looks = map (λ l. l.read) looks
 
--- The piece was read whole, and the image has something else at its place, or ends in front of the piece's end.
+-- The piece was read whole, and the image has something else at its place, or ends before the piece's end.
 abbrev pub differs : Look → Bool
 differs l = is_whole l.read && not (bytes_eq l.read.given l.there)
 
@@ -22,7 +22,7 @@ differs l = is_whole l.read && not (bytes_eq l.read.given l.there)
 abbrev pub seen_at : (image : List ℕ) → (at : ℕ) → Reading → Look
 seen_at image at r = record { read = r; there = if is_whole r then slice_range image at (at + r.asked) else [] }
 
--- the same by the place of its first byte
+-- what an image has for a read, by the place of its first byte
 abbrev pub seen_in : (image : List ℕ) → (place : ℕ → ℕ) → Reading → Look
 seen_in image place r = seen_at image (place r.pos) r
 
@@ -30,7 +30,7 @@ seen_in image place r = seen_at image (place r.pos) r
 abbrev pub look_call : (at : ℕ) → Look → List Call
 look_call at l = if is_whole l.read then image_read at l.read.asked (Some (length l.there)) ∷ [] else []
 
--- those of looks, one after the other
+-- the calls of looks, one after the other
 abbrev pub look_calls : (place : ℕ → ℕ) → List Look → List Call
 look_calls place [] = []
 look_calls place (l ∷ looks) = look_call (place l.read.pos) l ++ look_calls place looks

@@ -11,13 +11,13 @@ use Rattle.rescue_verify.specs.Looks.{Look, differs, seen_in}
 abbrev pub judged : List Status → Look → List Status
 judged statuses l = if differs l then marked statuses l.read.pos l.read.asked NonTried else statuses
 
--- the same after these looks, one after the other
+-- a map after these looks, one after the other
 abbrev pub judged_by : List Status → List Look → List Status
 judged_by statuses [] = statuses
 judged_by statuses (l ∷ looks) = judged_by (judged statuses l) looks
 
--- The map of a comparison, by the reads that it made and by the image: `?` for each piece whose read was whole and whose
--- bytes the image doesn't have at the piece's place, or not all of them. Everything else is as it was.
+-- The map of a comparison, by the reads that it made and by the image: `?` for each piece whose read was whole and
+-- whose bytes the image doesn't have at the piece's place, or not all of them. Everything else is as it was.
 abbrev pub verified : List Status → List Reading → (image : List ℕ) → (place : ℕ → ℕ) → List Status
 verified statuses reads image place = judged_by statuses (map (seen_in image place) reads)
 

@@ -3,7 +3,7 @@
 /// Why a comparison stopped before its last piece.
 #[derive(Clone, Copy, Debug, PartialEq, Eq)]
 pub enum Halt {
-    /// Memory wasn't there: for the two buffers, or for a piece's mark in the map.
+    /// There wasn't enough memory for the two buffers, or for a piece's mark in the map.
     NoMemory,
     /// The input was lost during a read.
     SourceLost,

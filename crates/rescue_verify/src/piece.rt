@@ -1,4 +1,4 @@
-//! Which pieces are compared, and where they stand in the image.
+//! Which pieces are compared, and where they are in the image.
 ghost use Rattle.std.specs.Prelude.{◌≡◌, ◌+◌, ◌<◌, ◌≤◌, ◌^◌, ℕ, IfSome, IfNone};
 ghost use Rattle.block_list.specs.Places.{IsRangeUp};
 ghost use Rattle.rescue_domain.specs.Domain.{IsIn};
@@ -8,7 +8,7 @@ ghost use Rattle.rescue_verify.specs.Pieces.{IsPiece, NoneFrom};
 
 use rescue_domain::domain::Domain;
 
-/// What is compared, in sectors of this size in bytes, and where it stands in the image: the position `from` at `to`.
+/// What is compared, in sectors of this size in bytes, and where it is in the image: the position `from` at `to`.
 #[derive(Clone, Copy)]
 pub struct Comparison<'a> {
     pub compared: &'a Domain,
@@ -48,7 +48,7 @@ impl Comparison<'_> {
         })
     }
 
-    /// Where a position stands in the image.
+    /// Where a position is in the image.
     pub(crate) fn place_of(self, x: u64) -> u64
         requires from { self.from ≤ x }
         requires short { place_from self.from self.to x < 2 ^ 63 }

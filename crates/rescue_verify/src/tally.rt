@@ -3,10 +3,10 @@
 /// The bytes of the pieces so far.
 #[derive(Clone, Copy, Debug, PartialEq, Eq)]
 pub struct Tally {
-    /// Those of the pieces that the input gave whole.
+    /// The bytes of the pieces that the input gave whole.
     pub compared: u64,
-    /// Those of these that the image doesn't have so.
+    /// The bytes of the pieces that the input gave whole and the image doesn't have so.
     pub differing: u64,
-    /// Those of the pieces that the input didn't give whole.
+    /// The bytes of the pieces that the input didn't give whole.
     pub unread: u64,
 }

@@ -4,7 +4,7 @@ use Rattle.mapfile_text.specs.declared.read.Mode.{Mode}
 use Rattle.mapfile_text.specs.declared.read.Mode.TheVariants.{Tight}
 use Rattle.mapfile_text.specs.declared.read.ReadMap.{ReadMap}
 use Rattle.mapfile_text.specs.declared.read.MapError.{MapError}
-use Rattle.mapfile_text.specs.declared.read.MapError.TheVariants.{NoStatusLine, BadStatusLine, BadBlockLine, Gap, Overlap, TooLarge, TooLong, NoMemory as OutOfMemory}
+use Rattle.mapfile_text.specs.declared.read.MapError.TheVariants.{NoStatusLine, TooLong}
 use Rattle.crash_site.specs.declared.site.SiteCall.{SiteCall}
 use Rattle.crash_site.specs.declared.site.SiteCall.TheVariants.{MapRead}
 use Rattle.crash_site.specs.Files.{File}
@@ -39,13 +39,7 @@ load_after_barrier names file calls mid calls' made l = (l.0, l.1, made_more cal
 resumes_refused : (names : MapNames) (file : Option File) (e : MapError) (calls mid calls' : List Entry) → Made (barrier_calls names) calls mid
     → IsRefusedFor file Tight e × LoadEnded [] names.map file mid calls' → Resumes names file (refused_as e) calls calls'
 resumes_refused names file NoStatusLine calls mid calls' made r = (says_nothing file Tight r.0, load_after_barrier names file calls mid calls' made r.1)
-resumes_refused names file (BadStatusLine line) calls mid calls' made r = (r.0, λ is. cc, load_after_barrier names file calls mid calls' made r.1)
-resumes_refused names file (BadBlockLine line) calls mid calls' made r = (r.0, λ is. cc, load_after_barrier names file calls mid calls' made r.1)
-resumes_refused names file (Gap line) calls mid calls' made r = (r.0, λ is. cc, load_after_barrier names file calls mid calls' made r.1)
-resumes_refused names file (Overlap line) calls mid calls' made r = (r.0, λ is. cc, load_after_barrier names file calls mid calls' made r.1)
-resumes_refused names file (TooLarge line) calls mid calls' made r = (r.0, λ is. cc, load_after_barrier names file calls mid calls' made r.1)
-resumes_refused names file TooLong calls mid calls' made r = (r.0, λ is. cc, load_after_barrier names file calls mid calls' made r.1)
-resumes_refused names file OutOfMemory calls mid calls' made r = (r.0, λ is. cc, load_after_barrier names file calls mid calls' made r.1)
+resumes_refused names file _ calls mid calls' made r = (r.0, λ is. cc, load_after_barrier names file calls mid calls' made r.1)
 
 load_resumes : (names : MapNames) (file : Option File) (read : Result (Option ReadMap) ResumeFault) (calls mid calls' : List Entry)
     → Made (barrier_calls names) calls mid → LoadAnswers names.map Tight file read mid calls' → Resumes names file (resumed_of read) calls calls'
@@ -83,13 +77,7 @@ load_idle name mode file (Err NoMemory) mid new l =
 refused_settles : (names : MapNames) (e : MapError) (old new : SiteState) → NothingPending names (disk_of old) (disk_of new)
     → SettlesAll names (refused_as e) old new
 refused_settles names NoStatusLine old new h = h
-refused_settles names (BadStatusLine line) old new h = h
-refused_settles names (BadBlockLine line) old new h = h
-refused_settles names (Gap line) old new h = h
-refused_settles names (Overlap line) old new h = h
-refused_settles names (TooLarge line) old new h = h
-refused_settles names TooLong old new h = h
-refused_settles names OutOfMemory old new h = h
+refused_settles names _ old new h = h
 
 answer_settles : (names : MapNames) (read : Result (Option ReadMap) ResumeFault) (old new : SiteState)
     → NothingPending names (disk_of old) (disk_of new) → SettlesAll names (resumed_of read) old new
@@ -112,13 +100,7 @@ resumed_settled names read old mid new tells keeps keeps' made l =
 -- a file that is read so is resumed so
 refused_so : (file : Option File) (e : MapError) → IsRefusedFor file Tight e → ResumesAs (refused_as e) file
 refused_so file NoStatusLine r = says_nothing file Tight r
-refused_so file (BadStatusLine line) r = (r, λ is. cc)
-refused_so file (BadBlockLine line) r = (r, λ is. cc)
-refused_so file (Gap line) r = (r, λ is. cc)
-refused_so file (Overlap line) r = (r, λ is. cc)
-refused_so file (TooLarge line) r = (r, λ is. cc)
-refused_so file TooLong r = (r, λ is. cc)
-refused_so file OutOfMemory r = (r, λ is. cc)
+refused_so file _ r = (r, λ is. cc)
 
 answered_so : (file : Option File) (read : Result (Option ReadMap) ResumeFault) → ReadsAs Tight read file → ResumesAs (resumed_of read) file
 answered_so file (Ok None) is = NoFile is

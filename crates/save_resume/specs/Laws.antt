@@ -16,7 +16,7 @@ abbrev pub ReadAsOne : Type 0
 ReadAsOne = (file : Option File) (mode : Mode) (m m' : ReadMap) → IsReadAs file mode m → IsReadAs file mode m'
     → SameReading m.state m'.state m.first m'.first m.listed m'.listed m.tiles.statuses m'.tiles.statuses
 
--- It is refused for one error.
+-- A mapfile is refused for one error.
 abbrev pub RefusedForOne : Type 0
 RefusedForOne = (file : Option File) (mode : Mode) (e e' : MapError)
     → IsRefusedFor file mode e → IsRefusedFor file mode e' → e ≡ e'
@@ -30,7 +30,7 @@ ReadIsNotRefused = (file : Option File) (mode : Mode) (m : ReadMap) (e : MapErro
 abbrev pub NoneIsNotRead : Type 0
 NoneIsNotRead = (file : Option File) (mode : Mode) (m : ReadMap) → IsLikeNone file → IsReadAs file mode m → ⊥
 
--- and it is refused for nothing but want of a status line.
+-- and it is refused only for want of a status line.
 abbrev pub NoneSaysNothing : Type 0
 NoneSaysNothing = (file : Option File) (mode : Mode) (e : MapError)
     → IsLikeNone file → IsRefusedFor file mode e → e ≡ NoStatusLine

@@ -16,7 +16,7 @@ abbrev pub piece_reads : (name : List ℕ) → (pos : ℕ) → (given : List ℕ
 piece_reads name pos [] = []
 piece_reads name pos (n ∷ ns) = map_read name pos piece_size (Some (Bytes n)) ∷ piece_reads name (pos + n) ns
 
--- the same from the file's beginning on, and the read after them with its answer
+-- reads from the file's beginning on, and the read after them with its answer
 abbrev pub load_reads : (name : List ℕ) → (given : List ℕ) → (answer : Option MapRead) → List Call
 load_reads name given answer = piece_reads name 0 given ++ map_read name (sum given) piece_size answer ∷ []
 

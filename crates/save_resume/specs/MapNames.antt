@@ -6,6 +6,6 @@ pub record MapNames : Type 0 where
   pub map : List ℕ
   pub draft : List ℕ
 
--- the draft stands beside the mapfile: its name is the mapfile's, followed by `.tmp`
+-- the draft is in the mapfile's folder: its name is the mapfile's, followed by `.tmp`
 abbrev pub names_of : List ℕ → MapNames
 names_of map = record { map = map; draft = map ++ codes ".tmp" }

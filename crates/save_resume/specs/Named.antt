@@ -45,10 +45,11 @@ abbrev pub LoadsNamed : List ℕ → Mode → Option File → Result ReadMap Nam
 LoadsNamed name mode file (Ok m) calls calls' = IsReadAs file mode m × LoadEnded [] name file calls calls'
 LoadsNamed name mode file (Err ReadFailed) calls calls' = BrokeInLoad [] name file calls calls'
 LoadsNamed name mode file (Err Absent) calls calls' = (file ≡ None) × LoadEnded [] name file calls calls'
-LoadsNamed name mode file (Err (Refused e)) calls calls' = IsRefusedFor file mode e × LoadEnded [] name file calls calls'
+LoadsNamed name mode file (Err (Refused e)) calls calls' =
+    IsRefusedFor file mode e × LoadEnded [] name file calls calls'
 LoadsNamed name mode file (Err NoMemory) calls calls' = StarvedInLoad [] name file calls calls'
 
--- the same of the file alone
+-- what the load of a named map answers of its file, without its calls
 abbrev pub IsNamedAs : Mode → Result ReadMap NamedFault → Option File → Type 0
 IsNamedAs mode (Ok m) file = IsReadAs file mode m
 IsNamedAs mode (Err ReadFailed) file = ⊤

@@ -57,11 +57,13 @@ BrokeInLoad before name file calls calls' =
     (load : List Call) × BeginsLoad name file load × BrokeAt MapRead (before ++ load) calls calls'
 
 -- What a load answers of a file, and its calls.
-abbrev pub LoadAnswers : List ℕ → Mode → Option File → Result (Option ReadMap) ResumeFault → List Entry → List Entry → Type 0
+abbrev pub LoadAnswers : List ℕ → Mode → Option File → Result (Option ReadMap) ResumeFault → List Entry → List Entry
+    → Type 0
 LoadAnswers name mode file (Ok None) calls calls' = (file ≡ None) × LoadEnded [] name file calls calls'
 LoadAnswers name mode file (Ok (Some m)) calls calls' = IsReadAs file mode m × LoadEnded [] name file calls calls'
 LoadAnswers name mode file (Err (Site call)) calls calls' = (call ≡ MapRead) × BrokeInLoad [] name file calls calls'
-LoadAnswers name mode file (Err (Refused e)) calls calls' = IsRefusedFor file mode e × LoadEnded [] name file calls calls'
+LoadAnswers name mode file (Err (Refused e)) calls calls' =
+    IsRefusedFor file mode e × LoadEnded [] name file calls calls'
 LoadAnswers name mode file (Err NoMemory) calls calls' = StarvedInLoad [] name file calls calls'
 
 -- The barrier: the mapfile is settled and the image synced, so that nothing of an earlier run is pending.
@@ -109,7 +111,7 @@ FaultCounts (Site call) faults faults' = IsResumeCall call × Rose faults faults
 FaultCounts (Refused e) faults faults' = (faults' ≡ faults) × (e ≢ OutOfMemory)
 FaultCounts NoMemory faults faults' = faults' ≡ faults
 
--- the same by what was answered
+-- the count of faults, by what was answered
 abbrev pub CountsFaults : {T : Type 0} → Result T ResumeFault → (faults faults' : ℕ) → Type 0
 CountsFaults (Ok x) faults faults' = faults' ≡ faults
 CountsFaults (Err e) faults faults' = FaultCounts e faults faults'

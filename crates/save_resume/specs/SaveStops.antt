@@ -29,8 +29,8 @@ pub data IsOldOrNew (names : MapNames) (text : List ℕ) (was now : Disk) (name 
   New : name ≡ names.map → found ≡ Some (text_file text) → ImageIsDurable names was now
       → IsOldOrNew names text was now name found
 
--- At every stop within a save, between or within its calls, each file found is an old one or the new mapfile; of the
--- draft's own name nothing is said.
+-- At every stop within a save, between or within its calls, each file found is an old one or the new mapfile; the
+-- draft's own name may show anything.
 abbrev pub StopsInSave : MapNames → List ℕ → (old new : SiteState) → Type 0
 StopsInSave names text old new =
     (k : ℕ) (found : List ℕ → Option File) → length old.calls ≤ k → k ≤ length new.calls

@@ -24,7 +24,7 @@ pub enum ResumeFault {
     Site(SiteCall),
     /// The text is no map, or is too long.
     Map(MapError),
-    /// Memory wasn't there.
+    /// There wasn't enough memory.
     NoMemory,
 }
 
@@ -99,7 +99,8 @@ pub fn load_map<D: Site>(
     name: &str,
     mode: Mode,
 ) -> Result<Option<ReadMap>, ResumeFault>
-    ensures told { IsTrue (D.state site.old).tells → LoadAnswers name.now mode (files_in (D.state site.old) name.now) result
+    ensures told { IsTrue (D.state site.old).tells
+        → LoadAnswers name.now mode (files_in (D.state site.old) name.now) result
         (D.state site.old).calls (D.state site.new).calls }
     ensures read { IsOfFile (files_in (D.state site.old) name.now) (D.state site.old).tells (ReadsAs mode result) }
     ensures counts { CountsFaults result (D.state site.old).faults (D.state site.new).faults }

@@ -20,12 +20,12 @@ pub enum NamedFault {
     Absent,
     /// The text is no map, or is too long.
     Refused(MapError),
-    /// Memory wasn't there.
+    /// There wasn't enough memory.
     NoMemory,
 }
 
 /// How a named map is read: a loose one may have gaps.
-fn mode_of(loose: bool) -> Mode
+pub fn mode_of(loose: bool) -> Mode
     ensures { result ≡ map_mode loose }
 {
     if loose {

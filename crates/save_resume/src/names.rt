@@ -6,7 +6,7 @@ use block_list::tiles::NoMemory;
 use std::alloc::Global;
 use std::marker::Model;
 
-/// The names of a mapfile and of its draft, which stands beside it.
+/// The names of a mapfile and of its draft, which is in the same folder.
 #[derive(Drop)]
 pub struct Names {
     map: String,

@@ -134,8 +134,8 @@ fn any_number(bytes: &[u8]) -> Result<u64, SizeError>
     limited(value)
 }
 
-/// Reads a number that stands in bytes, as a field of a line, and nothing else: decimal, or octal after `0`, or
-/// hexadecimal after `0x`. A number of any length is read; one of 2^63 or more is `TooLarge`.
+/// Reads a number that is all of some bytes, as a field of a line is: decimal, or octal after `0`, or hexadecimal after
+/// `0x`. A number of any length is read; one of 2^63 or more is `TooLarge`.
 pub fn parse_number(bytes: &[u8]) -> Result<u64, SizeError>
     ensures { result ≡ number bytes.now }
 {

@@ -31,9 +31,9 @@ pub record Swept : Type 0 where
   pub got : List ℕ
   pub after : ℕ
 
--- What a sweep does: the statuses that it takes, what a mapfile shows meanwhile, and for a piece its call on the
--- output, whether that may have given what it did, what the piece makes of the map, and how many bytes it writes;
--- whether an output that is absent is made; and whether it takes memory in front of a piece.
+-- What a sweep does: the statuses that it takes, and what a mapfile shows meanwhile. For a piece: its call on the
+-- output, whether that may have given what it did, what the piece makes of the map, and how many bytes it writes.
+-- Whether an output that is absent is made; and whether it takes memory before a piece.
 pub record Sweeper : Type 0 where
   pub takes : Status → Bool
   pub current : Current
@@ -102,7 +102,7 @@ pub record Sweep : Type 0 where
   pub shown : MapState
   pub said : Option Said
 
--- It goes on from the position that a mapfile showed if that was of such a sweep, and else begins at 0. What the
+-- A sweep resumes from the position that a mapfile showed if that was of such a sweep, and else begins at 0. What the
 -- mapfile showed stands until the first piece.
 abbrev pub sweep_from : Current → Option MapState → ℕ
 sweep_from current None = 0
@@ -121,12 +121,12 @@ sweep_over w map state time = record {
   said = None;
 }
 
--- it takes a position: one of the domain, with such a status
+-- a sweep takes a position: one of the domain, with such a status
 abbrev pub IsTaken : Setting → Sweeper → Sweep → ℕ → Type 0
 IsTaken s w m x = passing w.takes s.domain m.map x ≡ true
 
--- its next piece, from p up to q: the front of the next range of such positions, at most a cluster, up to a sector's
--- boundary (the same cut as copying's, upwards)
+-- a sweep's next piece, from p up to q: the front of the next range of such positions, at most a cluster, up to a
+-- sector's boundary (the same cut as copying's, upwards)
 abbrev pub sweep_search : Setting → Sweep → Search
 sweep_search s m = record { up = true; from = m.cursor; front = true; size = s.cluster }
 

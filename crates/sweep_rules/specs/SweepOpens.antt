@@ -29,8 +29,7 @@ OpensOrEnds true file calls = ⊤
 OpensOrEnds false None calls = length calls ≤ 1
 OpensOrEnds false (Some f) calls = ⊤
 
--- law: such a sweep stops safely: it saves nothing, and so the mapfile that is found stands for the map that it stood
--- for
+-- law: such a sweep stops safely: it saves nothing, and so the mapfile that is found gives the map that it gave before
 abbrev pub EndsEarlySafely : Type 0
 EndsEarlySafely = (b : Before) (s : Setting) (makes : Bool) (calls : List Entry) → s.has_mapfile ≡ true
     → AreThreeNames s → OpensOrEnds makes (files_before b s.outfile) calls → EndsEarly s makes (files_before b) calls

@@ -21,7 +21,7 @@ use Rattle.sweep_rules.specs.Sweep.{Sweeper, Sweep, Swept, filler, generator, af
 use Rattle.sweep_rules.specs.SweepLaws.{AreGiven}
 use Rattle.sweep_rules.specs.SweepWork.{Sweeps, sweep_begins, sweep_opening}
 
--- the pieces in front of the save with a number: none for the mapfile that stood there, all for the last save
+-- the pieces before the save with a number: none for the mapfile that was there, all for the last save
 abbrev pub pieces_before : Sweeper → Sweep → List Swept → (number : ℕ) → List Swept
 pieces_before w m [] number = []
 pieces_before w m (e ∷ es) zero = []
@@ -32,15 +32,15 @@ abbrev pub AreFilled : Setting → (buffer : List ℕ) → (pieces : List Swept)
 AreFilled s buffer pieces image =
     All (λ e. (i : ℕ) → i < e.len → slice_get image (place s e.pos + i) ≡ slice_get buffer i) pieces
 
--- What the mapfile with a number promises in fill mode: its map is the one that the mapfile stood for, and each piece
--- that came before that save holds the buffer's front.
+-- What the mapfile with a number promises in fill mode: its map is the one that the mapfile gave, and each piece that
+-- came before that save holds the buffer's front.
 pub record FillPromise (s : Setting) (buffer : List ℕ) (began : List Status) (before : List Swept) (map : List Status)
     (image : List ℕ) : Type 0 where
   pub same : map ≡ began
   pub filled : AreFilled s buffer before image
 
--- In generate mode: what it calls finished was finished in the map that the mapfile stood for, or has a byte in the
--- output; and the output's old bytes stand.
+-- In generate mode: what it calls finished was finished in the map that the mapfile gave, or has a byte in the output;
+-- and the output's old bytes stand.
 pub record GeneratePromise (s : Setting) (old : List ℕ) (began map : List Status) (image : List ℕ) : Type 0 where
   pub held : (x : ℕ) → Has map Rescued x → Has began Rescued x ⊎ ((b : ℕ) × (slice_get image (place s x) ≡ Some b))
   pub stands : (y : ℕ) → y < length old → slice_get image y ≡ slice_get old y

@@ -22,7 +22,7 @@ use Rattle.rescue_rules.specs.Work.{Gain, end_of}
 use Rattle.rescue_rules.specs.Deeds.{save_of, deed_calls, doing_calls}
 use Rattle.sweep_rules.specs.Sweep.{Sweeper, Sweep, Swept, sweep_over, IsPiece, IsSweep, IsSweptOut, after_piece, after_pieces, due_save, sweep_end, deeds_of}
 
--- why a sweep ended: no piece is left; or memory ran out in front of one, where it takes any
+-- why a sweep ended: no piece is left; or memory ran out before one, if it takes any
 abbrev pub SweepEndsBy : Option Stop → Setting → Sweeper → Sweep → Type 0
 SweepEndsBy None s w m = IsSweptOut s w m
 SweepEndsBy (Some SourceLost) s w m = ⊥
@@ -41,12 +41,13 @@ lost_call w p q = unanswered (w.call (record { pos = p; len = q - p; got = []; a
 -- The calls of a sweep by these pieces, by how it ended.
 pub data SweepEnds (s : Setting) (w : Sweeper) (m : Sweep) (es : List Swept) (calls : List Entry) (end : RunEnd)
     : Type 0 where
-  -- it ended, and its last calls returned
+  -- the sweep ended, and its last calls returned
   IsSaved : (stop : Option Stop) → SweepEndsBy stop s w (after_pieces w m es) → end ≡ end_of stop
       → calls ≡ map Done (doing_calls s (deeds_of w m es) (sweep_end (is_none stop) (after_pieces w m es)))
       → SweepEnds s w m es calls end
-  -- it ended, and one of them failed
-  IsUnsaved : (stop : Option Stop) (call : SiteCall) → SweepEndsBy stop s w (after_pieces w m es) → end ≡ SaveFailed call stop
+  -- the sweep ended, and one of its last calls failed
+  IsUnsaved : (stop : Option Stop) (call : SiteCall) → SweepEndsBy stop s w (after_pieces w m es)
+      → end ≡ SaveFailed call stop
       → BrokeAt call (closing_calls s (sweep_end (is_none stop) (after_pieces w m es)))
       (map Done (sweep_calls s w m es)) calls
       → SweepEnds s w m es calls end

@@ -19,7 +19,7 @@ use Rattle.rescue_console.specs.ClockState.{ClockState}
 use Rattle.rescue_console.specs.ConsoleState.{ConsoleState}
 use Rattle.option_words.specs.declared.fault.UsageFault.TheVariants.{PlaceTooLarge}
 use Rattle.rescue_core.proofs.TurnEndLemmas.{says_none}
-use Rattle.copy_passes.specs.Turns.{IsFrom}
+use Rattle.faulty_source.specs.Journal.{IsFrom}
 use Rattle.copy_passes.proofs.TurnLemmas.{between as across}
 use Rattle.work_rules.specs.Work.{Opened as IsOpened, Unopened, Deeds, Look, Works}
 use Rattle.work_rules.specs.Parts.{only_calls, WentThrough}
@@ -34,7 +34,8 @@ use Rattle.task_files.specs.Names.{AreNamedApart}
 use Rattle.task_files.specs.Asked.{names_by, place_by, setting_of, ArePlacedBy, IsBeyond}
 use Rattle.task_files.specs.Maps.{Found, file_of, found_in, mapfile_of, seen_through}
 use Rattle.task_files.specs.Refusals.{PlacesRefused}
-use Rattle.task_files.specs.Outside.{AreOpens, HasGainedReads}
+use Rattle.task_files.specs.Outside.{HasGainedReads}
+use Rattle.work_rules.specs.Opens.{AreOpens}
 use Rattle.task_files.specs.Work.{Rescues, rescue_faults, output_rows, load_rows, opened_rows, RunsOver}
 use Rattle.task_files.specs.Steps.{Gains, DidRun, OpensOutput, Loads, mapfile_by, maps_of, DidAfterMaps}
 use Rattle.task_files.proofs.ListingLemmas.{Listing, listed_if, own_listing, some_listing}

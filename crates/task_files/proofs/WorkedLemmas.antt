@@ -17,7 +17,7 @@ use Rattle.save_resume.specs.Named.{map_mode}
 use Rattle.rescue_console.specs.ClockState.{ClockState}
 use Rattle.rescue_console.specs.ConsoleState.{ConsoleState}
 use Rattle.rescue_rules.specs.Work.{Gain, IsNothing, AreMapReads}
-use Rattle.copy_passes.specs.Turns.{IsFrom}
+use Rattle.faulty_source.specs.Journal.{IsFrom}
 use Rattle.work_rules.specs.Work.{Deeds, Works}
 use Rattle.work_rules.specs.Parts.{only_calls, StoppedIn, WentThrough}
 use Rattle.work_rules.specs.Holds.{after_entries}

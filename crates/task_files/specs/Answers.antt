@@ -61,8 +61,8 @@ is_of_words (Modes given) = true
 is_of_words (Operands given) = true
 is_of_words PlaceTooLarge = false
 
--- what an answer says of the words: they are refused exactly where they bring a refusal, but for want of memory, which
--- has an answer of its own
+-- what an answer says of the words: they are refused exactly if they lead to a refusal, except for want of memory,
+-- which has an answer of its own
 abbrev pub SaysOfWords : Ending → (words : List (List ℕ)) → Type 0
 SaysOfWords Done words = AreAccepted words ⊎ AskForSample words
 SaysOfWords (Usage fault) words =
@@ -94,12 +94,11 @@ pub record Rises (opens losses calls : ℕ → ℕ) (source source' : SourceStat
   pub losses_ : source'.losses ≡ losses source.losses
   pub site_faults : site'.faults ≡ calls site.faults
 
--- A fault is answered exactly if its count rose, by one.
--- No other count rose; so after an answer that is no fault all are as before.
--- If a run had stopped and a call of the save after the stop failed, the answer is that call's: after a loss
--- the count of the losses rose, too; after a limit or want of memory no other did; after a failed call on the files
--- there is no save.
--- Want of memory isn't told as an error of the mapfile, nor is a mapfile refused that says nothing.
+-- A fault is answered exactly if its count rose, by one. No other count rose; so after an answer that is no fault all
+-- are as before. If a run had stopped and a call of the save after the stop failed, the answer is that call's. Then,
+-- after a loss, the count of the losses rose, too; after a limit or want of memory no other did; after a failed call on
+-- the files there is no save. Want of memory isn't told as an error of the mapfile, nor is a mapfile refused that says
+-- nothing.
 abbrev pub Causes : Ending → (source source' : SourceState) → (site site' : SiteState) → Type 0
 Causes Done source source' site site' = Rises unchanged unchanged unchanged source source' site site'
 Causes (Usage fault) source source' site site' = Rises unchanged unchanged unchanged source source' site site'

@@ -27,7 +27,7 @@ abbrev pub IsBeyond : Options → (end : ℕ) → Type 0
 IsBeyond o end = IsAnyBeyond (whole_domain o.input_position o.size end) o.input_position (output_from o)
 
 -- What maps say of the positions that are to be rescued: the statuses of the domain map and of the test map, if they
--- are named; and, if the positions that the mapfile lists are to be rescued alone, where these begin and end.
+-- are named. If only the positions that the mapfile lists are to be rescued: where these begin and end.
 pub record Maps : Type 0 where
   pub domain : Option (List Status)
   pub test : Option (List Status)
@@ -37,13 +37,14 @@ pub record Maps : Type 0 where
 abbrev pub no_maps : Maps
 no_maps = record { domain = None; test = None; listed = None }
 
--- those from one position on, below another, if they are given
+-- the positions from one on, below another, if these are given
 abbrev pub in_list : (ℕ → Bool) → Option (ℕ × ℕ) → ℕ → Bool
 in_list domain None = domain
 in_list domain (Some k) = listed_in domain k.0 k.1
 
 -- The domain that options and maps ask for of an input with this length: each position of the input from the input
--- position on, and no more than the size; of these what is finished in the domain map, and what the mapfile lists.
+-- position on, and no more than the size. Of these, it is what is finished in the domain map, and what the mapfile
+-- lists.
 abbrev pub domain_asked : Options → (end : ℕ) → Maps → ℕ → Bool
 domain_asked o end maps = in_list (in_map (whole_domain o.input_position o.size end) maps.domain) maps.listed
 

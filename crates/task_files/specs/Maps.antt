@@ -17,7 +17,8 @@ use Rattle.task_files.specs.Asked.{Maps}
 -- blocks, one of comments and blank lines alone, and an absent one list no position.
 pub data MapfileLists (mapfile : Option File) (first end : ℕ) : Type 0 where
   NoFile : mapfile ≡ None → first ≡ 0 → end ≡ 0 → MapfileLists mapfile first end
-  NoText : (there : File) → mapfile ≡ Some there → Blank there.bytes → first ≡ 0 → end ≡ 0 → MapfileLists mapfile first end
+  NoText : (there : File) → mapfile ≡ Some there → Blank there.bytes → first ≡ 0 → end ≡ 0
+      → MapfileLists mapfile first end
   Blocks : (there : File) → mapfile ≡ Some there → length there.bytes ≤ text_limit
       → (shown : MapState) → (listed : Bool) → (statuses : List Status)
       → IsMapText there.bytes Tight shown first listed statuses → end ≡ length statuses → MapfileLists mapfile first end
@@ -63,15 +64,15 @@ abbrev pub IsListing : Command → (mapfile : Option File) → (listed : Option 
 IsListing c mapfile listed =
     (first end : ℕ) → c.options.complete_only ≡ true → MapfileLists mapfile first end → listed ≡ Some (first, end)
 
--- The maps are what the files are that were found.
--- Where a file isn't there or is no map, nothing is said here: then the rescue is refused.
+-- The maps are what the files are that were found. If a file isn't there or is no map, the maps may be any: then the
+-- rescue is refused.
 pub record AreMapsIn (c : Command) (found : Found) (maps : Maps) : Type 0 where
   pub domain : IsNamedMap c.domain_map (map_mode c.options.loose) found.domain maps.domain
   pub test : IsNamedMap c.test_map (map_mode c.options.loose) found.test maps.test
   pub listed : IsListing c found.mapfile maps.listed
 
--- reads as they are seen: in test mode each gives what comes in front
--- of the first position that isn't finished in the test map
+-- reads as they are seen: in test mode each gives what comes before the first position that isn't finished in the test
+-- map
 abbrev pub seen_through : Option (List Status) → List Reading → List Reading
 seen_through None reads = reads
 seen_through (Some test) reads = map (seen test) reads

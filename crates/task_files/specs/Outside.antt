@@ -1,37 +1,24 @@
 -- What was outside of a rescue, and what it did there; and how far the objects tell that.
-use Rattle.std.specs.Prelude.{◌≡◌, ℕ, false, IsTrue, List, [], ◌∷◌, ◌++◌, length, All, Option}
-use Rattle.fault_count.specs.Counts.{raised}
+use Rattle.std.specs.Prelude.{◌≡◌, ℕ, IsTrue, List, ◌++◌, length, All, Option}
 use Rattle.block_list.specs.declared.status.Status.{Status}
-use Rattle.faulty_source.specs.Journal.{Reading}
+use Rattle.faulty_source.specs.Journal.{Reading, IsFrom}
 use Rattle.faulty_source.specs.SourceState.{SourceState}
-use Rattle.faulty_source.specs.SourcePlan.{OpenFails}
 use Rattle.crash_site.specs.SiteState.{files_in}
 use Rattle.rescue_core.specs.Across.{Across}
-use Rattle.copy_passes.specs.Turns.{IsFrom}
-use Rattle.work_rules.specs.Work.{Opening, Opened, Unopened, Deeds}
+use Rattle.work_rules.specs.Work.{Deeds}
+use Rattle.work_rules.specs.Opens.{AreOpens}
 use Rattle.ddrescue_words.specs.Command.{Command}
 use Rattle.task_files.specs.Asked.{Maps}
 use Rattle.task_files.specs.Maps.{Found, found_in, seen_through}
 
--- The files that its steps found, the input's length, what the maps say, and what it did: opens of the input, calls on
-
--- the files, reads as they are seen by the maps, readings of the clock, and the lines that it says.
+-- The files that the rescue's steps found, the input's length, and what the maps say. What the rescue did: opens of the
+-- input, calls on the files, reads as they are seen by the maps, readings of the clock, and the lines that it puts.
 pub record Outside : Type 0 where
   pub found : Found
   pub end : ℕ
   pub maps : Maps
   pub did : Deeds
   pub lines : List (List ℕ)
-
--- The source was asked to open these: it stands where it was asked for none.
-abbrev pub AreOpens : List Opening → (source source' : SourceState) → Type 0
-AreOpens [] source source' = source' ≡ source
-AreOpens (Opened name ∷ []) source source' =
-    (source'.opens ≡ raised source.opens) × (IsTrue source.tells → source'.name ≡ name)
-AreOpens (Unopened name ∷ []) source source' =
-    (source'.opens ≡ raised source.opens) × (source'.is_open ≡ false)
-    × (IsTrue source.is_planned → OpenFails source.plan name)
-AreOpens (first ∷ second ∷ more) source source' = ⊥
 
 -- the journal gained reads that are seen as these, by this map if there is one, and that gave the input's own bytes
 pub record HasGainedReads (test : Option (List Status)) (source source' : SourceState) (reads : List Reading)

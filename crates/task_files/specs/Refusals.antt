@@ -37,7 +37,7 @@ PatternEmpty end e = (end ≡ 0) × (e ≡ EmptyPattern)
 abbrev pub OutputMissing : (output : Option File) → Ending → Type 0
 OutputMissing output e = (output ≡ None) × (e ≡ NoOutput)
 
--- something stands there that is no regular file
+-- something is there that is no regular file
 abbrev pub is_other : Option File → Bool
 is_other None = false
 is_other (Some f) = not f.regular

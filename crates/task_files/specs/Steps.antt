@@ -40,7 +40,8 @@ use Rattle.task_files.specs.declared.ending.Ending.TheVariants.{NoMap, NotRegula
 use Rattle.task_files.specs.Names.{AreNamedApart, first_same}
 use Rattle.task_files.specs.Asked.{Maps, names_by, setting_of}
 use Rattle.task_files.specs.Maps.{Found, AreAskedFor, AreMapsIn, IsListing, MapfileLists, file_of, mapfile_of}
-use Rattle.task_files.specs.Outside.{Outside, AreOpens, HasGainedReads, Agrees}
+use Rattle.task_files.specs.Outside.{Outside, HasGainedReads, Agrees}
+use Rattle.work_rules.specs.Opens.{AreOpens}
 use Rattle.task_files.specs.Work.{RunsOver, Rescues, rescue_faults, map_rows, output_rows, load_rows, opened_rows, worked_rows}
 
 -- how a rescue ends whose parts returned this
@@ -53,8 +54,8 @@ abbrev pub heard_after : (heard : Bool) → Result Ended Ending → Bool
 heard_after heard (Ok ended) = ended.heard
 heard_after heard (Err e) = heard
 
--- what a rescue needs before it opens a file: the names of its mapfile and its draft, apart from the outfile's, files of
--- different names, the heading of a map that wasn't saved yet, and options within their limits
+-- what a rescue needs before it opens a file: the names of its mapfile and its draft, apart from the outfile's, files
+-- of different names, the heading of a map that wasn't saved yet, and options within their limits
 pub record IsPlanned (plan : CheckedCommand) : Type 0 where
   pub names : plan.names ≡ names_by (told_by plan.command)
   pub apart : AreNamedApart (told_by plan.command).outfile plan.names
@@ -178,9 +179,9 @@ pub record IsOnlyMaps (g : Gain) : Type 0 where
 abbrev pub maps_of : (domain test : Option (List Status)) → (listed : Option (ℕ × ℕ)) → Maps
 maps_of domain test listed = record { domain = domain; test = test; listed = listed }
 
--- What the work did after the maps that options name, which have these statuses. Of their files nothing is said here.
-pub record DidAfterMaps (c : Command) (line : List ℕ) (domain test : Option (List Status)) (heard heard' : Bool) (e : Ending)
-    (o : Across) : Type 0 where
+-- What the work did after the maps that options name, which have these statuses. Their files may be any.
+pub record DidAfterMaps (c : Command) (line : List ℕ) (domain test : Option (List Status)) (heard heard' : Bool)
+    (e : Ending) (o : Across) : Type 0 where
   pub found : Found
   pub output : IsTrue o.site.tells → found.output ≡ files_in o.site c.outfile
   pub mapfile : IsTrue o.site.tells → found.mapfile ≡ mapfile_of c (files_in o.site)

@@ -85,7 +85,7 @@ answer_of (Stopped (Limited limit)) = LimitMet limit
 answer_of (Stopped NoRoom) = NoMemory
 answer_of (SaveFailed call earlier) = SiteFault call earlier
 
--- all that a run says: how much is asked for, if more is said, and its own lines
+-- all that a run puts: how much is asked for, if more lines are wanted, and its own lines
 abbrev pub said_by : Setting → List Status → Option MapState → Gain → RunEnd → List (List ℕ)
 said_by s statuses state g end =
     opening_lines s (length statuses) ++ lines_of s (begins s statuses state g) (events_in g) end

@@ -70,7 +70,7 @@ pub enum Ending {
     },
     /// The run met a limit that was set to it, and its map was saved.
     LimitMet(Limit),
-    /// Memory wasn't there.
+    /// There wasn't enough memory.
     NoMemory,
 }
 

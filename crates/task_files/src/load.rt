@@ -128,7 +128,8 @@ fn load_mapfile<D: Site>(
     }
 }
 
-/// Does so if there is a mapfile; without one the map is that of an input that wasn't read yet.
+/// Makes the mapfile and the open output durable as they read, loads the mapfile, and makes its map reach an end, if
+/// there is a mapfile. Without one the map is that of an input that wasn't read yet.
 pub fn load<D: Site>(
     alloc: Global,
     site: &mut D,

@@ -11,7 +11,7 @@ use rescue_console::console::{Channel, Console};
 use rescue_sample::line::add;
 use std::alloc::Global;
 
-/// A byte of a name, as it is said.
+/// A byte of a name, as the line has it.
 fn shown(byte: u8) -> u8
     ensures { result ≡ shown_byte byte }
 {
@@ -32,8 +32,8 @@ fn add_name(line: &mut Vec<u8>, name: &str) -> Result<(), NoMemory>
     Ok(())
 }
 
-/// How many bytes are asked for, and from where to where they are rescued. What controls a terminal in a name is said
-/// as `?`.
+/// How many bytes are asked for, and from where to where they are rescued. A byte of a name that controls a terminal is
+/// put as `?`.
 pub fn opening_line(
     alloc: Global,
     size: u64,

@@ -42,19 +42,16 @@ use Rattle.rescue_rules.proofs.ReadyLemmas.{ready_here, spent_request}
 use Rattle.rescue_rules.proofs.SearchLemmas.{request_seen}
 use Rattle.rescue_core.specs.RunState.{RunState, names_in, setting_in}
 use Rattle.rescue_core.specs.Turning.{IsEvent, stepped, move_by, Halted, Starved, Lost, Unwritten, Unsaved, Limited}
-use Rattle.rescue_core.specs.Closing.{LastSave, Saved, Unsaved as UnsavedEnd, Closes, closing_snapshot, end_of as core_end, last_pieces}
+use Rattle.rescue_core.specs.Closing.{LastSave, Saved, Unsaved as UnsavedEnd, Closes, closing_snapshot, last_pieces}
 use Rattle.rescue_core.specs.Across.{Across}
-use Rattle.copy_passes.specs.Turns.{IsFrom, IsAlike, moved_to, Went, WentUpTo}
+use Rattle.copy_passes.specs.Turns.{IsAlike, moved_to, Went, WentUpTo}
+use Rattle.faulty_source.specs.Journal.{IsFrom}
 use Rattle.trim_scrape.specs.Past.{IsPast}
 use Rattle.task_rescue.specs.Running.{WentToEnd}
 use Rattle.task_rescue.proofs.LastLemmas.{past_all}
 use Rattle.task_rescue.proofs.SpokenLemmas.{SaidMore, said_more, save_writes_none, saves_written, says_all, says_front}
 use Rattle.work_rules.proofs.GainLemmas.{MayGain, may_gain, broke_after}
 use Rattle.task_rescue.proofs.TurnLemmas.{EventMore, event_more, ReadsMore, read_more}
-
-ends_as : (stop : Option Stop) → core_end stop ≡ end_of stop
-ends_as None = refl
-ends_as (Some stop) = refl
 
 -- a run that has met a request isn't over
 pub asked_on : (s : Setting) (m : Machine) (p q : ℕ) → IsRequest s m p q → has_ended s m ≡ false
@@ -183,7 +180,7 @@ save_ends r r1 events stop spare end tells old a b by same text made told (Saved
       gained = map Returned (run_calls s r.machine events ++ end_calls s r.machine events);
       grew = λ t. made_more old a.calls b.calls (run_calls s r.machine events) (end_calls s r.machine events) (made t)
           (subst (λ (cs : List Call). Made cs a.calls b.calls) are (makes.made (told t)));
-      ends = IsSaved stop by (is ∙ ends_as stop) refl;
+      ends = IsSaved stop by is refl;
     }
 save_ends r r1 events stop spare end tells old a b by same text made told (UnsavedEnd call is named breaks rest) =
     let s : Setting = setting_in r in
@@ -281,7 +278,7 @@ stopped_saves : (r r1 r2 : RunState) (stop : Stop) (end : RunEnd) (heard : Bool)
     → (w : Went r r1 o) → limit_met (setting_in r1) r1.machine ≡ None → IsRequest (setting_in r1) r1.machine p q → r2 ≡ r1
     → ((m : Machine) → has_ended (setting_in r) m ≡ false → limit_met (setting_in r) m ≡ None
     → EndsBy (Some stop) (setting_in r) m (length spare))
-    → ends_at_write (core_end (Some stop)) ≡ false → o.site'.tells ≡ o.site.tells
+    → ends_at_write (end_of (Some stop)) ≡ false → o.site'.tells ≡ o.site.tells
     → IsDone r w.events spare (across_to o source2 site2 clock2 console3) → LastSave (Some stop) r2 end o.site' site2
     → console2 ≡ o.console' → SpeaksOn (last_pieces r2 end) r2.heard heard console2 console3
     → WentToEnd r end heard (across_to o source2 site2 clock2 console3)

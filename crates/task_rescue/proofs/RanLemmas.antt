@@ -37,7 +37,7 @@ use Rattle.task_rescue.specs.declared.ready.RunMemory.{RunMemory}
 use Rattle.task_files.specs.Asked.{Maps, names_by, setting_asked, setting_of, domain_asked}
 use Rattle.rescue_core.specs.Across.{Across}
 use Rattle.rescue_core.proofs.TurnEndLemmas.{says_none}
-use Rattle.copy_passes.specs.Turns.{IsFrom}
+use Rattle.faulty_source.specs.Journal.{IsFrom}
 use Rattle.copy_passes.proofs.TurnLemmas.{says_more, timed_more}
 use Rattle.task_files.specs.Work.{answer_of, said_by}
 use Rattle.task_files.specs.Steps.{DidRun}

@@ -27,7 +27,8 @@ use Rattle.faulty_source.specs.Ends.{is_before}
 use Rattle.rescue_core.specs.Across.{Across}
 use Rattle.rescue_core.specs.RunState.{RunState, setting_in}
 use Rattle.rescue_core.specs.Turning.{IsEvent, stepped, move_by, move_pieces}
-use Rattle.rescue_core.specs.Closing.{LastSave, Saved, Unsaved, end_of, last_pieces}
+use Rattle.rescue_rules.specs.Work.{end_of}
+use Rattle.rescue_core.specs.Closing.{LastSave, Saved, Unsaved, last_pieces}
 use Rattle.copy_passes.specs.Turns.{IsAlike, Went}
 use Rattle.copy_passes.proofs.AlikeLemmas.{RunMore, alike_on, run_more}
 use Rattle.copy_passes.proofs.TurnLemmas.{IsOneMove, one_move, says_more}

@@ -87,9 +87,6 @@ saves_draft stop r end before after none (Unsaved call is named breaks rest) =
 pub stopped_draft : (stop : Stop) (r : RunState) (end : RunEnd) (before after : SiteState)
     → before.is_drafting ≡ drafting_at_stop stop → Closes (Some stop) r end before after
     → after.is_drafting ≡ drafting_left (answer_of end)
-stopped_draft InputLost r end before after draft closes = saves_draft InputLost r end before after refl closes
 stopped_draft (Site call) r end before after draft closes =
     ap (λ (d : SiteState). d.is_drafting) closes.1 ∙ draft ∙ ap (λ (e : RunEnd). drafting_left (answer_of e)) (sym closes.0)
-stopped_draft (Limited limit) r end before after draft closes =
-    saves_draft (Limited limit) r end before after refl closes
-stopped_draft NoRoom r end before after draft closes = saves_draft NoRoom r end before after refl closes
+stopped_draft e r end before after draft closes = saves_draft e r end before after refl closes

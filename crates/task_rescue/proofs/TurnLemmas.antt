@@ -2,7 +2,7 @@
 use Rattle.std.proofs.Common.{◌≡◌, ℕ, ◌+◌, ◌<◌, ◌≤◌, ◌^◌, IsTrue, List, [], ◌∷◌, ◌++◌, length, All, sym, ap, ◌∙◌, subst, None}
 use Rattle.std.specs.List.{slice_range}
 use Rattle.std.proofs.lemmas.List.Elements.{All-nil, All-cons, All-append}
-use Rattle.faulty_source.specs.Journal.{Reading}
+use Rattle.faulty_source.specs.Journal.{Reading, IsFrom}
 use Rattle.faulty_source.specs.SourceState.{SourceState}
 use Rattle.faulty_source.specs.SourceChanges.{Stays as SourceStays, Reads}
 use Rattle.faulty_source.proofs.Keeping.{reads_more}
@@ -24,7 +24,7 @@ use Rattle.rescue_rules.proofs.SearchLemmas.{request_seen}
 use Rattle.rescue_core.specs.RunState.{RunState, setting_in}
 use Rattle.rescue_core.specs.Turning.{IsEvent, move_by}
 use Rattle.rescue_core.specs.Across.{Across}
-use Rattle.copy_passes.specs.Turns.{IsFrom, IsAlike, Went}
+use Rattle.copy_passes.specs.Turns.{IsAlike, Went}
 use Rattle.copy_passes.proofs.TurnLemmas.{timed_more, times_append}
 
 -- A run of events that led to another run's state, or to one alike, and one more that reads that one's request.

@@ -20,7 +20,7 @@ use Rattle.rescue_rules.specs.Work.{Ends}
 use Rattle.rescue_rules.specs.Lines.{lines_of, opening_lines}
 use Rattle.rescue_core.specs.RunState.{RunState, setting_in, HasPlaces, Suits}
 use Rattle.rescue_core.specs.Across.{Across}
-use Rattle.copy_passes.specs.Turns.{IsFrom}
+use Rattle.faulty_source.specs.Journal.{IsFrom}
 use Rattle.copy_passes.specs.Copying.{MayCopy}
 use Rattle.ddrescue_words.specs.declared.options.Options.{Options}
 use Rattle.ddrescue_words.specs.Options.{cluster_of}
@@ -50,9 +50,9 @@ pub record WentToEnd (r : RunState) (end : RunEnd) (heard : Bool) (o : Across) :
   pub ends : Ends (setting_in r) r.machine events (length spare) gained end
   pub says : SpeaksOn (out_pieces (lines_of (setting_in r) r.machine events end)) r.heard heard o.console o.console'
 
--- a run at its start over what is made of a map, with these names of a mapfile and its draft if there is one, this
--- command line, these options and these maps, for an input with a length, and the state that its mapfile showed; and
--- heard or not
+-- A run at its start over what is made of a map, with these names of a mapfile and its draft if there is one, this
+-- command line, these options and these maps. It is for an input with a length, goes by the state that its mapfile
+-- showed, and is heard or not.
 pub record IsRunOver (names : Option MapNames) (line : List ℕ) (o : Options) (end : ℕ) (maps : Maps)
     (statuses : List Status) (state : Option MapState) (moment : ℕ) (heard : Bool) (r : RunState) : Type 0 where
   pub copying : MayCopy r
@@ -65,8 +65,9 @@ pub record IsRunOver (names : Option MapNames) (line : List ℕ) (o : Options) (
   pub machine : r.machine ≡ machine_of (setting_in r) (prepared (covers r.domain) o.try_again o.retrim statuses)
       (goes_on_from o.try_again state) (shown_at_first state) moment
 
--- What a run begins with over a map: the domain that a command and maps ask for of an input with a length, what is made
--- of the map, the state that its mapfile showed, and the line that says how much is asked for, if that is said.
+-- What a run begins with over a map: the domain that a command and maps ask for of an input with a length, and what is
+-- made of the map. Also the state that its mapfile showed, and the line that says how much is asked for, if there is
+-- one.
 pub record IsReady (c : Command) (end : ℕ) (maps : Maps) (statuses : List Status) (state : Option MapState)
     (ready : RunMemory) : Type 0 where
   pub domain : (x : ℕ) → covers ready.domain x ≡ domain_asked c.options end maps x
@@ -75,7 +76,8 @@ pub record IsReady (c : Command) (end : ℕ) (maps : Maps) (statuses : List Stat
   pub opening : (line : List ℕ) → lines_in (option_map (λ l. l.items) ready.opening)
       ≡ opening_lines (setting_of c line end maps) (length statuses)
 
--- it has what a run needs: a domain for its map, which isn't too long, a state within limits, and room for a cluster
+-- what a run begins with suits it: a domain for its map, which isn't too long, a state within limits, and room for a
+-- cluster
 pub record MayBegin (o : Options) (ready : RunMemory) : Type 0 where
   pub suits : Suits (settings_by o) (covers ready.domain) (length ready.tiles.statuses)
   pub short : length ready.tiles.statuses < 2 ^ 63

@@ -24,7 +24,7 @@ use task_files::load::{LoadedMap, RunMap};
 use task_files::maps::domain_of;
 use task_files::settings::{make_opening, settings_for};
 
-/// The state that copying goes on from, if a mapfile shows one.
+/// The state that copying resumes from, if a mapfile shows one.
 fn copying_from(again: bool, state: Option<MapState>) -> Option<MapState>
     ensures { result ≡ goes_on_from again state }
 {
@@ -45,7 +45,7 @@ pub struct RunMemory {
     pub state: Option<MapState>,
     /// Room for a cluster.
     pub buf: Vec<u8>,
-    /// The line that says how much is asked for, if that is said.
+    /// The line that says how much is asked for, if there is one.
     pub opening: Option<Vec<u8>>,
 }
 

@@ -28,8 +28,8 @@ use task_files::open::open_output;
 use task_files::opening::say_line;
 use task_files::places::places_fit;
 
-/// Runs the rescue over the map that it goes on with. All memory is taken before the clock is read; what is said first
-/// is said after that.
+/// Runs the rescue over the map that it goes on with. All memory is taken before the clock is read; the first line is
+/// put after that.
 fn run<S: Source, D: Site, K: Clock, C: Console>(
     alloc: Global,
     plan: CheckedCommand<'_>,

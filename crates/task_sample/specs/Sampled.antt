@@ -1,4 +1,4 @@
--- The rescue of a sample: what it asks for, its step, and what is said of it.
+-- The rescue of a sample: what it asks for, its step, and the line on it.
 use Rattle.std.specs.Prelude.{◌≡◌, ℕ, Bool, true, IsTrue, List, [], ◌∷◌, ◌++◌, length, replicate, None, codes}
 use Rattle.block_list.specs.declared.status.Status.TheVariants.{NonTried}
 use Rattle.faulty_source.specs.SourceState.{SourceState}
@@ -26,7 +26,7 @@ use Rattle.task_files.specs.declared.ending.Ending.TheVariants.{Done, NoMemory}
 use Rattle.task_files.specs.Asked.{no_maps, setting_of}
 use Rattle.task_files.specs.Work.{rescue_faults}
 
--- what the rescue of a sample with so many bytes asks for; a run needs no names
+-- what the rescue of a sample with this number of bytes asks for; a run needs no names
 abbrev pub sample_setting : (end : ℕ) → Setting
 sample_setting end = nameless (setting_of sample_command (codes "ddrescue -r 1 in out map") end no_maps)
 
@@ -34,7 +34,7 @@ sample_setting end = nameless (setting_of sample_command (codes "ddrescue -r 1 i
 abbrev pub sample_start : (end time : ℕ) → Machine
 sample_start end time = machine_over (sample_setting end) (replicate end NonTried) None time
 
--- the line of a sample of so many KiB: that of this rescue over it, which begins at 0
+-- the line of a sample of `kib` KiB: that of this rescue over it, which begins at 0
 abbrev pub IsLineOf : (kib : ℕ) → (line : List ℕ) → Type 0
 IsLineOf kib line = IsSampleLine kib (sample_setting (sample_size kib)) (sample_start (sample_size kib) 0) line
 
@@ -42,7 +42,7 @@ IsLineOf kib line = IsSampleLine kib (sample_setting (sample_size kib)) (sample_
 abbrev pub sample_rows : List (WorkStep Ending)
 sample_rows = Take ∷ []
 
--- Then the sample is rescued, which does nothing on the objects of the call, and its line is said.
+-- Then the sample is rescued, which does nothing on the objects of the call, and its line is put.
 abbrev pub Samples : (kib : ℕ) → (lines : List (List ℕ)) → Ending → Deeds → Type 0
 Samples kib lines e d = (e ≡ Done) × (line : List ℕ) × IsLineOf kib line × (lines ≡ line ∷ [])
 
@@ -64,7 +64,7 @@ pub record RanToEnd (r : RunState) (counts : Counts) (source source' : SourceSta
   pub timed : ReadsClock (times_of events) clock clock'
   pub counts_are : counts ≡ counts_of (covers r.domain) (state_after (setting_in r) r.machine events).map
 
--- the same of the rescue of a sample over any input, from the reading of the clock on with which it begins
+-- the rescue of a sample over any input up to its end, from the reading of the clock on with which it begins
 pub record RanSample (counts : Counts) (source source' : SourceState) (clock clock' : ClockState) : Type 0 where
   pub end : ℕ
   pub own_end : IsTrue source.tells → end ≡ length source.bytes

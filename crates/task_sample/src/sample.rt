@@ -111,8 +111,8 @@ fn count_sample<S: Source, K: Clock>(
     count_run(rescue, source, &mut site, clock, &mut console)
 }
 
-/// The line of a sample of so many KiB. So many readings that the clock tells them no more would want more memory than
-/// there is.
+/// The line of a sample of `kib` KiB. A run with too many readings for the clock to tell them would want more memory
+/// than there is.
 fn run_sample(alloc: Global, kib: u64) -> Result<Vec<u8>, NoMemory>
     requires low { 1 ≤ kib }
     requires high { kib ≤ 65536 }

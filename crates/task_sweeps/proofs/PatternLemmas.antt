@@ -10,9 +10,8 @@ use Rattle.std.proofs.lemmas.List.Elements.{All-nil, All-cons}
 use Rattle.std.proofs.lemmas.Option.{slice_get-get_or}
 use Rattle.faulty_source.specs.declared.source.Got.{Got}
 use Rattle.faulty_source.specs.Got.{count_of, is_end}
-use Rattle.faulty_source.specs.Journal.{Reading}
+use Rattle.faulty_source.specs.Journal.{Reading, IsFrom}
 use Rattle.faulty_source.specs.SourceState.{SourceState}
-use Rattle.copy_passes.specs.Turns.{IsFrom}
 use Rattle.task_files.specs.declared.ending.Ending.TheVariants.{PatternUnread}
 use Rattle.task_files.specs.Outside.{HasGainedReads}
 use Rattle.task_sweeps.specs.Pattern.{IsPatternRead, IsRepeated, PatternRead, ReadsPattern, TakesPattern}

@@ -7,7 +7,7 @@ use Rattle.mapfile_text.specs.declared.state.MapState.{MapState}
 use Rattle.mapfile_text.specs.declared.read.Mode.TheVariants.{Tight}
 use Rattle.mapfile_text.specs.MapText.{IsMapText, Blank}
 use Rattle.mapfile_text.proofs.OneReading.{has_one_reading}
-use Rattle.faulty_source.specs.Journal.{Reading}
+use Rattle.faulty_source.specs.Journal.{Reading, IsFrom}
 use Rattle.faulty_source.specs.SourceState.{SourceState}
 use Rattle.faulty_source.specs.SourceChanges.{Stays as SourceStays}
 use Rattle.crash_site.specs.Files.{File}
@@ -19,7 +19,6 @@ use Rattle.rescue_console.specs.ClockState.{ClockState}
 use Rattle.rescue_console.specs.ConsoleState.{ConsoleState}
 use Rattle.rescue_rules.specs.Start.{IsFresh, TextStands, AsNone, AsMap, StandsFor, Stands}
 use Rattle.rescue_rules.specs.Laws.{AreTimes}
-use Rattle.copy_passes.specs.Turns.{IsFrom}
 use Rattle.copy_passes.proofs.TurnLemmas.{between as across}
 use Rattle.work_rules.specs.Work.{Opened, Unopened, Deeds}
 use Rattle.ddrescue_words.specs.Command.{Command}

@@ -11,7 +11,7 @@ use Rattle.rescue_console.specs.ClockState.{ClockState}
 use Rattle.rescue_console.specs.ConsoleState.{ConsoleState}
 use Rattle.rescue_rules.specs.Work.{IsNothing}
 use Rattle.rescue_core.specs.Across.{Across}
-use Rattle.copy_passes.specs.Turns.{IsFrom}
+use Rattle.faulty_source.specs.Journal.{IsFrom}
 use Rattle.copy_passes.proofs.TurnLemmas.{between as across}
 use Rattle.work_rules.specs.Work.{Deeds, WorkStep, Works}
 use Rattle.work_rules.specs.Parts.{only_calls}
@@ -24,7 +24,8 @@ use Rattle.task_files.specs.declared.ending.Ending.{Ending}
 use Rattle.task_files.specs.Names.{first_same}
 use Rattle.task_files.specs.Asked.{names_by}
 use Rattle.task_files.specs.Maps.{Found, file_of, found_in, mapfile_of}
-use Rattle.task_files.specs.Outside.{Outside, AreOpens}
+use Rattle.task_files.specs.Outside.{Outside}
+use Rattle.work_rules.specs.Opens.{AreOpens}
 use Rattle.task_files.specs.Work.{rescue_faults, map_rows}
 use Rattle.task_files.specs.Steps.{Gains, IsOnlyMaps, ReadsMap, maps_of, statuses_in}
 use Rattle.task_sweeps.specs.Modes.{named_rows}

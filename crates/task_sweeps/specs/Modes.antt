@@ -45,7 +45,7 @@ fill_setting c line top maps = record (setting_of c line top maps) { end = 0 }
 
 -- ---- the steps
 
--- what comes first: the names are looked at, and the map that an option names is read
+-- what comes first: the names are checked, and the map that an option names is read
 abbrev pub named_rows : Command → Found → List (WorkStep Ending)
 named_rows c found =
     Take ∷ Look (NamesRefused c) ∷ map_rows DomainMap (map_mode c.options.loose) c.domain_map found.domain
@@ -102,7 +102,7 @@ Generates c found input_end s pieces end lines =
 -- ---- what is found after a stop
 
 -- At whatever moment a filling is stopped, the mapfile found is the one it began with or one that it saved, with the
--- map that it began with, and the output holds the buffer's front in each piece that came before that save.
+-- map that it began with. The output holds the buffer's front in each piece that came before that save.
 abbrev pub FillStops : Before → Setting → (types : TypeSet) → (buffer : List ℕ) → List Swept → RunEnd → Gain → Type 0
 FillStops b s types buffer pieces end g =
     let w = filler s types buffer in

@@ -19,7 +19,7 @@ pub record IsPatternRead (cluster end : ℕ) (r : Reading) : Type 0 where
   pub asked : r.asked ≡ min cluster end
   pub given : length r.given ≤ r.asked
 
--- the same deeds, but for the reads
+-- these deeds with other reads
 abbrev pub with_reads : Deeds → List Reading → Deeds
 with_reads d reads = record {
   opens = d.opens;

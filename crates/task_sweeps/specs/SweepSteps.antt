@@ -35,7 +35,7 @@ use Rattle.task_files.specs.Steps.{IsOnlyMaps}
 use Rattle.task_files.specs.Settings.{lines_in, settings_by}
 use Rattle.task_sweeps.specs.Modes.{AreMapsOfSweep, IsMapEnd, MaySweep, Fills, Generates, fill_setting}
 
--- state that its mapfile showed, and the line that says how much is asked for, if that is said.
+-- state that its mapfile showed, and the line that says how much is asked for, if there is one.
 pub record IsSweepReady (c : Command) (limit : ℕ) (maps : Maps) (statuses : List Status) (state : Option MapState)
     (ready : SweepReady) : Type 0 where
   pub domain : (x : ℕ) → covers ready.domain x ≡ domain_asked c.options limit maps x

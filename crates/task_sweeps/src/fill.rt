@@ -33,8 +33,8 @@ use task_files::open::open_output;
 use task_files::opening::say_line;
 use task_files::places::places_fit;
 
-/// Fills over the map that the mapfile stands for. All memory is taken before the clock is read; what is said first is
-/// said after that.
+/// Fills over the map that the mapfile stands for. All memory is taken before the clock is read; the first line is put
+/// after that.
 fn run<D: Site, K: Clock, C: Console>(
     alloc: Global,
     plan: CheckedCommand<'_>,

@@ -53,7 +53,8 @@ pub fn read_pattern<S: Source>(
     requires some { 0 < cluster }
     requires short { cluster ≤ 16777216 }
     requires high { end < 2 ^ 63 }
-    ensures takes { TakesPattern cluster end (taken_as (λ b. b.items) result) (S.state source.old) (S.state source.new) }
+    ensures takes { TakesPattern cluster end (taken_as (λ b. b.items) result) (S.state source.old)
+        (S.state source.new) }
     ensures cause { PatternCause result (S.state source.old) (S.state source.new) }
     ensures source { Stays (S.state source.old) (S.state source.new) }
 {

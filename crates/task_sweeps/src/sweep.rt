@@ -29,7 +29,7 @@ pub struct SweepReady {
     pub tiles: RunMap,
     /// The state that the mapfile showed, if it was there.
     pub state: Option<MapState>,
-    /// The line that says how much is asked for, if that is said.
+    /// The line that says how much is asked for, if there is one.
     pub opening: Option<Vec<u8>>,
 }
 

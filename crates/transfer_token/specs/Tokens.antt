@@ -44,8 +44,8 @@ IsEndedCut from end (Nothing missed) = ⊥
 IsEndedCut from end (Ended loaded over) = (from < end) × (loaded ≡ between from end) × (over ≡ end)
 IsEndedCut from end (Empty over) = (from ≡ end) × (over ≡ end)
 
--- What came of a request spans it: its parts join, and none is empty. Where the input ended within it, they span what
--- lies in front of the end.
+-- What came of a request spans it: its parts join, and none is empty. If the input ended within it, they span what lies
+-- before the end.
 abbrev pub Spans : Request → Fetched → Type 0
 Spans request (Whole loaded) = loaded ≡ between request.pos (request.pos + request.len)
 Spans request (Part loaded missed) =
@@ -70,7 +70,7 @@ pub record HoldsLoaded (sector : ℕ) (r : Reading) (source : SourceState) (buf 
   pub given : take (size_of loaded) buf ≡ take (kept sector r) r.given
   pub own : IsTrue source.tells → take (size_of loaded) buf ≡ slice_range source.bytes loaded.from loaded.to
 
--- One read was made of what was requested, which answered this, and cut; what it gave stands at the buffer's front.
+-- One read was made of what was requested, which answered this, and cut; what it gave is at the buffer's front.
 pub record Fetches (request : Request) (sector : ℕ) (got : Got) (fetched : Fetched) (buf : List ℕ)
     (old new : SourceState) : Type 0 where
   pub reading : Reading
@@ -79,7 +79,7 @@ pub record Fetches (request : Request) (sector : ℕ) (got : Got) (fetched : Fet
   pub count : length reading.given ≡ count_of got
   pub ended : reading.ended ≡ is_end got
   pub few : length reading.given ≤ request.len
-  -- it met the input's end only where it gave less than it was asked for
+  -- the read met the input's end only if it gave less than it was asked for
   pub ends : reading.ended ≡ true → length reading.given < request.len
   pub right : IsTrue old.tells → reading.given ≡ slice_range old.bytes reading.pos (reading.pos + length reading.given)
   pub read : Reads (reading ∷ []) old new

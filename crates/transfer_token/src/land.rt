@@ -7,7 +7,7 @@ ghost use Rattle.transfer_token.specs.Tokens.{size_of};
 use crate::token::{Landed, Loaded, Unlanded};
 use crash_site::site::{Site, SiteFault};
 
-/// Writes what was loaded, which stands at the buffer's front, at a place of the output.
+/// Writes what was loaded, which is at the buffer's front, at a place of the output.
 #[inline(always)]
 pub fn land<D: Site>(
     loaded: Loaded,

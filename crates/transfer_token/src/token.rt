@@ -11,7 +11,7 @@ pub struct Request {
     pub len: usize,
 }
 
-/// A range that was read, and whose bytes stand at the buffer's front. Only `land` spends it.
+/// A range that was read, and whose bytes are at the buffer's front. Only `land` spends it.
 pub struct Loaded {
     pub(crate) range: Range,
 }

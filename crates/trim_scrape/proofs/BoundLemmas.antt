@@ -108,15 +108,11 @@ narrows_not Retrying on is = absurd (cc)
 copies_not : (phase : Phase) → copies phase ≡ true → (taken phase ≡ BadSector) ⊎ (taken phase ≡ Finished) → ⊥
 copies_not Copying on is =
     ⊎_elim (λ (e : NonTried ≡ BadSector). absurd (cc)) (λ (e : NonTried ≡ Finished). absurd (cc)) is
-copies_not Trimming on is = absurd (cc)
-copies_not Scraping on is = absurd (cc)
-copies_not Retrying on is = absurd (cc)
+copies_not _ on is = absurd (cc)
 
 narrows_apart : (phase : Phase) → narrows phase ≡ true → copies phase ≡ true → ⊥
 narrows_apart Copying on is = absurd (cc)
-narrows_apart Trimming on is = absurd (cc)
-narrows_apart Scraping on is = absurd (cc)
-narrows_apart Retrying on is = absurd (cc)
+narrows_apart _ on is = absurd (cc)
 
 narrowed_ready : (s : Setting) (m : Machine) (x : ℕ) → IsNarrowed m x → IsNarrowed (ready s m) x
 narrowed_ready s m x narrowed =

@@ -42,10 +42,8 @@ from_cursor up cursor size = record { up = up; from = cursor; front = up; size =
 
 search_is : (s : Setting) (m : Machine) (phase : Phase) (mode : TrimMode) → trims phase ≡ false
     → search_in s m phase mode ≡ from_cursor (is_up s (pass_of m)) m.cursor (size_of s phase)
-search_is s m Copying mode off = refl
 search_is s m Trimming mode off = absurd (cc)
-search_is s m Scraping mode off = refl
-search_is s m Retrying mode off = refl
+search_is s m _ mode off = refl
 
 -- a request takes the nearest positions ahead for which P holds
 record IsNearest (up : Bool) (P : ℕ → Type 0) (cursor p q : ℕ) : Type 0 where
@@ -161,9 +159,7 @@ no_jump : (phase : Phase) (number : ℕ) (failed slow : Bool) → (phase ≡ Cop
 no_jump Copying number false true last = let n : 4 < number = last refl in lt-leb number 2 (omega arith)
 no_jump Copying number false false last = refl
 no_jump Copying number true slow last = lt-leb number 4 (last refl)
-no_jump Trimming number failed slow last = refl
-no_jump Scraping number failed slow last = refl
-no_jump Retrying number failed slow last = refl
+no_jump _ number failed slow last = refl
 
 jump_none : (s : Setting) (m : Machine) (e : Event) → JumpsNever (pass_of m) → jump_of s m e ≡ 0
 jump_none s m e never =

@@ -9,7 +9,7 @@ use Rattle.block_list.specs.declared.status.Status.TheVariants.{NonTried, NonTri
 use Rattle.block_list.specs.Map.{Has}
 use Rattle.faulty_source.specs.Journal.{is_failed}
 use Rattle.rescue_rules.specs.declared.phase.Phase.{Phase}
-use Rattle.rescue_rules.specs.declared.phase.Phase.TheVariants.{Copying, Trimming, Scraping, Retrying}
+use Rattle.rescue_rules.specs.declared.phase.Phase.TheVariants.{Copying, Trimming, Retrying}
 use Rattle.rescue_rules.specs.Setting.{Setting, IsSensible}
 use Rattle.rescue_rules.specs.Passes.{Pass, taken, numbered}
 use Rattle.rescue_rules.specs.Machine.{Machine, pass_of, is_live, IsWanted, has_request}
@@ -31,27 +31,19 @@ use Rattle.trim_scrape.proofs.RunLemmas.{MayRun, Moves, moves_by, has_unready, a
 -- the phases' order
 order_few : (phase : Phase) → order phase ≤ 3
 order_few Copying = omega arith
-order_few Trimming = omega arith
-order_few Scraping = omega arith
-order_few Retrying = omega arith
+order_few _ = omega arith
 
 pub copies_first : (phase : Phase) → copies phase ≡ true → order phase ≡ 0
 copies_first Copying is = refl
-copies_first Trimming is = absurd (cc)
-copies_first Scraping is = absurd (cc)
-copies_first Retrying is = absurd (cc)
+copies_first _ is = absurd (cc)
 
 pub trims_second : (phase : Phase) → trims phase ≡ true → order phase ≡ 1
-trims_second Copying is = absurd (cc)
 trims_second Trimming is = refl
-trims_second Scraping is = absurd (cc)
-trims_second Retrying is = absurd (cc)
+trims_second _ is = absurd (cc)
 
 retries_last : (phase : Phase) → order phase ≡ 3 → phase ≡ Retrying
-retries_last Copying is = absurd (omega (arith, is))
-retries_last Trimming is = absurd (omega (arith, is))
-retries_last Scraping is = absurd (omega (arith, is))
 retries_last Retrying is = refl
+retries_last _ is = absurd (omega (arith, is))
 
 -- and that of the statuses that they ask for
 abbrev order_of : Status → ℕ
@@ -63,9 +55,7 @@ order_of Finished = 4
 
 taken_order : (phase : Phase) → order_of (taken phase) ≡ order phase
 taken_order Copying = refl
-taken_order Trimming = refl
-taken_order Scraping = refl
-taken_order Retrying = refl
+taken_order _ = refl
 
 takes : (phase : Phase) (t : Status) → taken phase ≡ t → order phase ≡ order_of t
 takes phase t is = sym (taken_order phase) ∙ ap order_of is

@@ -56,9 +56,7 @@ after_last s Retrying = s.retries + 1
 in_are : (s : Setting) (phase : Phase) (number : ℕ)
     → passes_in s phase number ≡ some_in phase number (after_last s phase - number)
 in_are s Copying number = refl
-in_are s Trimming number = refl
-in_are s Scraping number = refl
-in_are s Retrying number = refl
+in_are s _ number = refl
 
 -- passes of one phase follow one another,
 some_follow : (phase : Phase) (number at few : ℕ) → number < at

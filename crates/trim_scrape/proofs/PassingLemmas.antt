@@ -46,9 +46,7 @@ phase_is r i = ap (λ (p : Pass). p.phase) (pass_is r i)
 
 never_copies : (s : Setting) (phase : Phase) (number : ℕ) → IsPassOf s phase number → copies phase ≡ false
 never_copies s Copying number there = absurd there
-never_copies s Trimming number there = refl
-never_copies s Scraping number there = refl
-never_copies s Retrying number there = refl
+never_copies s _ number there = refl
 
 later_is : (r : RunState) → IsInPass r → is_copying r.machine ≡ false
 later_is r i = ap copies (phase_is r i) ∙ never_copies (setting_in r) r.phase r.pass i.there

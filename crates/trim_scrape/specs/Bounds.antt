@@ -23,7 +23,7 @@ narrows Trimming = true
 narrows Scraping = true
 narrows Retrying = false
 
--- it is one of these
+-- the phase of a machine is trimming or scraping
 abbrev pub is_narrowing : Machine → Bool
 is_narrowing m = narrows (pass_of m).phase
 

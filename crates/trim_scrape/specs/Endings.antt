@@ -19,7 +19,7 @@ pub record FailedInPass (pass : Pass) (ms : List Move) (x : ℕ) : Type 0 where
   pub pass_is : pass_of move.before ≡ pass
   pub failed : is_failed move.event.reading ≡ true
 
--- What events leave of a position: it is rescued; or it wasn't trimmed, and trimming is off; or it wasn't scraped, and
+-- What events leave of a position. It is rescued; or it wasn't trimmed, and trimming is off; or it wasn't scraped, and
 -- scraping is off; or it is bad, and failed once more in each pass of retrying that was asked for.
 pub data IsLeftWell (s : Setting) (m : Machine) (events : List Event) (x : ℕ) : Type 0 where
   Rescued : Has (state_after s m events).map Finished x → IsLeftWell s m events x

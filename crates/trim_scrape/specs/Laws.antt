@@ -30,7 +30,7 @@ abbrev pub RunAsksFew : Type 0
 RunAsksFew = (s : Setting) (m : Machine) (phase : Phase) (number : ℕ) (events : List Event) → IsSensible s
     → IsInOrder s m → m.passes ≡ passes_from s phase number → IsRun s m events → AskFew s m events
 
--- A run from its start, or from where a mapfile's copying stood, that has no request left and met no limit, ends well.
+-- A run from its start, or from where a mapfile's copying was, that has no request left and met no limit, ends well.
 abbrev pub RunEndsWell : Type 0
 RunEndsWell = (s : Setting) (map : List Status) (from : Option MapState) (shown : MapState) (time : ℕ)
     (events : List Event) → IsSensible s → IsRun s (machine_of s map from shown time) events

@@ -71,14 +71,16 @@ SinceStartIsWell = (s : Setting) (map : List Status) (from : Option MapState) (s
 -- answers that it is done.
 abbrev pub PhasesEndWell : Type 0
 PhasesEndWell = (s : Setting) (r r' : RunState) (o : Across) (site : SiteState) → setting_in r ≡ nameless s
-    → IsSensible (setting_in r) → IsUnderWay (setting_in r) r.machine → IsTrue o.site.tells → Keeps o.site o.site' → Keeps o.site' site
+    → IsSensible (setting_in r) → IsUnderWay (setting_in r) r.machine → IsTrue o.site.tells → Keeps o.site o.site'
+    → Keeps o.site' site
     → (w : Went r r' o) → IsPast Retrying r' → Closes None r' RunDone o.site' site
     → IsWellEnded s r.machine w.events (disk_of o.site) (disk_of site)
 
 -- So is a whole run that answers so.
 abbrev pub DoneEndsWell : Type 0
 DoneEndsWell = (s : Setting) (r : RunState) (heard : Bool) (o : Across) → setting_in r ≡ nameless s
-    → IsSensible (setting_in r) → IsUnderWay (setting_in r) r.machine → IsTrue o.site.tells → Keeps o.site o.site' → (w : WentToEnd r RunDone heard o)
+    → IsSensible (setting_in r) → IsUnderWay (setting_in r) r.machine → IsTrue o.site.tells → Keeps o.site o.site'
+    → (w : WentToEnd r RunDone heard o)
     → IsWellEnded s r.machine w.events (disk_of o.site) (disk_of o.site')
 
 -- One that stopped, but not at a call on the files, saved its map as it was.
@@ -96,8 +98,8 @@ WholeRunIsHeld = (s : Setting) (start : List ℕ) (reads : List Reading) (r : Ru
     → IsLeftWithin o.site o.site' files → IsHeldIn s start (reads ++ reads_of w.events) files
 
 -- At each stop within a whole run over an open output and a mapfile that are durable, the mapfile found is one that the
--- run saved, in order, or the one that it began with: no older than the last save that had returned, and no newer than
--- the last that had begun to be published. The output found holds what that mapfile's map promises.
+-- run saved, in order, or the one that it began with. It is no older than the last save that had returned, and no newer
+-- than the last that had begun to be published. The output found holds what that mapfile's map promises.
 abbrev pub WholeRunIsKept : Type 0
 WholeRunIsKept = (s : Setting) (began : List Status) (r : RunState) (end : RunEnd) (heard : Bool) (o : Across)
     (files : List ℕ → Option File) → IsMapped s r.machine → setting_in r ≡ nameless s → IsTrue o.site.tells

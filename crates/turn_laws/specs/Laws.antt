@@ -85,7 +85,8 @@ TurnStaysSafe = (s : Setting) (start : List ℕ) (reads : List Reading) (request
 -- At each stop within it what may be found is held.
 abbrev pub TurnIsHeld : Type 0
 TurnIsHeld = (s : Setting) (start : List ℕ) (reads : List Reading) (request : Request) (turn : Turn)
-    (r r' : RunState) (o : Across) (files : List ℕ → Option File) → IsTurnOf s request r o → (t : Turned request turn r r' o)
+    (r r' : RunState) (o : Across) (files : List ℕ → Option File) → IsTurnOf s request r o
+    → (t : Turned request turn r r' o)
     → IsSafe s start reads r.machine (disk_of o.site) → IsLeftWithin o.site o.site' files
     → IsHeldIn s start (reads ++ t.event.reading ∷ []) files
 

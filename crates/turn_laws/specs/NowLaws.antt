@@ -54,7 +54,7 @@ RestIsSafeNow = (s : Setting) (began : List Status) (state : Option MapState) (m
     → AreFinishedAlike began m.map → Rests s d → Stands (d.reads.files s.names.map) s.end began state
     → IsSafeNow s (bytes_of (d.reads.files s.outfile)) [] m d
 
--- It stays so after some events with all their calls,
+-- A run stays safe after some events with all their calls,
 abbrev pub RunStaysSafeNow : Type 0
 RunStaysSafeNow = (s : Setting) (start : List ℕ) (reads : List Reading) (m : Machine) (d : Disk) (es : List Event)
     → IsMapped s m → IsSafeNow s start reads m d → IsRun s m es

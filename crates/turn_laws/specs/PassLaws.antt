@@ -19,7 +19,7 @@ abbrev pub passed_over : RunState → List Pass → RunState
 passed_over r [] = r
 passed_over r (p ∷ ps) = passed_over (passed r p.phase p.number) ps
 
--- it may begin them: each is the next one of a pass that has no request left, as `begin_pass` asks
+-- a run may begin these passes: each is the next one of a pass that has no request left, as `begin_pass` asks
 abbrev pub MayPassOver : RunState → List Pass → Type 0
 MayPassOver r [] = ⊤
 MayPassOver r (p ∷ ps) =
@@ -56,7 +56,7 @@ known_past Trimming = Trimmed
 known_past Scraping = Scraped
 known_past Retrying = Over
 
--- By what its type knows, a run that stands in any pass of copying still may be handed so to trimming, to scraping or to
+-- By what its type knows, a run that is in any pass of copying still may be handed so to trimming, to scraping or to
 -- retrying.
 abbrev pub TypedLeadsPast : Type 0
 TypedLeadsPast = (r : RunState) (phase : Phase) → phase ≢ Retrying → IsSensible (setting_in r)

@@ -38,7 +38,7 @@ PhaseIsHeld = (s : Setting) (start : List ℕ) (reads : List Reading) (r r' : Ru
     → (w : Went r r' o) → IsSafe s start reads r.machine (disk_of o.site) → IsLeftWithin o.site o.site' files
     → IsHeldIn s start (reads ++ reads_of w.events) files
 
--- it stopped at a call on the files, after which no other is made
+-- a run stopped at a call on the files, after which no other is made
 abbrev pub is_at_call : Stop → Bool
 is_at_call SourceLost = false
 is_at_call (Site call) = true

@@ -32,7 +32,7 @@ pub record IsHeldIn (s : Setting) (start : List ℕ) (reads : List Reading) (fil
   pub has : HasMap s (files s.names.map) map
   pub held : Held s reads start map (bytes_of (files s.outfile))
 
--- However a run goes on from a state over a disk, whatever its last save shows of the map that it has come to, and at
+-- However a run continues from a state over a disk, whatever its last save shows of the map that it has come to, and at
 -- whatever moment it is stopped then: what is found is held.
 pub record IsSafe (s : Setting) (start : List ℕ) (reads : List Reading) (m : Machine) (d : Disk) : Type 0 where
   pub each : (es : List Event) (last : Snapshot) (calls : List Entry) (k : ℕ) (files : List ℕ → Option File)

@@ -30,7 +30,12 @@ pub record IsSafeNow (s : Setting) (start : List ℕ) (reads : List Reading) (m 
   pub synced : File
   pub loose : List (ℕ × ℕ)
   pub shows : d.shows s.outfile
-      ≡ record { durable = record { file = Some synced; loose = loose }; since = []; any_text = false; anything = false }
+      ≡ record {
+        durable = record { file = Some synced; loose = loose };
+        since = [];
+        any_text = false;
+        anything = false;
+      }
   pub now : File
   pub reads_as : d.reads.files s.outfile ≡ Some now
   pub longer : length start ≤ length now.bytes

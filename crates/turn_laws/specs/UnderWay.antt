@@ -11,8 +11,8 @@ use Rattle.rescue_rules.specs.Step.{Event, is_trimming}
 use Rattle.rescue_rules.specs.Moves.{moves, state_after}
 use Rattle.trim_scrape.specs.Endings.{FailedInPass}
 
--- A pass still comes to a position: it is the present one and the position lies ahead (in trimming each does, since that
--- goes back to the map's start), or it is a later one.
+-- A pass still comes to a position: it is the present one and the position lies ahead (in trimming each does, since
+-- that goes back to the map's start), or it is a later one.
 pub data StillComes (s : Setting) (m : Machine) (p : Pass) (x : ℕ) : Type 0 where
   Now : (ps : List Pass) → m.passes ≡ p ∷ ps → (is_trimming m ≡ false → is_ahead (search_of s m) x ≡ true)
       → StillComes s m p x
@@ -22,8 +22,8 @@ pub data StillComes (s : Setting) (m : Machine) (p : Pass) (x : ℕ) : Type 0 wh
 abbrev pub IsToCome : Setting → Machine → Pass → Type 0
 IsToCome s m p = (x : ℕ) → is_live s m x ≡ true → Has m.map (taken p.phase) x → StillComes s m p x
 
--- A run is under way: its mode fits, and its passes are those after some of a run's; what is non-tried, copying's last
--- pass still comes to, and so do trimming and scraping to what is left for them, unless they are off.
+-- A run is under way: its mode fits, and its passes are those after some of a run's. Copying's last pass still comes to
+-- what is non-tried, and trimming and scraping to what is left for them, unless they are off.
 pub record IsUnderWay (s : Setting) (m : Machine) : Type 0 where
   pub order : IsInOrder s m
   pub first : ℕ
@@ -33,8 +33,9 @@ pub record IsUnderWay (s : Setting) (m : Machine) : Type 0 where
   pub trimmed : s.trims ≡ true → IsToCome s m (numbered Trimming 1)
   pub scraped : s.scrapes ≡ true → IsToCome s m (numbered Scraping 1)
 
--- What events leave of a position, from a state on: it is rescued; or it wasn't trimmed, and trimming is off; or it
--- wasn't scraped, and scraping is off; or it is bad, and failed once more in each pass of retrying that still came to it.
+-- What events leave of a position, from a state on. It is rescued; or it wasn't trimmed, and trimming is off; or it
+-- wasn't scraped, and scraping is off; or it is bad, and failed once more in each pass of retrying that still came to
+-- it.
 pub data IsLeftWellSince (s : Setting) (m : Machine) (events : List Event) (x : ℕ) : Type 0 where
   Rescued : Has (state_after s m events).map Finished x → IsLeftWellSince s m events x
   Untrimmed : s.trims ≡ false → Has (state_after s m events).map NonTrimmed x → IsLeftWellSince s m events x

@@ -30,12 +30,12 @@ pub fn a_turn_stays_safe()
     ensures { TurnStaysSafe }
 {}
 
-/// At each stop within it what is held is held.
+/// At each stop within a turn what is held is held.
 pub fn a_turn_is_held()
     ensures { TurnIsHeld }
 {}
 
-/// So it is within a turn that stopped.
+/// At each stop within a turn that stopped what is held is held.
 pub fn a_halted_turn_is_held()
     ensures { HaltedTurnIsHeld }
 {}
@@ -75,7 +75,7 @@ pub fn a_close_is_held()
     ensures { CloseIsHeld }
 {}
 
-/// A run whose files stand as `IsSafeNow` says is safe however it goes on.
+/// A run whose files are as `IsSafeNow` says is safe however it goes on.
 pub fn what_is_safe_now_is_safe()
     ensures { NowIsSafe }
 {}
@@ -120,12 +120,12 @@ pub fn a_start_is_under_way()
     ensures { StartIsUnderWay }
 {}
 
-/// It stays so, whatever it reads.
+/// A run that is under way stays under way, whatever it reads.
 pub fn a_run_stays_under_way()
     ensures { RunStaysUnderWay }
 {}
 
-/// So is one at the start of its next pass, where the present one has no request.
+/// A run at the start of its next pass is under way, if the present pass has no request.
 pub fn a_next_pass_is_under_way()
     ensures { NextPassIsUnderWay }
 {}
@@ -147,7 +147,7 @@ pub fn phases_end_well()
     ensures { PhasesEndWell }
 {}
 
-/// So does a whole run that answers that it is done.
+/// A whole run that answers that it is done leaves no request, each position left well, and the last map saved.
 pub fn a_done_run_ends_well()
     ensures { DoneEndsWell }
 {}
@@ -162,8 +162,8 @@ pub fn a_whole_run_is_held()
     ensures { WholeRunIsHeld }
 {}
 
-/// The mapfile found then is one that the run saved, or the one that it began with, and it is no older than the last save
-/// that returned.
+/// The mapfile found then is one that the run saved, or the one that it began with, and it is no older than the last
+/// save that returned.
 pub fn a_whole_run_is_kept()
     ensures { WholeRunIsKept }
 {}
@@ -173,7 +173,7 @@ pub fn spent_passes_lead_past()
     ensures { SpentLeadsPast }
 {}
 
-/// By what its type knows, a run that stands in copying still may be handed so to the phase that takes its type.
+/// By what its type knows, a run that is in copying still may be handed so to the phase that takes its type.
 pub fn a_typed_run_leads_past()
     ensures { TypedLeadsPast }
 {}

@@ -52,18 +52,13 @@ pub data Came {E : Type 0} (f : Faults E) (steps : List (WorkStep E)) (run : E �
 
 -- after one more row
 called_later : {E : Type 0} (s : WorkStep E) (more : List (WorkStep E)) (call : SiteCall) → IsCalled call more → IsCalled call (s ∷ more)
-called_later Take more call called = called
-called_later (Look refuses) more call called = called
-called_later (Open name) more call called = called
 called_later (Make calls) more call called = inr called
 called_later (Read name file) more call called = inr called
+called_later _ more call called = called
 
 refused_later : {E : Type 0} (s : WorkStep E) (more : List (WorkStep E)) (e : E) → IsRefused more e → IsRefused (s ∷ more) e
-refused_later Take more e refused = refused
 refused_later (Look refuses) more e refused = inr refused
-refused_later (Open name) more e refused = refused
-refused_later (Make calls) more e refused = refused
-refused_later (Read name file) more e refused = refused
+refused_later _ more e refused = refused
 
 stops_later : {E : Type 0} (f : Faults E) (s : WorkStep E) (more : List (WorkStep E)) (e : E) → Stops f more e → Stops f (s ∷ more) e
 stops_later f s more e (Starved is) = Starved is

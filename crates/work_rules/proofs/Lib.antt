@@ -7,3 +7,5 @@ pub mod LoadLemmas
 pub mod PartLemmas
 pub mod VerdictLemmas
 pub mod BarrierLemmas
+pub mod SavedLemmas
+pub mod SpareLemmas

@@ -20,10 +20,10 @@ use Rattle.work_rules.proofs.GainLemmas.{GainsBroken, broke_gains, broke_past}
 
 -- ---- there is a load of each file
 
-pub ones_sum : (n : ℕ) → sum (replicate n 1) ≡ n
+ones_sum : (n : ℕ) → sum (replicate n 1) ≡ n
 ones_sum n = let e : sum (replicate n 1) ≡ n * 1 = sum_by-replicate (λ (x : ℕ). x) n 1 in omega (arith, e)
 
-pub one_is_piece : IsReadSize 1
+one_is_piece : IsReadSize 1
 one_is_piece = (omega arith, omega arith)
 
 -- the first reads of a file that gave this many bytes, one by one, and the read after them
@@ -90,10 +90,10 @@ load_of name (Some f) =
     ]
 
 -- the first read of a file, without an answer
-abbrev first_read : List ℕ → List Call
+abbrev pub first_read : List ℕ → List Call
 first_read name = load_reads name [] None
 
-begins_first : (name : List ℕ) (file : Option File) → BeginsLoad name file (first_read name)
+pub begins_first : (name : List ℕ) (file : Option File) → BeginsLoad name file (first_read name)
 begins_first name file = record {
   given = [];
   answer = None;

@@ -57,6 +57,19 @@ through_then f (Read (Some name) file ∷ rows) more run e calls d t w =
       through_then f rows more run e t.1 d t.4 w,
     ))
 
+-- rows that the work went through, one after another
+pub through_both : {E : Type 0} (rows more : List (WorkStep E)) (calls later : List Entry) → WentThrough rows calls
+    → WentThrough more later → WentThrough (rows ++ more) (calls ++ later)
+through_both [] more calls later t u = subst (λ c. WentThrough more (c ++ later)) (sym t) u
+through_both (Take ∷ rows) more calls later t u = through_both rows more calls later t u
+through_both (Look refuses ∷ rows) more calls later t u = (t.0, through_both rows more calls later t.1 u)
+through_both (Open name ∷ rows) more calls later t u = absurd t
+through_both (Make made ∷ rows) more calls later t u =
+    (t.0 ++ later, grown calls t.0 later (map Returned made) t.1, through_both rows more t.0 later t.2 u)
+through_both (Read None file ∷ rows) more calls later t u = (t.0, through_both rows more calls later t.1 u)
+through_both (Read (Some name) file ∷ rows) more calls later t u =
+    (t.0, t.1 ++ later, t.2, grown calls t.1 later (map Returned t.0) t.3, through_both rows more t.1 later t.4 u)
+
 -- work after which another run may come as well
 pub works_as : {E : Type 0} (f : Faults E) (rows : List (WorkStep E)) (run other : E → Deeds → Type 0)
     → ((e : E) (d : Deeds) → run e d → other e d) → (e : E) (d : Deeds) → Works f rows run e d → Works f rows other e d

@@ -1,4 +1,5 @@
 pub mod Work
 pub mod Verdicts
 pub mod Parts
+pub mod Opens
 pub mod Holds

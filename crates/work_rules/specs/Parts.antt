@@ -14,7 +14,7 @@ only_calls calls = record { opens = []; gain = record { calls = calls; reads = [
 abbrev pub StoppedIn : {E : Type 0} → Faults E → List (WorkStep E) → E → List Entry → Type 0
 StoppedIn {E} f rows e calls = Works f rows (λ v d. ⊥) e (only_calls calls)
 
--- it went through all of them, by these calls
+-- the work went through all of these rows, by these calls
 abbrev pub WentThrough : {E : Type 0} → List (WorkStep E) → List Entry → Type 0
 WentThrough [] calls = calls ≡ []
 WentThrough (Take ∷ more) calls = WentThrough more calls

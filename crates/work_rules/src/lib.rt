@@ -1,3 +1,3 @@
 //! Work in steps, as data, whatever it is for and however it answers: what was done, in order, and how it may be
-//! answered. The definitions stand in specs/, and are cited by the crates above.
+//! answered. The definitions are in specs/, and the crates above cite them.
 #![tactic(auto)]

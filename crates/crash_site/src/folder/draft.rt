@@ -21,7 +21,7 @@ pub(super) struct OpenDraft {
 }
 
 impl OpenDraft {
-    /// Makes a new file. What stood under its name loses that name; a folder keeps it.
+    /// Makes a new file. A file that had its name loses that name; a folder keeps it.
     pub fn begin(rt: &HostRuntime, apart: &Apart<'_>, name: &str) -> io::Result<OpenDraft> {
         if let Some(found) = if_there(fs::symlink_metadata(rt, name))? {
             apart.check(&found)?;
@@ -46,8 +46,8 @@ impl OpenDraft {
         self.file.sync_all()
     }
 
-    /// Renames the draft, if it still has its name. The mode and the owner of a mapfile that is there go over to it; what
-    /// is no regular file, as a device, keeps its name.
+    /// Renames the draft, if it still has its name. The mode and the owner of a mapfile that is there go over to it;
+    /// what is no regular file, as a device, keeps its name.
     pub fn publish(self, rt: &HostRuntime, apart: &Apart<'_>, name: &str) -> io::Result<()> {
         if let Some(found) = find_map(rt, apart, name)? {
             keep_rights(&self.file, &found);

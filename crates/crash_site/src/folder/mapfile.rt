@@ -17,7 +17,7 @@ pub(super) struct OpenMap {
     name: String,
 }
 
-/// What stands under a mapfile's name. What is no regular file is an error, since a pipe would wait for its writer, and
+/// The file that has a mapfile's name. What is no regular file is an error, since a pipe would wait for its writer, and
 /// a draft would take a device's place; so is a file that is to stay apart.
 pub(super) fn find_map(
     rt: &HostRuntime,

@@ -40,7 +40,7 @@ fn settle_reached(rt: &HostRuntime, name: &str) -> io::Result<()> {
     file.sync_all()
 }
 
-/// Whether a draft could be made beside a mapfile, and take its place. Nothing that stands there is lost.
+/// Whether a draft could be made beside a mapfile, and take its place. No file that is there is lost.
 fn ask_for_saves(rt: &HostRuntime, apart: &Apart<'_>, name: &str) -> io::Result<()> {
     let draft = format!(in rt.alloc(); "{name}.tmp")?;
     match if_there(fs::symlink_metadata(rt, draft.as_str()))? {
@@ -59,7 +59,7 @@ fn ask_for_saves(rt: &HostRuntime, apart: &Apart<'_>, name: &str) -> io::Result<
     Ok(())
 }
 
-/// Whether what stands under a name could be removed. The kernel looks at the rights first and then refuses to remove
+/// Whether the file that has a name could be removed. The kernel looks at the rights first and then refuses to remove
 /// as a folder what is none.
 fn ask_for_removal(rt: &HostRuntime, name: &str) -> io::Result<()> {
     if fs::symlink_metadata(rt, name)?.is_dir() {

@@ -135,7 +135,7 @@ impl MemoryFolder {
         }
     }
 
-    /// Takes away what stands under a name.
+    /// Takes away the file that has a name.
     pub(crate) fn remove(&mut self, name: &[u8])
         ensures { folder_of self.new ≡ after_done (folder_of self.old) (map_remove name.now) }
     {
@@ -151,7 +151,7 @@ impl MemoryFolder {
         }
     }
 
-    /// A copy of what stands under a name.
+    /// A copy of the file that has a name.
     pub(crate) fn copy_file(&self, name: &[u8]) -> Result<Option<MemoryFile>, AllocError>
         ensures { IfOk result (λ copied. file_of copied ≡ (folder_of self.now).files name.now) }
     {
@@ -245,7 +245,7 @@ impl MemoryFolder {
         Ok(())
     }
 
-    /// Moves what stands under one name to another.
+    /// Moves the file that has one name to another.
     pub(crate) fn rename(&mut self, from: &[u8], to: &[u8]) -> Result<(), AllocError>
         ensures files { OnOk result ((folder_of self.new).files
             ≡ put (put (folder_of self.old).files from.now None) to.now

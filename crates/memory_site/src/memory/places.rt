@@ -16,7 +16,7 @@ pub(crate) struct MemoryFile {
     pub(crate) regular: bool,
 }
 
-/// A name, and what stands there if anything does.
+/// A name, and the file that has it, if there is one.
 #[derive(Drop)]
 pub(crate) struct NamedFile {
     pub(crate) name: Vec<u8>,
@@ -164,7 +164,7 @@ fn find(places: &[NamedFile], name: &[u8]) -> Option<usize>
 }
 
 #[tactic(auto, using(crate::proofs::PlaceLemmas::place_lemmas))]
-/// What stands under a name.
+/// The file that has a name.
 pub(crate) fn file_at<'a>(places: &'a [NamedFile], name: &[u8]) -> Option<&'a MemoryFile>
     ensures { MatchOption result (files_of places.now name.now ≡ None)
         (λ file. files_of places.now name.now ≡ Some
@@ -194,7 +194,7 @@ pub(crate) fn place_of(
 }
 
 #[tactic(auto, using(crate::proofs::PlaceLemmas::place_lemmas))]
-/// Takes away what stands under a name.
+/// Takes away the file that has a name.
 pub(crate) fn take_file(places: &mut Vec<NamedFile>, name: &[u8]) -> Option<MemoryFile>
     ensures value { file_of result ≡ files_of places.old.items name.now }
     ensures files { files_of places.new.items ≡ put (files_of places.old.items) name.now None }

@@ -22,11 +22,12 @@ pub enum Left {
     Oldest,
     /// All of it, also of the call in progress.
     Newest,
-    /// The same with other bytes, in ranges that weren't synced and in texts that were published unsynced.
+    /// All of it, also of the call in progress, but with other bytes in ranges that weren't synced and in texts that
+    /// were published unsynced.
     Garbage,
 }
 
-/// The byte that stands where any may.
+/// The byte that is found where any may be.
 const ANY: u8 = 0x5A;
 
 /// An absent file is made.

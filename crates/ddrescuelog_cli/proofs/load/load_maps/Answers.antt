@@ -42,7 +42,7 @@ returns-in_err-domain_map-clause-maps g c =
     (g.D.Site.state c.args.site.now) (g.D.Site.state c.read_map.new.site) (g.D.Site.state c.read_named.new.site)
     (g.D.Site.state c.read_named-2.new.site) (rw c.mode_of_mapfile-mode.ensures at c.in_ok-map.ensures.read)
     c.in_ok-map.ensures.site c.in_ok-other.ensures.read c.in_ok-other.ensures.site
-    (rw c.mode_of_domain-mode.ensures at c.in_err-domain_map.ensures.read))
+    (rw c.mode_of-mode.ensures at c.in_err-domain_map.ensures.read))
 
 pub returns-clause-maps : goal.returns-clause-maps
 returns-clause-maps g c =
@@ -51,5 +51,5 @@ returns-clause-maps g c =
     (g.D.Site.state c.read_named.new.site) (g.D.Site.state c.read_named-2.new.site) c.requires
     (rw c.mode_of_mapfile-mode.ensures at c.in_ok-map.ensures.read) c.in_ok-map.ensures.site
     c.in_ok-other.ensures.read c.in_ok-other.ensures.site
-    (rw c.mode_of_domain-mode.ensures at c.in_ok-domain_map.ensures.read) c.make_loaded.ensures.loaded
+    (rw c.mode_of-mode.ensures at c.in_ok-domain_map.ensures.read) c.make_loaded.ensures.loaded
     c.make_loaded.ensures.starved
