@@ -33,7 +33,7 @@ impl Summary {
     }
 }
 
-/// How much of one status was counted up to a position, and whether the position in front of that was counted.
+/// How much of one status was counted before a position, and whether the position right before it was counted.
 #[derive(Clone, Copy)]
 struct Line {
     count: Count,
