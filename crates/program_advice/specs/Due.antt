@@ -263,26 +263,30 @@ abbrev pub late_mapfile : Facts → Option Advice
 late_mapfile f = if_so (is_rescue f.work) (if_so (is_new f.map) (if_known (length_of f.infile) (λ n.
     if_so (nat_le 1_073_741_824 (asked_end f n - f.input_position)) (Some LateMapfile))))
 
+-- when an advice of its kind is due, and with which numbers
+abbrev pub of_kind : Advice → Facts → Option Advice
+of_kind (OutfileShort _ _) = outfile_short
+of_kind (MapPastInfile _ _) = map_past_infile
+of_kind EmptyInfile = empty_infile
+of_kind (BeginsPastInfile _) = begins_past_infile
+of_kind NothingAsked = nothing_asked
+of_kind NothingListed = nothing_listed
+of_kind (NewMapfile _) = new_mapfile
+of_kind LinkedMapfile = linked_mapfile
+of_kind UnsafeMapfile = unsafe_mapfile
+of_kind NewOutfile = new_outfile
+of_kind NothingToFill = nothing_to_fill
+of_kind (LongPattern _ _) = long_pattern
+of_kind (OtherSector _ _) = other_sector
+of_kind MountedInfile = mounted_infile
+of_kind MountedOutfile = mounted_outfile
+of_kind (LongPlan _ _) = long_plan
+of_kind NothingToCompare = nothing_to_compare
+of_kind LateMapfile = late_mapfile
+
 -- an advice is due
 abbrev pub IsDue : Facts → Advice → Type 0
-IsDue f (OutfileShort n e) = outfile_short f ≡ Some (OutfileShort n e)
-IsDue f (MapPastInfile e n) = map_past_infile f ≡ Some (MapPastInfile e n)
-IsDue f EmptyInfile = empty_infile f ≡ Some EmptyInfile
-IsDue f (BeginsPastInfile n) = begins_past_infile f ≡ Some (BeginsPastInfile n)
-IsDue f NothingAsked = nothing_asked f ≡ Some NothingAsked
-IsDue f NothingListed = nothing_listed f ≡ Some NothingListed
-IsDue f (NewMapfile n) = new_mapfile f ≡ Some (NewMapfile n)
-IsDue f LinkedMapfile = linked_mapfile f ≡ Some LinkedMapfile
-IsDue f UnsafeMapfile = unsafe_mapfile f ≡ Some UnsafeMapfile
-IsDue f NewOutfile = new_outfile f ≡ Some NewOutfile
-IsDue f NothingToFill = nothing_to_fill f ≡ Some NothingToFill
-IsDue f (LongPattern n c) = long_pattern f ≡ Some (LongPattern n c)
-IsDue f (OtherSector n b) = other_sector f ≡ Some (OtherSector n b)
-IsDue f MountedInfile = mounted_infile f ≡ Some MountedInfile
-IsDue f MountedOutfile = mounted_outfile f ≡ Some MountedOutfile
-IsDue f (LongPlan e n) = long_plan f ≡ Some (LongPlan e n)
-IsDue f NothingToCompare = nothing_to_compare f ≡ Some NothingToCompare
-IsDue f LateMapfile = late_mapfile f ≡ Some LateMapfile
+IsDue f advice = of_kind advice f ≡ Some advice
 
 -- ---- the list
 
@@ -306,6 +310,19 @@ rank MountedOutfile = 14
 rank (LongPlan _ _) = 15
 rank NothingToCompare = 16
 rank LateMapfile = 17
+
+-- the kinds in the order of the enum, each as it is due
+abbrev pub kinds : Facts → List (Option Advice)
+kinds f = outfile_short f ∷ map_past_infile f ∷ empty_infile f ∷ begins_past_infile f ∷ nothing_asked f
+    ∷ nothing_listed f ∷ new_mapfile f ∷ linked_mapfile f ∷ unsafe_mapfile f ∷ new_outfile f ∷ nothing_to_fill f
+    ∷ long_pattern f ∷ other_sector f ∷ mounted_infile f ∷ mounted_outfile f ∷ long_plan f ∷ nothing_to_compare f
+    ∷ late_mapfile f ∷ []
+
+-- those that are due
+abbrev pub somes : List (Option Advice) → List Advice
+somes [] = []
+somes (Some a ∷ rest) = a ∷ somes rest
+somes (None ∷ rest) = somes rest
 
 -- advices stand in the order of the enum, each once at most, none of them before a place
 abbrev pub Ascends : ℕ → List Advice → Type 0
