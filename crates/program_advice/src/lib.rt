@@ -5,6 +5,7 @@
 pub mod advice;
 pub mod cause;
 pub mod facts;
+pub mod left;
 pub mod line;
 pub mod look;
 mod mounts;

@@ -1,11 +1,13 @@
 //! The line that names a cause.
 ghost use Rattle.std.specs.Prelude.{◌≡◌, ◌+◌, ◌≤◌, ◌++◌, [], ◌∷◌, length, map, codes};
+ghost use Rattle.std.specs.Fmt.{decimal};
 ghost use Rattle.arrayvec.specs.ArrayVec.{array_vec_len};
-ghost use Rattle.program_advice.specs.Lines.{IsOneLine, cause_text, cut, line_text, named_text, quoted, resuming_text, room_text, shown_byte, unsaved_text};
+ghost use Rattle.program_advice.specs.Lines.{IsOneLine, cause_text, cut, left_text, line_text, named_text, quoted, resuming_text, room_text, shown_byte, unsaved_text};
 
 use crate::cause::{Cause, Named};
 use crate::texts::{doing_text, fact_text, hint_text, option_text, role_text, stream_text};
 use arrayvec::ArrayVec;
+use itoa::Buffer;
 
 /// A line on standard error.
 pub type Line = ArrayVec<u8, 512>;
@@ -89,6 +91,26 @@ fn add_unsaved(line: &mut Line, name: &str, reason: &str)
     add_cut(line, reason, 60);
 }
 
+/// Adds what is said of bytes that a run left.
+fn add_left(line: &mut Line, bytes: u64, skips: bool)
+    requires { array_vec_len line.old ≤ 20 }
+    ensures text { line.new.items ≡ line.old.items ++ (decimal bytes ++ left_text skips) }
+    ensures len { array_vec_len line.new ≤ array_vec_len line.old + 110 }
+{
+    add(line, Buffer::new().format(bytes));
+    if skips {
+        add(
+            line,
+            " B weren't read; without -n and -N the same command goes on with them",
+        );
+    } else {
+        add(
+            line,
+            " B weren't read; with option -r 3 the same command tries the bad sectors again",
+        );
+    }
+}
+
 /// Adds what is said of a cause.
 fn add_cause(line: &mut Line, cause: Cause<'_>)
     requires { array_vec_len line.old ≤ 20 }
@@ -145,6 +167,7 @@ fn add_cause(line: &mut Line, cause: Cause<'_>)
             add(line, "usage: ");
             add_cut(line, usage, 150);
         }
+        Cause::Left { bytes, skips } => add_left(line, bytes, skips),
         Cause::Hint(hint) => add(line, hint_text(hint)),
     }
 }

@@ -6,10 +6,11 @@ use crate::facts::{Finished, MapText};
 use block_list::status::Status;
 use block_list::tiles::Tiles;
 use mapfile_text::read::{MapError, Mode, ReadMap, TEXT_LIMIT, read_map};
-use real_files::file_cursor::{FileCursor, read_full};
+use real_files::file_cursor::read_full;
 use real_files::outcome::if_there;
 use std::alloc::Global;
 use std::fs::{self, File};
+use std::io::{Seek, SeekFrom};
 
 /// How many bytes are read at a time.
 const PIECE: usize = 65536;
@@ -115,11 +116,12 @@ impl Tail {
     }
 
     /// Reads the piece in front of what was read. None if it can't be read, or is no map's.
-    fn read_piece(&mut self, alloc: Global, file: &File, room: &mut [u8]) -> Option<Step> {
+    fn read_piece(&mut self, alloc: Global, file: &mut File, room: &mut [u8]) -> Option<Step> {
         let count = self.from.min(room.len() as u64) as usize;
         let start = self.from - count as u64;
         let piece = &mut room[..count];
-        let got = read_full(&mut FileCursor::new(file, start), piece).ok()?;
+        file.seek(SeekFrom::Start(start)).ok()?;
+        let got = read_full(file, piece).ok()?;
         if got < count {
             return None;
         }
@@ -136,7 +138,7 @@ impl Tail {
 }
 
 /// What a mapfile of so many bytes says, if it is a map as far as it is read.
-fn read_tail(alloc: Global, file: &File, length: u64) -> Option<MapText> {
+fn read_tail(alloc: Global, mut file: File, length: u64) -> Option<MapText> {
     let mut room = vec![in alloc; 0; PIECE].ok()?;
     let mut tail = Tail {
         from: length,
@@ -144,7 +146,7 @@ fn read_tail(alloc: Global, file: &File, length: u64) -> Option<MapText> {
         end: None,
     };
     for _ in 0..PIECES {
-        if let Step::Known(text) = tail.read_piece(alloc, file, &mut room)? {
+        if let Step::Known(text) = tail.read_piece(alloc, &mut file, &mut room)? {
             return Some(text);
         }
     }
@@ -165,5 +167,5 @@ pub fn look_at_map(rt: &HostRuntime, name: &str) -> Option<MapText> {
         return None;
     }
     let file = File::open(rt, name).ok()?;
-    read_tail(rt.alloc(), &file, found.len())
+    read_tail(rt.alloc(), file, found.len())
 }
