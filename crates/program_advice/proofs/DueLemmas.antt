@@ -153,7 +153,7 @@ long_plan_only : (f : Facts) → Only (IsOf f 15 (long_plan f)) (long_plan f)
 long_plan_only f =
     let P = IsOf f 15 (long_plan f) in
     so P (is_plan f.work) _ (so P f.scrapes _ (so P (nat_lt 0 f.sector) _ (of P (length_of f.infile) _ (λ n.
-    of P (end_of f.map) _ (λ e. so P (nat_le 1_000_000 (sectors_past f n e)) _ (
+    of P (end_of f.map) _ (λ e. so P (nat_le 10_000_000 (sectors_past f n e)) _ (
     one P (LongPlan e (sectors_past f n e)) (refl, refl)))))))
 
 nothing_to_compare_only : (f : Facts) → Only (IsOf f 16 (nothing_to_compare f)) (nothing_to_compare f)

@@ -247,11 +247,11 @@ mounted_outfile f = if_so (saves f.work) (if_so (is_mounted (mount_of f.outfile)
 abbrev pub sectors_past : Facts → (length end : ℕ) → ℕ
 sectors_past f length end = (asked_end f length - max end f.input_position) / f.sector
 
--- a plan that reads each bad sector by itself has a million of them or more past the end of its test map
+-- a plan that reads each bad sector by itself has ten million of them or more past the end of its test map
 abbrev pub long_plan : Facts → Option Advice
 long_plan f = if_so (is_plan f.work) (if_so f.scrapes (if_so (nat_lt 0 f.sector)
     (if_known (length_of f.infile) (λ n. if_known (end_of f.map) (λ e.
-    if_so (nat_le 1_000_000 (sectors_past f n e)) (Some (LongPlan e (sectors_past f n e))))))))
+    if_so (nat_le 10_000_000 (sectors_past f n e)) (Some (LongPlan e (sectors_past f n e))))))))
 
 -- nothing is finished that could be compared
 abbrev pub nothing_to_compare : Facts → Option Advice

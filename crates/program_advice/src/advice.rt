@@ -59,7 +59,7 @@ pub enum Advice {
 pub type Advices = ArrayVec<Advice, 18>;
 
 /// The least number of reads past a test map's end of which a plan warns.
-const MANY_READS: u64 = 1_000_000;
+const MANY_READS: u64 = 10_000_000;
 
 /// The least number of bytes that aren't taken to be rescued before the first save.
 const MANY_BYTES: u64 = 1_073_741_824;
