@@ -169,10 +169,49 @@ late_mapfile_only f =
     so P (nat_le 1_073_741_824 (asked_end f n - f.input_position)) _ (one P LateMapfile (refl, refl)))))
 
 are_kinds : (f : Facts) → AreKinds f 0 (kinds f)
-are_kinds f = (outfile_short_only f, (map_past_infile_only f, (empty_infile_only f, (begins_past_infile_only f,
-    (nothing_asked_only f, (nothing_listed_only f, (new_mapfile_only f, (linked_mapfile_only f, (unsafe_mapfile_only f,
-    (new_outfile_only f, (nothing_to_fill_only f, (long_pattern_only f, (other_sector_only f, (mounted_infile_only f,
-    (mounted_outfile_only f, (long_plan_only f, (nothing_to_compare_only f, (late_mapfile_only f, tt))))))))))))))))))
+are_kinds f = (
+  outfile_short_only f,
+  (
+    map_past_infile_only f,
+    (
+      empty_infile_only f,
+      (
+        begins_past_infile_only f,
+        (
+          nothing_asked_only f,
+          (
+            nothing_listed_only f,
+            (
+              new_mapfile_only f,
+              (
+                linked_mapfile_only f,
+                (
+                  unsafe_mapfile_only f,
+                  (
+                    new_outfile_only f,
+                    (
+                      nothing_to_fill_only f,
+                      (
+                        long_pattern_only f,
+                        (
+                          other_sector_only f,
+                          (
+                            mounted_infile_only f,
+                            (mounted_outfile_only f, (long_plan_only f, (nothing_to_compare_only f, (late_mapfile_only f, tt)))),
+                          ),
+                        ),
+                      ),
+                    ),
+                  ),
+                ),
+              ),
+            ),
+          ),
+        ),
+      ),
+    ),
+  ),
+)
 
 each_said : (f : Facts) (a : Advice) → IsDue f a → Contains (somes (kinds f)) a
 each_said f (OutfileShort n e) h = contained 0 (kinds f) (OutfileShort n e) h
