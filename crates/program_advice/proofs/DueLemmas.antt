@@ -165,8 +165,9 @@ nothing_to_compare_only f =
 late_mapfile_only : (f : Facts) → Only (IsOf f 17 (late_mapfile f)) (late_mapfile f)
 late_mapfile_only f =
     let P = IsOf f 17 (late_mapfile f) in
-    so P (is_rescue f.work) _ (so P (is_new f.map) _ (of P (length_of f.infile) _ (λ n.
-    so P (nat_le 1_073_741_824 (asked_end f n - f.input_position)) _ (one P LateMapfile (refl, refl)))))
+    so P (is_rescue f.work) _ (so P (is_new f.map) _ (so P (not f.complete_only) _ (so P (not f.domain_map) _ (
+    of P (length_of f.infile) _ (λ n. so P (nat_le 1_073_741_824 (asked_end f n - f.input_position)) _ (
+    one P LateMapfile (refl, refl)))))))
 
 are_kinds : (f : Facts) → AreKinds f 0 (kinds f)
 are_kinds f = (

@@ -258,10 +258,11 @@ abbrev pub nothing_to_compare : Facts → Option Advice
 nothing_to_compare f = if_so (is_comparison f.work) (if_so (finishes_nothing f.input_position f.map)
     (Some NothingToCompare))
 
--- a rescue's mapfile is absent, and a GiB or more is asked for
+-- a rescue's mapfile is absent, and a GiB or more is asked for, whatever other maps say
 abbrev pub late_mapfile : Facts → Option Advice
-late_mapfile f = if_so (is_rescue f.work) (if_so (is_new f.map) (if_known (length_of f.infile) (λ n.
-    if_so (nat_le 1_073_741_824 (asked_end f n - f.input_position)) (Some LateMapfile))))
+late_mapfile f = if_so (is_rescue f.work) (if_so (is_new f.map) (if_so (not f.complete_only) (if_so (not f.domain_map)
+    (if_known (length_of f.infile) (λ n.
+    if_so (nat_le 1_073_741_824 (asked_end f n - f.input_position)) (Some LateMapfile))))))
 
 -- when an advice of its kind is due, and with which numbers
 abbrev pub of_kind : Advice → Facts → Option Advice

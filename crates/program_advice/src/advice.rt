@@ -464,6 +464,9 @@ fn late_mapfile(facts: &Facts) -> Option<Advice>
     if !is_rescue(facts.work) || !is_new(facts.map) {
         return None;
     }
+    if facts.complete_only || facts.domain_map {
+        return None;
+    }
     let length = length_of(facts.infile)?;
     if asked_end(facts, length).saturating_sub(facts.input_position) < MANY_BYTES {
         return None;
