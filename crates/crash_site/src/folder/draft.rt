@@ -60,16 +60,21 @@ impl OpenDraft {
         held: &Option<HeldMap>,
         name: &str,
     ) -> io::Result<HeldMap> {
+        let OpenDraft {
+            file,
+            name: draft,
+            identity,
+        } = self;
         if let Some(found) = find_map(rt, apart, name)? {
             check_map_free(rt, held, name, &found)?;
-            keep_rights(&self.file, &found);
+            keep_rights(&file, &found);
         }
-        let standing = fs::symlink_metadata(rt, self.name.as_str())?;
-        if Identity::of(&standing) != self.identity {
+        let standing = fs::symlink_metadata(rt, draft.as_str())?;
+        if Identity::of(&standing) != identity {
             return Err(ErrorKind::AlreadyExists.into());
         }
-        fs::rename(rt, self.name.as_str(), name)?;
-        Ok(HeldMap::keep(self.file, self.identity))
+        fs::rename(rt, draft.as_str(), name)?;
+        Ok(HeldMap::keep(file, identity))
     }
 }
 
