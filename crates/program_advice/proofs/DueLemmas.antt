@@ -104,7 +104,7 @@ nothing_listed_only f =
 new_mapfile_only : (f : Facts) → Only (IsOf f 6 (new_mapfile f)) (new_mapfile f)
 new_mapfile_only f =
     let P = IsOf f 6 (new_mapfile f) in
-    so P (is_rescue f.work) _ (so P (is_new f.map) _ (of P (bytes_of f.outfile) _ (λ n. so P (nat_lt 0 n) _ (
+    so P (is_rescue f.work) _ (so P (is_new f.map) _ (of P (bytes_of f.outfile) _ (λ n. so P (nat_lt f.output_position n) _ (
     one P (NewMapfile n) (refl, refl)))))
 
 linked_mapfile_only : (f : Facts) → Only (IsOf f 7 (linked_mapfile f)) (linked_mapfile f)

@@ -204,10 +204,10 @@ nothing_asked f = if_so (saves f.work) (if_known f.size (λ n. if_so (nat_eq n 0
 abbrev pub nothing_listed : Facts → Option Advice
 nothing_listed f = if_so (asks_infile f.work) (if_so f.complete_only (if_so (lists_nothing f.map) (Some NothingListed)))
 
--- a rescue's mapfile is absent, and its outfile has bytes
+-- a rescue's mapfile is absent, and its outfile has bytes from the first place on
 abbrev pub new_mapfile : Facts → Option Advice
 new_mapfile f = if_so (is_rescue f.work) (if_so (is_new f.map) (if_known (bytes_of f.outfile) (λ n.
-    if_so (nat_lt 0 n) (Some (NewMapfile n)))))
+    if_so (nat_lt f.output_position n) (Some (NewMapfile n)))))
 
 -- the mapfile is a link
 abbrev pub linked_mapfile : Facts → Option Advice

@@ -338,7 +338,7 @@ fn new_mapfile(facts: &Facts) -> Option<Advice>
         return None;
     }
     let length = bytes_of(facts.outfile)?;
-    if length == 0 {
+    if length <= facts.output_position {
         return None;
     }
     Some(Advice::NewMapfile { length })
