@@ -1,5 +1,5 @@
 -- What a person is warned of before a run, and when.
-use Rattle.std.specs.Prelude.{ℕ, Bool, true, false, List, [], ◌∷◌, ◌≡◌, ◌+◌, ◌-◌, ◌/◌, ◌≤◌, ⊤, min, max, not, nat_lt, nat_le, nat_eq, Option, Some, None, All, Contains, map}
+use Rattle.std.specs.Prelude.{ℕ, Bool, true, false, List, [], ◌∷◌, ◌≡◌, ◌+◌, ◌-◌, ◌/◌, ◌≤◌, ⊤, min, max, not, nat_lt, nat_le, nat_eq, Option, Some, None, All, Contains}
 use Rattle.program_advice.specs.declared.facts.Work.{Work}
 use Rattle.program_advice.specs.declared.facts.Work.TheVariants.{Rescue, Fill, Generate, Comparison, Plan}
 use Rattle.program_advice.specs.declared.facts.Found.{Found}
