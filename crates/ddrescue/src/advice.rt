@@ -7,6 +7,7 @@ use faulty_source::file::FileSource;
 use option_values::command_error::CommandError;
 use option_words::words::Words;
 use program_advice::cause::{Cause, Doing, Fact, Hint, LimitOption, Named, Role};
+use program_advice::left::left_by;
 use program_advice::line::{Line, line_of};
 use program_advice::reason::reason_text;
 use program_advice::site::{SiteFiles, site_cause};
@@ -96,6 +97,22 @@ fn open_cause<'a>(infile: Named<'a>, source: &FileSource) -> Option<Cause<'a>> {
     })
 }
 
+/// What a rescue that is done left, by its last line, if it left anything.
+fn left_cause<'a>(command: &Command<'a>, last: &[u8]) -> Option<Cause<'a>> {
+    let options = &command.options;
+    if options.fill.is_some() || options.generate {
+        return None;
+    }
+    let bytes = left_by(last)?;
+    if bytes == 0 {
+        return None;
+    }
+    Some(Cause::Left {
+        bytes,
+        skips: options.no_trim || options.no_scrape,
+    })
+}
+
 /// Why a command that was read ended so, if that helps.
 fn cause_of<'a>(
     command: &Command<'a>,
@@ -103,6 +120,7 @@ fn cause_of<'a>(
     ending: Ending,
     source: &FileSource,
     site: &FolderSite,
+    last: &[u8],
 ) -> Option<Cause<'a>> {
     let infile = Named {
         role,
@@ -113,7 +131,8 @@ fn cause_of<'a>(
         name: command.outfile,
     };
     let (file, fact) = match ending {
-        Ending::Done | Ending::Usage(_) | Ending::PatternUnread => return None,
+        Ending::Usage(_) | Ending::PatternUnread => return None,
+        Ending::Done => return left_cause(command, last),
         Ending::SameName { first, second } => {
             return Some(Cause::OneName {
                 first: role_of(first),
@@ -139,13 +158,14 @@ fn cause_of<'a>(
 }
 
 /// The line that an answer's message is followed by. There is none where the arguments ask that nothing be said, and
-/// none of an answer whose message says all.
+/// none of an answer whose message says all. After a rescue that is done it says what that left, by the `last` line.
 pub fn advise(
     alloc: Global,
     words: &Words,
     ending: Ending,
     source: &FileSource,
     site: &FolderSite,
+    last: &[u8],
 ) -> Option<Line> {
     let (command, role) = match read_command(alloc, words) {
         Ok(Task::Rescue(command)) | Ok(Task::Generate(command)) => (command, Role::Infile),
@@ -165,6 +185,6 @@ pub fn advise(
     if command.options.quiet {
         return None;
     }
-    let cause = cause_of(&command, role, ending, source, site)?;
+    let cause = cause_of(&command, role, ending, source, site, last)?;
     Some(line_of(PROGRAM, cause))
 }

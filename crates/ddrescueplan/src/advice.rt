@@ -24,7 +24,7 @@ fn manual() -> Manual {
 }
 
 /// The program's name, which begins its lines.
-const PROGRAM: &str = "ddrescueplan";
+pub(crate) const PROGRAM: &str = "ddrescueplan";
 
 /// Why standard output failed.
 fn put_cause<'a>(put: Option<io::Error>) -> Option<Cause<'a>> {

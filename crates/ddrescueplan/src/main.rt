@@ -11,14 +11,17 @@ use rescue_console::console::{Channel, Console};
 use rescue_console::system::StdConsole;
 use std::io;
 use std::process::ExitCode;
+use warnings::warn;
 
 mod advice;
+mod warnings;
 
 fn run(rt: HostRuntime) -> io::Result<u8> {
     fill_streams(&rt, ClosedStream::Faulty)?;
     let words = collect_words(&rt, "ddrescueplan")?;
     let mut site = FolderSite::new(rt.clone()?);
     let mut console = StdConsole::new(rt.clone()?);
+    warn(&rt, &words, &mut console);
     let ending = ddrescueplan(rt.alloc(), &words, &mut site, &mut console);
     if console.trouble(Channel::Err).is_none() {
         let put = console.trouble(Channel::Out);

@@ -26,7 +26,7 @@ fn manual() -> Manual {
 }
 
 /// The program's name, which begins its lines.
-const PROGRAM: &str = "ddrescueverify";
+pub(crate) const PROGRAM: &str = "ddrescueverify";
 
 /// What a file is called that two operands name.
 fn role_of(operand: Operand) -> Role {

@@ -13,8 +13,10 @@ use rescue_console::console::{Channel, Console};
 use rescue_console::system::StdConsole;
 use std::io;
 use std::process::ExitCode;
+use warnings::warn;
 
 mod advice;
+mod warnings;
 
 /// How many bytes of a file are read ahead at once.
 const ROOM: usize = 65536;
@@ -34,6 +36,7 @@ fn run(rt: HostRuntime) -> io::Result<u8> {
         site.read_ahead_in(room);
     }
     let mut console = StdConsole::new(rt.clone()?);
+    warn(&rt, &words, &mut console);
     let ending = ddrescueverify(rt.alloc(), &words, &mut source, &mut site, &mut console);
     if console.trouble(Channel::Err).is_none() {
         let put = console.trouble(Channel::Out);

@@ -1,8 +1,9 @@
 -- The line of a cause.
 use Rattle.std.specs.Prelude.{ℕ, Bool, true, false, List, [], ◌∷◌, ◌++◌, ◌≡◌, ◌≤◌, All, length, take, map, codes, nat_lt, nat_le, nat_eq, if◌then◌else◌}
+use Rattle.std.specs.Fmt.{decimal}
 use Rattle.program_advice.specs.declared.cause.Named.{Named}
 use Rattle.program_advice.specs.declared.cause.Cause.{Cause}
-use Rattle.program_advice.specs.declared.cause.Cause.TheVariants.{Refused, Unsaved, Full, File, OneName, Limit, Stream, Argument, Usage, Hint}
+use Rattle.program_advice.specs.declared.cause.Cause.TheVariants.{Refused, Unsaved, Full, File, OneName, Limit, Stream, Argument, Usage, Left, Hint}
 use Rattle.program_advice.specs.Texts.{doing_text, fact_text, hint_text, option_text, role_text, stream_text}
 
 -- a byte as it is printed: a control character becomes a question mark
@@ -35,6 +36,11 @@ room_text true = codes ", which goes on from the last saved map"
 abbrev pub unsaved_text : (name reason : List ℕ) → List ℕ
 unsaved_text name reason = codes "cannot save " ++ quoted name ++ codes ": " ++ cut 60 reason
 
+-- what is said of bytes that a run left
+abbrev pub left_text : Bool → List ℕ
+left_text false = codes " B weren't read; with option -r 3 the same command tries the bad sectors again"
+left_text true = codes " B weren't read; without -n and -N the same command goes on with them"
+
 -- the advice on a cause
 abbrev pub cause_text : Cause → List ℕ
 cause_text (Refused doing file reason) = doing_text doing ++ named_text file ++ codes ": " ++ cut 60 reason.now
@@ -48,6 +54,7 @@ cause_text (Limit option resumes) = option_text option ++ resuming_text resumes
 cause_text (Stream stream reason) = stream_text stream ++ cut 60 reason.now
 cause_text (Argument word wanted) = quoted word.now ++ codes " isn't " ++ cut 150 wanted.now
 cause_text (Usage usage) = codes "usage: " ++ cut 150 usage.now
+cause_text (Left bytes skips) = decimal bytes ++ left_text skips
 cause_text (Hint hint) = hint_text hint
 
 -- the line of a cause: the program's name, the advice, each control character as a question mark, and a newline

@@ -134,5 +134,11 @@ pub enum Cause<'a> {
     Usage {
         usage: &'a str,
     },
+    /// A run that is done left so many bytes that failed.
+    Left {
+        bytes: u64,
+        /// Options left out trimming or scraping.
+        skips: bool,
+    },
     Hint(Hint),
 }

@@ -1,17 +1,19 @@
 //! The line that names a cause.
 ghost use Rattle.std.specs.Prelude.{◌≡◌, ◌+◌, ◌≤◌, ◌++◌, [], ◌∷◌, length, map, codes};
+ghost use Rattle.std.specs.Fmt.{decimal};
 ghost use Rattle.arrayvec.specs.ArrayVec.{array_vec_len};
-ghost use Rattle.program_advice.specs.Lines.{IsOneLine, cause_text, cut, line_text, named_text, quoted, resuming_text, room_text, shown_byte, unsaved_text};
+ghost use Rattle.program_advice.specs.Lines.{IsOneLine, cause_text, cut, left_text, line_text, named_text, quoted, resuming_text, room_text, shown_byte, unsaved_text};
 
 use crate::cause::{Cause, Named};
 use crate::texts::{doing_text, fact_text, hint_text, option_text, role_text, stream_text};
 use arrayvec::ArrayVec;
+use itoa::Buffer;
 
 /// A line on standard error.
 pub type Line = ArrayVec<u8, 512>;
 
 /// Adds a text for which there is room.
-fn add(line: &mut Line, text: &str)
+pub(crate) fn add(line: &mut Line, text: &str)
     requires { array_vec_len line.old + length text.now ≤ 511 }
     ensures text { line.new.items ≡ line.old.items ++ text.now }
     ensures len { array_vec_len line.new ≡ array_vec_len line.old + length text.now }
@@ -34,7 +36,7 @@ fn add_cut(line: &mut Line, text: &str, most: usize)
 }
 
 /// Adds a name of the command line in quotes.
-fn add_quoted(line: &mut Line, name: &str)
+pub(crate) fn add_quoted(line: &mut Line, name: &str)
     requires { array_vec_len line.old ≤ 350 }
     ensures text { line.new.items ≡ line.old.items ++ quoted name.now }
     ensures len { array_vec_len line.new ≤ array_vec_len line.old + 154 }
@@ -87,6 +89,26 @@ fn add_unsaved(line: &mut Line, name: &str, reason: &str)
     add_quoted(line, name);
     add(line, ": ");
     add_cut(line, reason, 60);
+}
+
+/// Adds what is said of bytes that a run left.
+fn add_left(line: &mut Line, bytes: u64, skips: bool)
+    requires { array_vec_len line.old ≤ 20 }
+    ensures text { line.new.items ≡ line.old.items ++ (decimal bytes ++ left_text skips) }
+    ensures len { array_vec_len line.new ≤ array_vec_len line.old + 110 }
+{
+    add(line, Buffer::new().format(bytes));
+    if skips {
+        add(
+            line,
+            " B weren't read; without -n and -N the same command goes on with them",
+        );
+    } else {
+        add(
+            line,
+            " B weren't read; with option -r 3 the same command tries the bad sectors again",
+        );
+    }
 }
 
 /// Adds the advice on a cause.
@@ -145,6 +167,7 @@ fn add_cause(line: &mut Line, cause: Cause<'_>)
             add(line, "usage: ");
             add_cut(line, usage, 150);
         }
+        Cause::Left { bytes, skips } => add_left(line, bytes, skips),
         Cause::Hint(hint) => add(line, hint_text(hint)),
     }
 }
@@ -172,7 +195,7 @@ fn add_shown(line: &mut Line, bytes: &[u8])
 }
 
 /// The line of a text: each control character becomes a question mark.
-fn finished(text: &[u8]) -> Line
+pub(crate) fn finished(text: &[u8]) -> Line
     requires { length text.now ≤ 511 }
     ensures text { result.items ≡ map shown_byte text.now ++ 10 ∷ [] }
     ensures line { IsOneLine result.items }

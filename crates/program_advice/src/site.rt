@@ -88,6 +88,12 @@ fn save_cause<'a>(error: &io::Error, name: &'a str) -> Cause<'a> {
             fact: Fact::DraftNotApart,
         };
     }
+    if is_own(error, ErrorKind::WouldBlock) {
+        return Cause::File {
+            file,
+            fact: Fact::InUse,
+        };
+    }
     if is_own(error, ErrorKind::InvalidInput) {
         return Cause::File {
             file,
@@ -112,6 +118,25 @@ fn save_cause<'a>(error: &io::Error, name: &'a str) -> Cause<'a> {
     }
 }
 
+/// Why a mapfile couldn't be removed.
+fn remove_cause<'a>(error: &io::Error, name: &'a str) -> Cause<'a> {
+    let file = Named {
+        role: Role::Mapfile,
+        name,
+    };
+    if is_own(error, ErrorKind::WouldBlock) {
+        return Cause::File {
+            file,
+            fact: Fact::InUse,
+        };
+    }
+    Cause::Refused {
+        doing: Doing::Remove,
+        file,
+        reason: reason_text(error),
+    }
+}
+
 /// Why a call failed, by the error that it met.
 pub fn site_cause<'a>(trouble: SiteTrouble, files: SiteFiles<'a>) -> Cause<'a> {
     let error = &trouble.error;
@@ -122,14 +147,7 @@ pub fn site_cause<'a>(trouble: SiteTrouble, files: SiteFiles<'a>) -> Cause<'a> {
         SiteCall::ImageWrite => image_cause(Doing::Write, error, files),
         SiteCall::ImageSync => image_cause(Doing::Sync, error, files),
         SiteCall::MapRead => read_cause(error, files.read),
-        SiteCall::MapRemove => Cause::Refused {
-            doing: Doing::Remove,
-            file: Named {
-                role: Role::Mapfile,
-                name: mapfile,
-            },
-            reason: reason_text(error),
-        },
+        SiteCall::MapRemove => remove_cause(error, mapfile),
         SiteCall::DraftBegin
         | SiteCall::DraftAppend
         | SiteCall::DraftSync

@@ -125,6 +125,10 @@ pub fn usage_cause<'a>(
         UsageFault::Modes { .. } | UsageFault::Operands { .. } => Some(Cause::Usage {
             usage: manual.usage,
         }),
-        UsageFault::Conflict { .. } | UsageFault::PlaceTooLarge => None,
+        UsageFault::Conflict { word: number } => Some(Cause::Argument {
+            word: argument(words, number)?,
+            wanted: "an option that goes with the others",
+        }),
+        UsageFault::PlaceTooLarge => None,
     }
 }

@@ -191,11 +191,41 @@ impl<W: Write> Stream<W> {
     }
 }
 
+/// How many bytes are kept of the last piece on standard output.
+const KEPT: usize = 160;
+
+/// The front of the last piece that was put on a stream.
+#[derive(Drop)]
+struct LastPiece {
+    bytes: [u8; KEPT],
+    count: usize,
+}
+
+impl LastPiece {
+    fn new() -> LastPiece {
+        LastPiece {
+            bytes: [0; KEPT],
+            count: 0,
+        }
+    }
+
+    fn keep(&mut self, piece: &[u8]) {
+        let count = piece.len().min(KEPT);
+        self.bytes[..count].copy_from_slice(&piece[..count]);
+        self.count = count;
+    }
+
+    fn front(&self) -> &[u8] {
+        &self.bytes[..self.count.min(KEPT)]
+    }
+}
+
 /// The program's standard output and standard error. Nothing is kept back: a piece is written at once.
 #[derive(Drop)]
 pub struct StdConsole {
     out: Stream<Stdout>,
     err: Stream<Stderr>,
+    last: LastPiece,
 }
 
 impl StdConsole {
@@ -207,7 +237,13 @@ impl StdConsole {
         StdConsole {
             out: Stream::new(rt.stdout()),
             err: Stream::new(rt.stderr()),
+            last: LastPiece::new(),
         }
+    }
+
+    /// The front of the last piece on standard output, up to 160 bytes; none before the first one.
+    pub fn last_piece(&self) -> &[u8] {
+        self.last.front()
     }
 
     /// The error of the last put on a channel that failed, if one did.
@@ -236,7 +272,10 @@ impl Console for StdConsole {
 
     fn put(&mut self, channel: Channel, piece: &[u8]) -> Result<(), ConsoleFault> {
         match channel {
-            Channel::Out => self.out.put(piece),
+            Channel::Out => {
+                self.last.keep(piece);
+                self.out.put(piece)
+            }
             Channel::Err => self.err.put(piece),
         }
     }

@@ -1,5 +1,6 @@
 //! The sync of a folder that makes a rename or a removal durable.
 use crate::folder::apart::Apart;
+use crate::folder::held::{HeldMap, check_free, hold_map};
 use crate::folder::mapfile::find_map;
 use crate::folder::names::{folder_for, folder_of, make_new, open_with, sync_entries};
 use real_files::outcome::{if_there, removable};
@@ -7,14 +8,16 @@ use std::fs::{self, File, OpenOptions};
 use std::io::{self, ErrorKind};
 
 /// Makes the entries of a mapfile's folder durable, and then the mapfile itself if it is there. A saved draft was
-/// synced before its rename, so that its name alone can still be lost. If more saves are to come, asks first whether
-/// the mapfile can be saved.
+/// synced before its rename, so that its name alone can still be lost. Locks the mapfile first; and if more saves are to
+/// come, asks whether it can be saved.
 pub(super) fn settle(
     rt: &HostRuntime,
     apart: &Apart<'_>,
+    held: &mut Option<HeldMap>,
     name: &str,
     saves: bool,
 ) -> io::Result<()> {
+    hold_map(rt, apart, held, name)?;
     if saves {
         ask_for_saves(rt, apart, name)?;
     }
@@ -50,6 +53,7 @@ fn ask_for_saves(rt: &HostRuntime, apart: &Apart<'_>, name: &str) -> io::Result<
         }
         Some(found) => {
             apart.check(&found)?;
+            check_free(rt, draft.as_str(), &found)?;
             ask_for_removal(rt, draft.as_str())?;
         }
     }

@@ -1,0 +1,69 @@
+//! The lines before a run: what a person is warned of, by what is read without changing anything.
+ghost use Rattle.ddrescue_words.specs.Asking.{AreInLimits};
+
+use ddrescue_words::command::{Command, Task, read_command};
+use option_words::words::Words;
+use program_advice::advice::due_advice;
+use program_advice::facts::{Facts, Work};
+use program_advice::look::{has_no_journal, is_link, look_at_file};
+use program_advice::tail::look_at_map;
+use program_advice::warning::{Names, line_of_advice};
+use rescue_console::console::{Channel, Console};
+use task_files::checked::PROGRAM;
+
+/// What is known before the work of a command. Nothing is known of a mapfile that isn't named.
+fn facts_of(rt: &HostRuntime, work: Work, command: &Command<'_>) -> Facts
+    requires { AreInLimits command.now.options }
+{
+    let options = &command.options;
+    let input_position = options.input_position;
+    Facts {
+        work,
+        input_position,
+        output_position: options.output_position.unwrap_or(input_position),
+        size: options.size,
+        sector: options.sector,
+        cluster: options.cluster(),
+        complete_only: options.complete_only,
+        domain_map: command.domain_map.is_some(),
+        scrapes: !options.no_trim && !options.no_scrape,
+        infile: look_at_file(rt, command.infile),
+        outfile: look_at_file(rt, command.outfile),
+        map: match command.mapfile {
+            Some(name) => look_at_map(rt, name),
+            None => None,
+        },
+        map_is_link: command.mapfile.is_some_and(|name| is_link(rt, name)),
+        map_has_no_journal: command.mapfile.is_some_and(|name| has_no_journal(rt, name)),
+    }
+}
+
+/// Puts the lines before the work of a command, unless nothing is to be said. After one that can't be put there is none.
+fn warn_of<P: Console>(rt: &HostRuntime, work: Work, command: &Command<'_>, console: &mut P)
+    requires { AreInLimits command.now.options }
+{
+    if command.options.quiet {
+        return;
+    }
+    let names = Names {
+        infile: command.infile,
+        outfile: command.outfile,
+        mapfile: command.mapfile.unwrap_or(""),
+    };
+    for advice in &due_advice(&facts_of(rt, work, command)) {
+        let line = line_of_advice(PROGRAM, names, *advice);
+        if console.put(Channel::Err, &line).is_err() {
+            return;
+        }
+    }
+}
+
+/// Puts the lines before the work that words ask for. Nothing else changes.
+pub fn warn<P: Console>(rt: &HostRuntime, words: &Words, console: &mut P) {
+    match read_command(rt.alloc(), words) {
+        Ok(Task::Rescue(command)) => warn_of(rt, Work::Rescue, &command, console),
+        Ok(Task::Fill { command, .. }) => warn_of(rt, Work::Fill, &command, console),
+        Ok(Task::Generate(command)) => warn_of(rt, Work::Generate, &command, console),
+        Ok(Task::Sample { .. }) | Err(_) => {}
+    }
+}

@@ -1,0 +1,54 @@
+//! The line before a plan: what a person is warned of, by what is read without changing anything.
+
+use crate::advice::PROGRAM;
+use ddrescueplan_words::command::{Command, read_command};
+use option_words::words::Words;
+use program_advice::advice::due_advice;
+use program_advice::facts::{Facts, Found, Work};
+use program_advice::tail::look_at_map;
+use program_advice::warning::{Names, line_of_advice};
+use rescue_console::console::{Channel, Console};
+
+/// What is known before a plan.
+fn facts_of(rt: &HostRuntime, command: &Command<'_>) -> Facts {
+    let options = &command.options.rescue;
+    Facts {
+        work: Work::Plan,
+        input_position: options.input_position,
+        output_position: options.input_position,
+        size: options.size,
+        sector: options.sector,
+        cluster: options.sector,
+        complete_only: false,
+        domain_map: false,
+        scrapes: !options.no_trim && !options.no_scrape,
+        infile: Some(Found::Regular {
+            length: command.length,
+        }),
+        outfile: None,
+        map: look_at_map(rt, command.test_map),
+        map_is_link: false,
+        map_has_no_journal: false,
+    }
+}
+
+/// Puts the line before the plan that words ask for, if one is due and anything is to be said. Nothing else changes.
+pub fn warn<P: Console>(rt: &HostRuntime, words: &Words, console: &mut P) {
+    let Ok(command) = read_command(rt.alloc(), words) else {
+        return;
+    };
+    if command.options.rescue.quiet {
+        return;
+    }
+    let names = Names {
+        infile: "",
+        outfile: "",
+        mapfile: command.test_map,
+    };
+    for advice in &due_advice(&facts_of(rt, &command)) {
+        let line = line_of_advice(PROGRAM, names, *advice);
+        if console.put(Channel::Err, &line).is_err() {
+            return;
+        }
+    }
+}

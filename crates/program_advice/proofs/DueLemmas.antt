@@ -1,0 +1,243 @@
+-- What is said before a run is what is due.
+use Rattle.std.proofs.Common.{◌≡◌, ◌≤◌, ◌+◌, ℕ, zero, suc, Bool, true, false, List, [], ◌∷◌, Option, Some, None, All, get_or, refl, sym, subst, arith}
+use Rattle.std.specs.Prelude.{⊤, ◌-◌, not, nat_lt, nat_le, nat_eq}
+use Rattle.std.specs.List.{Contains}
+use Rattle.std.proofs.lemmas.List.Elements.{All-nil, All-cons, Contains-append_left, Contains-append_right, Contains-push}
+use Rattle.program_advice.specs.declared.facts.Facts.{Facts}
+use Rattle.program_advice.specs.declared.advice.Advice.{Advice}
+use Rattle.program_advice.specs.declared.advice.Advice.TheVariants.{OutfileShort, MapPastInfile, EmptyInfile, BeginsPastInfile, NothingAsked, NothingListed, NewMapfile, LinkedMapfile, UnsafeMapfile, NewOutfile, NothingToFill, LongPattern, OtherSector, MountedInfile, MountedOutfile, LongPlan, NothingToCompare, LateMapfile}
+use Rattle.program_advice.specs.Due.{Ascends, IsAdvice, IsDue, asked_end, asks_infile, begins_past_infile, bytes_of, empty_infile, end_of, finished_of, finishes_nothing, if_known, if_so, is_absent, is_comparison, is_fill, is_mounted, is_new, is_plan, is_rescue, is_writable, kinds, late_mapfile, length_of, linked_mapfile, lists_nothing, long_pattern, long_plan, map_past_infile, mount_of, mounted_infile, mounted_outfile, new_mapfile, new_outfile, nothing_asked, nothing_listed, nothing_to_compare, nothing_to_fill, of_kind, other_sector, outfile_short, rank, saves, sector_of, sectors_past, somes, unsafe_mapfile, within}
+
+-- what is due by it, if anything is, is so
+record Only (P : Advice → Type 0) (due : Option Advice) : Type 0 where
+  all : (a : Advice) → due ≡ Some a → P a
+
+same : (c a : Advice) → Some c ≡ Some a → c ≡ a
+same c a e = cc
+
+no_advice : {X : Type 0} (a : Advice) → None ≡ Some a → X
+no_advice a e = cc
+
+one : (P : Advice → Type 0) (c : Advice) → P c → Only P (Some c)
+one P c p = record { all = λ a e. subst P (same c a e) p }
+
+none : (P : Advice → Type 0) → Only P None
+none P = record { all = λ a e. no_advice a e }
+
+so : (P : Advice → Type 0) (b : Bool) (due : Option Advice) → Only P due → Only P (if_so b due)
+so P true due h = h
+so P false due h = none P
+
+of : (P : Advice → Type 0) (n : Option ℕ) (due : ℕ → Option Advice) → ((k : ℕ) → Only P (due k)) → Only P (if_known n due)
+of P (Some k) due h = h k
+of P None due h = none P
+
+-- an advice is of the kind that a definition is about, with this place in the enum
+abbrev IsOf : Facts → ℕ → Option Advice → Advice → Type 0
+IsOf f k due a = (of_kind a f ≡ due) × (rank a ≡ k)
+
+-- each of some kinds yields advice of itself; the first one's place in the enum is k
+abbrev AreKinds : Facts → ℕ → List (Option Advice) → Type 0
+AreKinds f k [] = ⊤
+AreKinds f k (due ∷ rest) = Only (IsOf f k due) due × AreKinds f (k + 1) rest
+
+all_due : (f : Facts) (k : ℕ) (dues : List (Option Advice)) → AreKinds f k dues → All (IsDue f) (somes dues)
+all_due f k [] h = All-nil (IsDue f)
+all_due f k (Some a ∷ rest) h = All-cons (IsDue f) a (somes rest) (h.0.all a refl).0 (all_due f (k + 1) rest h.1)
+all_due f k (None ∷ rest) h = all_due f (k + 1) rest h.1
+
+ascends : (f : Facts) (k from : ℕ) (dues : List (Option Advice)) → AreKinds f k dues → from ≤ k → Ascends from (somes dues)
+ascends f k from [] h low = tt
+ascends f k from (Some a ∷ rest) h low =
+    let e : rank a ≡ k = (h.0.all a refl).1 in
+    (omega (arith, e, low), ascends f (k + 1) (rank a + 1) rest h.1 (omega (arith, e)))
+ascends f k from (None ∷ rest) h low = ascends f (k + 1) from rest h.1 (omega (arith, low))
+
+at_front : (b a : Advice) (rest : List Advice) → b ≡ a → Contains (b ∷ rest) a
+at_front b a rest e = subst (λ x. Contains (b ∷ rest) x) e (Contains-append_left (b ∷ []) rest b (Contains-push [] b))
+
+contained : (k : ℕ) (dues : List (Option Advice)) (a : Advice) → get_or dues k None ≡ Some a → Contains (somes dues) a
+contained k [] a e = no_advice a e
+contained zero (Some b ∷ rest) a e = at_front b a (somes rest) (same b a e)
+contained zero (None ∷ rest) a e = no_advice a e
+contained (suc k) (Some b ∷ rest) a e = Contains-append_right (b ∷ []) (somes rest) a (contained k rest a e)
+contained (suc k) (None ∷ rest) a e = contained k rest a e
+
+outfile_short_only : (f : Facts) → Only (IsOf f 0 (outfile_short f)) (outfile_short f)
+outfile_short_only f =
+    let P = IsOf f 0 (outfile_short f) in
+    so P (is_rescue f.work) _ (so P (not f.domain_map) _ (of P (bytes_of f.outfile) _ (λ n.
+    of P (finished_of f.map) _ (λ e. of P (length_of f.infile) _ (λ l. so P (nat_lt f.input_position e) _ (
+    so P (nat_le e l) _ (so P (within (e - f.input_position) f.size) _ (
+    so P (nat_lt n (f.output_position + (e - f.input_position))) _ (
+    one P (OutfileShort n e) (refl, refl))))))))))
+
+map_past_infile_only : (f : Facts) → Only (IsOf f 1 (map_past_infile f)) (map_past_infile f)
+map_past_infile_only f =
+    let P = IsOf f 1 (map_past_infile f) in
+    so P (asks_infile f.work) _ (of P (length_of f.infile) _ (λ n. of P (end_of f.map) _ (λ e.
+    so P (nat_lt 0 n) _ (so P (nat_lt n e) _ (one P (MapPastInfile e n) (refl, refl))))))
+
+empty_infile_only : (f : Facts) → Only (IsOf f 2 (empty_infile f)) (empty_infile f)
+empty_infile_only f =
+    let P = IsOf f 2 (empty_infile f) in
+    so P (asks_infile f.work) _ (of P (length_of f.infile) _ (λ n. so P (nat_eq n 0) _ (
+    one P EmptyInfile (refl, refl))))
+
+begins_past_infile_only : (f : Facts) → Only (IsOf f 3 (begins_past_infile f)) (begins_past_infile f)
+begins_past_infile_only f =
+    let P = IsOf f 3 (begins_past_infile f) in
+    so P (asks_infile f.work) _ (of P (length_of f.infile) _ (λ n. so P (nat_lt 0 n) _ (
+    so P (nat_le n f.input_position) _ (one P (BeginsPastInfile n) (refl, refl)))))
+
+nothing_asked_only : (f : Facts) → Only (IsOf f 4 (nothing_asked f)) (nothing_asked f)
+nothing_asked_only f =
+    let P = IsOf f 4 (nothing_asked f) in
+    so P (saves f.work) _ (of P f.size _ (λ n. so P (nat_eq n 0) _ (one P NothingAsked (refl, refl))))
+
+nothing_listed_only : (f : Facts) → Only (IsOf f 5 (nothing_listed f)) (nothing_listed f)
+nothing_listed_only f =
+    let P = IsOf f 5 (nothing_listed f) in
+    so P (asks_infile f.work) _ (so P f.complete_only _ (so P (lists_nothing f.map) _ (
+    one P NothingListed (refl, refl))))
+
+new_mapfile_only : (f : Facts) → Only (IsOf f 6 (new_mapfile f)) (new_mapfile f)
+new_mapfile_only f =
+    let P = IsOf f 6 (new_mapfile f) in
+    so P (is_rescue f.work) _ (so P (is_new f.map) _ (of P (bytes_of f.outfile) _ (λ n. so P (nat_lt f.output_position n) _ (
+    one P (NewMapfile n) (refl, refl)))))
+
+linked_mapfile_only : (f : Facts) → Only (IsOf f 7 (linked_mapfile f)) (linked_mapfile f)
+linked_mapfile_only f =
+    let P = IsOf f 7 (linked_mapfile f) in
+    so P (saves f.work) _ (so P f.map_is_link _ (one P LinkedMapfile (refl, refl)))
+
+unsafe_mapfile_only : (f : Facts) → Only (IsOf f 8 (unsafe_mapfile f)) (unsafe_mapfile f)
+unsafe_mapfile_only f =
+    let P = IsOf f 8 (unsafe_mapfile f) in
+    so P (saves f.work) _ (so P f.map_has_no_journal _ (one P UnsafeMapfile (refl, refl)))
+
+new_outfile_only : (f : Facts) → Only (IsOf f 9 (new_outfile f)) (new_outfile f)
+new_outfile_only f =
+    let P = IsOf f 9 (new_outfile f) in
+    so P (is_fill f.work) _ (so P (is_absent f.outfile) _ (one P NewOutfile (refl, refl)))
+
+nothing_to_fill_only : (f : Facts) → Only (IsOf f 10 (nothing_to_fill f)) (nothing_to_fill f)
+nothing_to_fill_only f =
+    let P = IsOf f 10 (nothing_to_fill f) in
+    so P (is_fill f.work) _ (so P (lists_nothing f.map) _ (one P NothingToFill (refl, refl)))
+
+long_pattern_only : (f : Facts) → Only (IsOf f 11 (long_pattern f)) (long_pattern f)
+long_pattern_only f =
+    let P = IsOf f 11 (long_pattern f) in
+    so P (is_fill f.work) _ (of P (length_of f.infile) _ (λ n. so P (nat_lt f.cluster n) _ (
+    one P (LongPattern n f.cluster) (refl, refl))))
+
+other_sector_only : (f : Facts) → Only (IsOf f 12 (other_sector f)) (other_sector f)
+other_sector_only f =
+    let P = IsOf f 12 (other_sector f) in
+    so P (is_rescue f.work) _ (of P (sector_of f.infile) _ (λ n. so P (not (nat_eq n f.sector)) _ (
+    one P (OtherSector n f.sector) (refl, refl))))
+
+mounted_infile_only : (f : Facts) → Only (IsOf f 13 (mounted_infile f)) (mounted_infile f)
+mounted_infile_only f =
+    let P = IsOf f 13 (mounted_infile f) in
+    so P (is_rescue f.work) _ (so P (is_writable (mount_of f.infile)) _ (one P MountedInfile (refl, refl)))
+
+mounted_outfile_only : (f : Facts) → Only (IsOf f 14 (mounted_outfile f)) (mounted_outfile f)
+mounted_outfile_only f =
+    let P = IsOf f 14 (mounted_outfile f) in
+    so P (saves f.work) _ (so P (is_mounted (mount_of f.outfile)) _ (one P MountedOutfile (refl, refl)))
+
+long_plan_only : (f : Facts) → Only (IsOf f 15 (long_plan f)) (long_plan f)
+long_plan_only f =
+    let P = IsOf f 15 (long_plan f) in
+    so P (is_plan f.work) _ (so P f.scrapes _ (so P (nat_lt 0 f.sector) _ (of P (length_of f.infile) _ (λ n.
+    of P (end_of f.map) _ (λ e. so P (nat_le 10_000_000 (sectors_past f n e)) _ (
+    one P (LongPlan e (sectors_past f n e)) (refl, refl)))))))
+
+nothing_to_compare_only : (f : Facts) → Only (IsOf f 16 (nothing_to_compare f)) (nothing_to_compare f)
+nothing_to_compare_only f =
+    let P = IsOf f 16 (nothing_to_compare f) in
+    so P (is_comparison f.work) _ (so P (finishes_nothing f.input_position f.map) _ (
+    one P NothingToCompare (refl, refl)))
+
+late_mapfile_only : (f : Facts) → Only (IsOf f 17 (late_mapfile f)) (late_mapfile f)
+late_mapfile_only f =
+    let P = IsOf f 17 (late_mapfile f) in
+    so P (is_rescue f.work) _ (so P (is_new f.map) _ (so P (not f.complete_only) _ (so P (not f.domain_map) _ (
+    of P (length_of f.infile) _ (λ n. so P (nat_le 1_073_741_824 (asked_end f n - f.input_position)) _ (
+    one P LateMapfile (refl, refl)))))))
+
+are_kinds : (f : Facts) → AreKinds f 0 (kinds f)
+are_kinds f = (
+  outfile_short_only f,
+  (
+    map_past_infile_only f,
+    (
+      empty_infile_only f,
+      (
+        begins_past_infile_only f,
+        (
+          nothing_asked_only f,
+          (
+            nothing_listed_only f,
+            (
+              new_mapfile_only f,
+              (
+                linked_mapfile_only f,
+                (
+                  unsafe_mapfile_only f,
+                  (
+                    new_outfile_only f,
+                    (
+                      nothing_to_fill_only f,
+                      (
+                        long_pattern_only f,
+                        (
+                          other_sector_only f,
+                          (
+                            mounted_infile_only f,
+                            (mounted_outfile_only f, (long_plan_only f, (nothing_to_compare_only f, (late_mapfile_only f, tt)))),
+                          ),
+                        ),
+                      ),
+                    ),
+                  ),
+                ),
+              ),
+            ),
+          ),
+        ),
+      ),
+    ),
+  ),
+)
+
+each_said : (f : Facts) (a : Advice) → IsDue f a → Contains (somes (kinds f)) a
+each_said f (OutfileShort n e) h = contained 0 (kinds f) (OutfileShort n e) h
+each_said f (MapPastInfile e n) h = contained 1 (kinds f) (MapPastInfile e n) h
+each_said f EmptyInfile h = contained 2 (kinds f) EmptyInfile h
+each_said f (BeginsPastInfile n) h = contained 3 (kinds f) (BeginsPastInfile n) h
+each_said f NothingAsked h = contained 4 (kinds f) NothingAsked h
+each_said f NothingListed h = contained 5 (kinds f) NothingListed h
+each_said f (NewMapfile n) h = contained 6 (kinds f) (NewMapfile n) h
+each_said f LinkedMapfile h = contained 7 (kinds f) LinkedMapfile h
+each_said f UnsafeMapfile h = contained 8 (kinds f) UnsafeMapfile h
+each_said f NewOutfile h = contained 9 (kinds f) NewOutfile h
+each_said f NothingToFill h = contained 10 (kinds f) NothingToFill h
+each_said f (LongPattern n c) h = contained 11 (kinds f) (LongPattern n c) h
+each_said f (OtherSector n b) h = contained 12 (kinds f) (OtherSector n b) h
+each_said f MountedInfile h = contained 13 (kinds f) MountedInfile h
+each_said f MountedOutfile h = contained 14 (kinds f) MountedOutfile h
+each_said f (LongPlan e n) h = contained 15 (kinds f) (LongPlan e n) h
+each_said f NothingToCompare h = contained 16 (kinds f) NothingToCompare h
+each_said f LateMapfile h = contained 17 (kinds f) LateMapfile h
+
+-- all kinds, each as it is due
+pub is_advice : (f : Facts) (said : List Advice) → said ≡ somes (kinds f) → IsAdvice f said
+is_advice f said e = subst (λ s. IsAdvice f s) (sym e) (record {
+  due = all_due f 0 (kinds f) (are_kinds f);
+  whole = each_said f;
+  order = ascends f 0 0 (kinds f) (are_kinds f) (omega arith);
+})

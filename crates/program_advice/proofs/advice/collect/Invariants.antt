@@ -1,0 +1,10 @@
+use Rattle.std.proofs.Common.{◌≡◌, ◌≤◌, ◌++◌, drop, length}
+use Rattle.program_advice.specs.Due.{somes}
+use Rattle.program_advice.proofs.advice.collect.Given as goal
+
+-- what was added is what is due so far
+abbrev pub invariant-loop-due : goal.invariant-loop-due
+invariant-loop-due l = record {
+  rest : l.list.items ++ somes (drop l.due-index l.kinds) ≡ somes l.kinds;
+  few : length l.list.items ≤ l.due-index;
+}

@@ -1,0 +1,28 @@
+-- All kinds are collected, each as it is due.
+use Rattle.program_advice.proofs.DueLemmas.{is_advice}
+use Rattle.program_advice.proofs.advice.due_advice.Goals as goal
+
+pub returns : goal.returns
+returns c =
+    let said = rw (
+      c.outfile_short.ensures,
+      c.map_past_infile.ensures,
+      c.empty_infile.ensures,
+      c.begins_past_infile.ensures,
+      c.nothing_asked.ensures,
+      c.nothing_listed.ensures,
+      c.new_mapfile.ensures,
+      c.linked_mapfile.ensures,
+      c.unsafe_mapfile.ensures,
+      c.new_outfile.ensures,
+      c.nothing_to_fill.ensures,
+      c.long_pattern.ensures,
+      c.other_sector.ensures,
+      c.mounted_infile.ensures,
+      c.mounted_outfile.ensures,
+      c.long_plan.ensures,
+      c.nothing_to_compare.ensures,
+      c.late_mapfile.ensures,
+    )
+    at c.collect.ensures in
+    is_advice c.args.facts.now c.collect.result.items said

@@ -1,0 +1,337 @@
+-- What a person is warned of before a run, and when.
+use Rattle.std.specs.Prelude.{ℕ, Bool, true, false, List, [], ◌∷◌, ◌≡◌, ◌+◌, ◌-◌, ◌/◌, ◌≤◌, ⊤, min, max, not, nat_lt, nat_le, nat_eq, Option, Some, None, All, Contains}
+use Rattle.program_advice.specs.declared.facts.Work.{Work}
+use Rattle.program_advice.specs.declared.facts.Work.TheVariants.{Rescue, Fill, Generate, Comparison, Plan}
+use Rattle.program_advice.specs.declared.facts.Found.{Found}
+use Rattle.program_advice.specs.declared.facts.Found.TheVariants.{Absent, Regular, Device}
+use Rattle.program_advice.specs.declared.facts.Mount.{Mount}
+use Rattle.program_advice.specs.declared.facts.Mount.TheVariants.{ReadOnly, Writable}
+use Rattle.program_advice.specs.declared.facts.MapText.{MapText}
+use Rattle.program_advice.specs.declared.facts.MapText.TheVariants.{NoFile, NoBlock, Blocks}
+use Rattle.program_advice.specs.declared.facts.Finished.{Finished}
+use Rattle.program_advice.specs.declared.facts.Finished.TheVariants.{Nowhere, UpTo}
+use Rattle.program_advice.specs.declared.facts.Facts.{Facts}
+use Rattle.program_advice.specs.declared.advice.Advice.{Advice}
+use Rattle.program_advice.specs.declared.advice.Advice.TheVariants.{OutfileShort, MapPastInfile, EmptyInfile, BeginsPastInfile, NothingAsked, NothingListed, NewMapfile, LinkedMapfile, UnsafeMapfile, NewOutfile, NothingToFill, LongPattern, OtherSector, MountedInfile, MountedOutfile, LongPlan, NothingToCompare, LateMapfile}
+
+-- ---- what is known
+
+-- the length of a file, if it is known
+abbrev pub length_of : Option Found → Option ℕ
+length_of (Some (Regular n)) = Some n
+length_of (Some (Device n _ _)) = n
+length_of (Some Absent) = None
+length_of None = None
+
+-- how many bytes an outfile has that is no device: one that is absent has none
+abbrev pub bytes_of : Option Found → Option ℕ
+bytes_of (Some Absent) = Some 0
+bytes_of (Some (Regular n)) = Some n
+bytes_of (Some (Device _ _ _)) = None
+bytes_of None = None
+
+-- the size of a device's own sectors, if it is known
+abbrev pub sector_of : Option Found → Option ℕ
+sector_of (Some (Device _ n _)) = n
+sector_of (Some (Regular _)) = None
+sector_of (Some Absent) = None
+sector_of None = None
+
+-- how a device is mounted, if it is known to be
+abbrev pub mount_of : Option Found → Option Mount
+mount_of (Some (Device _ _ m)) = m
+mount_of (Some (Regular _)) = None
+mount_of (Some Absent) = None
+mount_of None = None
+
+abbrev pub is_absent : Option Found → Bool
+is_absent (Some Absent) = true
+is_absent (Some (Regular _)) = false
+is_absent (Some (Device _ _ _)) = false
+is_absent None = false
+
+-- a device is known to be mounted so that its file system may change
+abbrev pub is_writable : Option Mount → Bool
+is_writable (Some Writable) = true
+is_writable (Some ReadOnly) = false
+is_writable None = false
+
+abbrev pub is_mounted : Option Mount → Bool
+is_mounted (Some _) = true
+is_mounted None = false
+
+-- where the last block of a mapfile ends, if that is known
+abbrev pub end_of : Option MapText → Option ℕ
+end_of (Some (Blocks n _)) = Some n
+end_of (Some NoBlock) = None
+end_of (Some NoFile) = None
+end_of None = None
+
+-- where its last finished block ends, if that is known
+abbrev pub last_of : Option Finished → Option ℕ
+last_of (Some (UpTo n)) = Some n
+last_of (Some Nowhere) = None
+last_of None = None
+
+abbrev pub finished_of : Option MapText → Option ℕ
+finished_of (Some (Blocks _ f)) = last_of f
+finished_of (Some NoBlock) = None
+finished_of (Some NoFile) = None
+finished_of None = None
+
+-- a mapfile is known to be absent
+abbrev pub is_new : Option MapText → Bool
+is_new (Some NoFile) = true
+is_new (Some NoBlock) = false
+is_new (Some (Blocks _ _)) = false
+is_new None = false
+
+-- a mapfile is known to list no block
+abbrev pub lists_nothing : Option MapText → Bool
+lists_nothing (Some NoFile) = true
+lists_nothing (Some NoBlock) = true
+lists_nothing (Some (Blocks _ _)) = false
+lists_nothing None = false
+
+-- no finished block of a mapfile ends past a position
+abbrev pub ends_by : ℕ → Option Finished → Bool
+ends_by pos (Some (UpTo n)) = nat_le n pos
+ends_by pos (Some Nowhere) = true
+ends_by pos None = false
+
+-- a mapfile is known to have no finished position from a position on
+abbrev pub finishes_nothing : ℕ → Option MapText → Bool
+finishes_nothing pos (Some (Blocks _ f)) = ends_by pos f
+finishes_nothing pos (Some NoBlock) = true
+finishes_nothing pos (Some NoFile) = false
+finishes_nothing pos None = false
+
+-- ---- conditions
+
+abbrev pub is_rescue : Work → Bool
+is_rescue Rescue = true
+is_rescue Fill = false
+is_rescue Generate = false
+is_rescue Comparison = false
+is_rescue Plan = false
+
+abbrev pub is_fill : Work → Bool
+is_fill Rescue = false
+is_fill Fill = true
+is_fill Generate = false
+is_fill Comparison = false
+is_fill Plan = false
+
+abbrev pub is_comparison : Work → Bool
+is_comparison Rescue = false
+is_comparison Fill = false
+is_comparison Generate = false
+is_comparison Comparison = true
+is_comparison Plan = false
+
+abbrev pub is_plan : Work → Bool
+is_plan Rescue = false
+is_plan Fill = false
+is_plan Generate = false
+is_plan Comparison = false
+is_plan Plan = true
+
+-- the infile's length is that of the map
+abbrev pub asks_infile : Work → Bool
+asks_infile Rescue = true
+asks_infile Fill = false
+asks_infile Generate = true
+asks_infile Comparison = false
+asks_infile Plan = false
+
+-- the mapfile is saved at the end
+abbrev pub saves : Work → Bool
+saves Rescue = true
+saves Fill = true
+saves Generate = true
+saves Comparison = false
+saves Plan = false
+
+-- a number is at most one that may not be given
+abbrev pub within : ℕ → Option ℕ → Bool
+within n (Some most) = nat_le n most
+within n None = true
+
+-- where the positions end that are asked for, of so many
+abbrev pub asked_end : Facts → ℕ → ℕ
+asked_end f length = elim f.size as (λ _. ℕ) [ Some size ↦ min length (f.input_position + size) | None ↦ length ]
+
+-- an advice that is due under a condition
+abbrev pub if_so : Bool → Option Advice → Option Advice
+if_so true due = due
+if_so false due = None
+
+-- one that is due of a number, if that is known
+abbrev pub if_known : Option ℕ → (ℕ → Option Advice) → Option Advice
+if_known (Some n) due = due n
+if_known None due = None
+
+-- ---- when each is due
+
+-- the outfile of a rescue has n bytes, and the mapfile calls a position finished whose place is there or past it: the
+-- last finished block ends at e, within what is asked for
+abbrev pub outfile_short : Facts → Option Advice
+outfile_short f = if_so (is_rescue f.work) (if_so (not f.domain_map)
+    (if_known (bytes_of f.outfile) (λ n. if_known (finished_of f.map) (λ e. if_known (length_of f.infile) (λ l.
+    if_so (nat_lt f.input_position e) (if_so (nat_le e l) (if_so (within (e - f.input_position) f.size)
+    (if_so (nat_lt n (f.output_position + (e - f.input_position))) (Some (OutfileShort n e))))))))))
+
+-- the mapfile's last block ends past the infile's end
+abbrev pub map_past_infile : Facts → Option Advice
+map_past_infile f = if_so (asks_infile f.work) (if_known (length_of f.infile) (λ n. if_known (end_of f.map) (λ e.
+    if_so (nat_lt 0 n) (if_so (nat_lt n e) (Some (MapPastInfile e n))))))
+
+-- the infile has no bytes
+abbrev pub empty_infile : Facts → Option Advice
+empty_infile f = if_so (asks_infile f.work) (if_known (length_of f.infile) (λ n.
+    if_so (nat_eq n 0) (Some EmptyInfile)))
+
+-- what is asked for begins at the infile's end or past it
+abbrev pub begins_past_infile : Facts → Option Advice
+begins_past_infile f = if_so (asks_infile f.work) (if_known (length_of f.infile) (λ n.
+    if_so (nat_lt 0 n) (if_so (nat_le n f.input_position) (Some (BeginsPastInfile n)))))
+
+-- no byte is asked for
+abbrev pub nothing_asked : Facts → Option Advice
+nothing_asked f = if_so (saves f.work) (if_known f.size (λ n. if_so (nat_eq n 0) (Some NothingAsked)))
+
+-- only what the mapfile lists is asked for, and it lists nothing
+abbrev pub nothing_listed : Facts → Option Advice
+nothing_listed f = if_so (asks_infile f.work) (if_so f.complete_only (if_so (lists_nothing f.map) (Some NothingListed)))
+
+-- a rescue's mapfile is absent, and its outfile has bytes from the first place on
+abbrev pub new_mapfile : Facts → Option Advice
+new_mapfile f = if_so (is_rescue f.work) (if_so (is_new f.map) (if_known (bytes_of f.outfile) (λ n.
+    if_so (nat_lt f.output_position n) (Some (NewMapfile n)))))
+
+-- the mapfile is a link
+abbrev pub linked_mapfile : Facts → Option Advice
+linked_mapfile f = if_so (saves f.work) (if_so f.map_is_link (Some LinkedMapfile))
+
+-- the mapfile's file system has no journal
+abbrev pub unsafe_mapfile : Facts → Option Advice
+unsafe_mapfile f = if_so (saves f.work) (if_so f.map_has_no_journal (Some UnsafeMapfile))
+
+-- the outfile that is to be filled is absent
+abbrev pub new_outfile : Facts → Option Advice
+new_outfile f = if_so (is_fill f.work) (if_so (is_absent f.outfile) (Some NewOutfile))
+
+-- the mapfile by which it is to be filled lists nothing
+abbrev pub nothing_to_fill : Facts → Option Advice
+nothing_to_fill f = if_so (is_fill f.work) (if_so (lists_nothing f.map) (Some NothingToFill))
+
+-- the pattern is longer than a cluster
+abbrev pub long_pattern : Facts → Option Advice
+long_pattern f = if_so (is_fill f.work) (if_known (length_of f.infile) (λ n.
+    if_so (nat_lt f.cluster n) (Some (LongPattern n f.cluster))))
+
+-- the infile is a device whose sectors have another size
+abbrev pub other_sector : Facts → Option Advice
+other_sector f = if_so (is_rescue f.work) (if_known (sector_of f.infile) (λ n.
+    if_so (not (nat_eq n f.sector)) (Some (OtherSector n f.sector))))
+
+-- the infile is a device, and its file system is mounted and may change
+abbrev pub mounted_infile : Facts → Option Advice
+mounted_infile f = if_so (is_rescue f.work) (if_so (is_writable (mount_of f.infile)) (Some MountedInfile))
+
+-- the outfile is a device that is mounted
+abbrev pub mounted_outfile : Facts → Option Advice
+mounted_outfile f = if_so (saves f.work) (if_so (is_mounted (mount_of f.outfile)) (Some MountedOutfile))
+
+-- how many whole sectors of a plan lie past the end of its test map
+abbrev pub sectors_past : Facts → (length end : ℕ) → ℕ
+sectors_past f length end = (asked_end f length - max end f.input_position) / f.sector
+
+-- a plan that reads each bad sector by itself has ten million of them or more past the end of its test map
+abbrev pub long_plan : Facts → Option Advice
+long_plan f = if_so (is_plan f.work) (if_so f.scrapes (if_so (nat_lt 0 f.sector)
+    (if_known (length_of f.infile) (λ n. if_known (end_of f.map) (λ e.
+    if_so (nat_le 10_000_000 (sectors_past f n e)) (Some (LongPlan e (sectors_past f n e))))))))
+
+-- nothing is finished that could be compared
+abbrev pub nothing_to_compare : Facts → Option Advice
+nothing_to_compare f = if_so (is_comparison f.work) (if_so (finishes_nothing f.input_position f.map)
+    (Some NothingToCompare))
+
+-- a rescue's mapfile is absent, and a GiB or more is asked for, whatever other maps say
+abbrev pub late_mapfile : Facts → Option Advice
+late_mapfile f = if_so (is_rescue f.work) (if_so (is_new f.map) (if_so (not f.complete_only) (if_so (not f.domain_map)
+    (if_known (length_of f.infile) (λ n.
+    if_so (nat_le 1_073_741_824 (asked_end f n - f.input_position)) (Some LateMapfile))))))
+
+-- when an advice of its kind is due, and with which numbers
+abbrev pub of_kind : Advice → Facts → Option Advice
+of_kind (OutfileShort _ _) = outfile_short
+of_kind (MapPastInfile _ _) = map_past_infile
+of_kind EmptyInfile = empty_infile
+of_kind (BeginsPastInfile _) = begins_past_infile
+of_kind NothingAsked = nothing_asked
+of_kind NothingListed = nothing_listed
+of_kind (NewMapfile _) = new_mapfile
+of_kind LinkedMapfile = linked_mapfile
+of_kind UnsafeMapfile = unsafe_mapfile
+of_kind NewOutfile = new_outfile
+of_kind NothingToFill = nothing_to_fill
+of_kind (LongPattern _ _) = long_pattern
+of_kind (OtherSector _ _) = other_sector
+of_kind MountedInfile = mounted_infile
+of_kind MountedOutfile = mounted_outfile
+of_kind (LongPlan _ _) = long_plan
+of_kind NothingToCompare = nothing_to_compare
+of_kind LateMapfile = late_mapfile
+
+-- an advice is due
+abbrev pub IsDue : Facts → Advice → Type 0
+IsDue f advice = of_kind advice f ≡ Some advice
+
+-- ---- the list
+
+-- an advice's place in the enum
+abbrev pub rank : Advice → ℕ
+rank (OutfileShort _ _) = 0
+rank (MapPastInfile _ _) = 1
+rank EmptyInfile = 2
+rank (BeginsPastInfile _) = 3
+rank NothingAsked = 4
+rank NothingListed = 5
+rank (NewMapfile _) = 6
+rank LinkedMapfile = 7
+rank UnsafeMapfile = 8
+rank NewOutfile = 9
+rank NothingToFill = 10
+rank (LongPattern _ _) = 11
+rank (OtherSector _ _) = 12
+rank MountedInfile = 13
+rank MountedOutfile = 14
+rank (LongPlan _ _) = 15
+rank NothingToCompare = 16
+rank LateMapfile = 17
+
+-- the kinds in the order of the enum, each as it is due
+abbrev pub kinds : Facts → List (Option Advice)
+kinds f = outfile_short f ∷ map_past_infile f ∷ empty_infile f ∷ begins_past_infile f ∷ nothing_asked f
+    ∷ nothing_listed f ∷ new_mapfile f ∷ linked_mapfile f ∷ unsafe_mapfile f ∷ new_outfile f ∷ nothing_to_fill f
+    ∷ long_pattern f ∷ other_sector f ∷ mounted_infile f ∷ mounted_outfile f ∷ long_plan f ∷ nothing_to_compare f
+    ∷ late_mapfile f ∷ []
+
+-- those that are due
+abbrev pub somes : List (Option Advice) → List Advice
+somes [] = []
+somes (Some a ∷ rest) = a ∷ somes rest
+somes (None ∷ rest) = somes rest
+
+-- advices stand in the order of the enum, each once at most, none of them before a place
+abbrev pub Ascends : ℕ → List Advice → Type 0
+Ascends from [] = ⊤
+Ascends from (a ∷ rest) = (from ≤ rank a) × Ascends (rank a + 1) rest
+
+-- what is said is what is due, in the order of the enum, each once
+pub record IsAdvice (f : Facts) (said : List Advice) : Type 0 where
+  pub due : All (IsDue f) said
+  pub whole : (a : Advice) → IsDue f a → Contains said a
+  pub order : Ascends 0 said

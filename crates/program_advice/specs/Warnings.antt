@@ -1,0 +1,67 @@
+-- The line of a warning.
+use Rattle.std.specs.Prelude.{ℕ, List, [], ◌∷◌, ◌++◌, map, codes}
+use Rattle.std.specs.Fmt.{decimal}
+use Rattle.program_advice.specs.declared.advice.Advice.{Advice}
+use Rattle.program_advice.specs.declared.advice.Advice.TheVariants.{OutfileShort, MapPastInfile, EmptyInfile, BeginsPastInfile, NothingAsked, NothingListed, NewMapfile, LinkedMapfile, UnsafeMapfile, NewOutfile, NothingToFill, LongPattern, OtherSector, MountedInfile, MountedOutfile, LongPlan, NothingToCompare, LateMapfile}
+use Rattle.program_advice.specs.declared.warning.Names.{Names}
+use Rattle.program_advice.specs.Lines.{quoted, shown_byte}
+
+-- a text, what a file is called, its name in quotes, and what is said of it
+abbrev pub file_said : (front role name says : List ℕ) → List ℕ
+file_said front role name says = front ++ role ++ quoted name ++ says
+
+-- a text, a number, and what is said of that
+abbrev pub number_said : List ℕ → ℕ → List ℕ → List ℕ
+number_said front n says = front ++ decimal n ++ says
+
+abbrev pub infile_said : List ℕ → Names → List ℕ → List ℕ
+infile_said front names says = file_said front (codes "infile ") names.infile.now says
+
+abbrev pub outfile_said : List ℕ → Names → List ℕ → List ℕ
+outfile_said front names says = file_said front (codes "outfile ") names.outfile.now says
+
+abbrev pub mapfile_said : List ℕ → Names → List ℕ → List ℕ
+mapfile_said front names says = file_said front (codes "mapfile ") names.mapfile.now says
+
+-- a text, and what is said of an advice
+abbrev pub advice_said : List ℕ → Names → Advice → List ℕ
+advice_said front names (OutfileShort n e) =
+    number_said (number_said (outfile_said front names (codes " has ")) n
+    (codes " B, but the mapfile calls positions up to ")) e
+    (codes " finished: what is missing won't be read again; delete the mapfile, or compare by ddrescueverify")
+advice_said front names (MapPastInfile e n) =
+    number_said (number_said (infile_said front names (codes " ends at ")) n
+    (codes ", and the mapfile reaches to ")) e (codes ": is it the same disk?")
+advice_said front names EmptyInfile = infile_said front names (codes " has no bytes")
+advice_said front names (BeginsPastInfile n) = number_said (infile_said front names (codes " ends at ")) n
+    (codes ", and option -i begins no earlier: there is nothing to read")
+advice_said front names NothingAsked = front ++ codes "option -s asks for 0 B"
+advice_said front names NothingListed = front ++ codes "option -C takes only what the mapfile lists, and it lists nothing"
+advice_said front names (NewMapfile n) =
+    number_said (mapfile_said front names (codes " doesn't exist yet, but the outfile has ")) n (codes " B: is its name right?")
+advice_said front names LinkedMapfile =
+    mapfile_said front names (codes " is a link, and the first save puts a file in its place")
+advice_said front names UnsafeMapfile =
+    mapfile_said front names (codes " lies on a file system without a journal: a power cut may damage it")
+advice_said front names NewOutfile = outfile_said front names (codes " doesn't exist: fill mode makes a new one")
+advice_said front names NothingToFill = mapfile_said front names (codes " lists nothing, so fill mode writes nothing")
+advice_said front names (LongPattern n c) =
+    number_said (number_said (infile_said front names (codes " has ")) n
+    (codes " B, and fill mode repeats only the first ")) c (codes ": are infile and outfile swapped?")
+advice_said front names (OtherSector n b) =
+    number_said (number_said (infile_said front names (codes " has sectors of ")) n
+    (codes " B, and option -b takes them for ")) b (codes " B")
+advice_said front names MountedInfile = infile_said front names (codes " is mounted for writing: unmount it")
+advice_said front names MountedOutfile =
+    outfile_said front names (codes " is mounted: unmount it, or its file system will be damaged")
+advice_said front names (LongPlan e n) =
+    number_said (number_said (mapfile_said (front ++ codes "test ") names (codes " ends at ")) e
+    (codes ", and nothing past it can be read: the plan has at least ")) n (codes " reads")
+advice_said front names NothingToCompare =
+    mapfile_said front names (codes " calls nothing finished that is to be compared")
+advice_said front names LateMapfile =
+    mapfile_said front names (codes " is saved for the first time after 30 s: a stop before that leaves none")
+
+-- the line of a warning: the program's name, what is said, each control character as a question mark, and a newline
+abbrev pub warning_text : List ℕ → Names → Advice → List ℕ
+warning_text program names advice = map shown_byte (advice_said (program ++ codes ": warning: ") names advice) ++ 10 ∷ []

@@ -1,0 +1,86 @@
+//! What is known before a run: what the command asks for, and what was read without changing anything.
+
+/// What a program is to do.
+#[derive(Clone, Copy, Debug, PartialEq, Eq)]
+pub enum Work {
+    Rescue,
+    Fill,
+    Generate,
+    Comparison,
+    Plan,
+}
+
+/// How a device's file system is mounted.
+#[derive(Clone, Copy, Debug, PartialEq, Eq)]
+pub enum Mount {
+    ReadOnly,
+    Writable,
+}
+
+/// What a name reaches. Lengths and sizes are in bytes.
+#[derive(Clone, Copy, Debug, PartialEq, Eq)]
+pub enum Found {
+    Absent,
+    Regular {
+        length: u64,
+    },
+    /// A block device.
+    Device {
+        length: Option<u64>,
+        /// The size of its own sectors.
+        sector: Option<u64>,
+        /// None if it isn't known to be mounted.
+        mount: Option<Mount>,
+    },
+}
+
+/// Where a mapfile's last finished block ends.
+#[derive(Clone, Copy, Debug, PartialEq, Eq)]
+pub enum Finished {
+    /// No block is finished.
+    Nowhere,
+    UpTo(u64),
+}
+
+/// What a mapfile's text says.
+#[derive(Clone, Copy, Debug, PartialEq, Eq)]
+pub enum MapText {
+    NoFile,
+    NoBlock,
+    Blocks {
+        /// Where the last block ends.
+        end: u64,
+        finished: Option<Finished>,
+    },
+}
+
+/// What is known before a run. None stands for what isn't known.
+#[derive(Clone, Copy, Debug, PartialEq, Eq)]
+pub struct Facts {
+    pub work: Work,
+    /// Where the work begins in the infile, in bytes.
+    pub input_position: u64,
+    /// Where it begins in the outfile.
+    pub output_position: u64,
+    /// The most bytes that are asked for, if an option says so.
+    pub size: Option<u64>,
+    /// The size of a sector in bytes.
+    pub sector: u64,
+    /// The size of a cluster in bytes.
+    pub cluster: u64,
+    /// Only what the mapfile lists is asked for.
+    pub complete_only: bool,
+    /// Only what is finished in another map is asked for.
+    pub domain_map: bool,
+    /// Each bad sector is read by itself: nothing leaves out trimming or scraping.
+    pub scrapes: bool,
+    /// The infile, or of a plan a file of its length.
+    pub infile: Option<Found>,
+    pub outfile: Option<Found>,
+    /// The text of the mapfile, or of a plan that of its test map.
+    pub map: Option<MapText>,
+    /// The mapfile's name is known to be a link.
+    pub map_is_link: bool,
+    /// The mapfile is known to lie on a file system without a journal.
+    pub map_has_no_journal: bool,
+}

@@ -1,0 +1,170 @@
+//! The line of a warning.
+ghost use Rattle.std.specs.Prelude.{◌≡◌, ◌+◌, ◌≤◌, ◌++◌, length};
+ghost use Rattle.std.specs.Fmt.{decimal};
+ghost use Rattle.arrayvec.specs.ArrayVec.{array_vec_len};
+ghost use Rattle.program_advice.specs.Lines.{IsOneLine};
+ghost use Rattle.program_advice.specs.Warnings.{advice_said, file_said, number_said, warning_text};
+
+use crate::advice::Advice;
+use crate::line::{Line, add, add_quoted, finished};
+use itoa::Buffer;
+
+/// The names of the command line; empty where there is none.
+#[derive(Clone, Copy)]
+pub struct Names<'a> {
+    pub infile: &'a str,
+    pub outfile: &'a str,
+    /// Of a plan its test map.
+    pub mapfile: &'a str,
+}
+
+/// Adds what is said of a file.
+fn say_of(line: &mut Line, role: &str, name: &str, says: &str)
+    requires role { array_vec_len line.old + length role.now ≤ 60 }
+    requires says { length says.now ≤ 80 }
+    ensures text { line.new.items ≡ file_said line.old.items role.now name.now says.now }
+    ensures len { array_vec_len line.new ≤ array_vec_len line.old + length role.now + length says.now + 154 }
+{
+    add(line, role);
+    add_quoted(line, name);
+    add(line, says);
+}
+
+/// Adds a number, and what is said of it.
+fn say_number(line: &mut Line, n: u64, says: &str)
+    requires { array_vec_len line.old + length says.now ≤ 491 }
+    ensures text { line.new.items ≡ number_said line.old.items n says.now }
+    ensures len { array_vec_len line.new ≤ array_vec_len line.old + length says.now + 20 }
+{
+    add(line, Buffer::new().format(n));
+    add(line, says);
+}
+
+/// Adds what is said of a warning.
+fn say(line: &mut Line, names: Names<'_>, advice: Advice)
+    requires { array_vec_len line.old ≤ 29 }
+    ensures text { line.new.items ≡ advice_said line.old.items names.entry advice }
+    ensures len { array_vec_len line.new ≤ 511 }
+{
+    match advice {
+        Advice::OutfileShort { length, finished } => {
+            say_of(line, "outfile ", names.outfile, " has ");
+            say_number(line, length, " B, but the mapfile calls positions up to ");
+            say_number(
+                line,
+                finished,
+                " finished: what is missing won't be read again; delete the mapfile, or compare by ddrescueverify",
+            );
+        }
+        Advice::MapPastInfile { end, length } => {
+            say_of(line, "infile ", names.infile, " ends at ");
+            say_number(line, length, ", and the mapfile reaches to ");
+            say_number(line, end, ": is it the same disk?");
+        }
+        Advice::EmptyInfile => say_of(line, "infile ", names.infile, " has no bytes"),
+        Advice::BeginsPastInfile { length } => {
+            say_of(line, "infile ", names.infile, " ends at ");
+            say_number(
+                line,
+                length,
+                ", and option -i begins no earlier: there is nothing to read",
+            );
+        }
+        Advice::NothingAsked => add(line, "option -s asks for 0 B"),
+        Advice::NothingListed => add(
+            line,
+            "option -C takes only what the mapfile lists, and it lists nothing",
+        ),
+        Advice::NewMapfile { length } => {
+            say_of(
+                line,
+                "mapfile ",
+                names.mapfile,
+                " doesn't exist yet, but the outfile has ",
+            );
+            say_number(line, length, " B: is its name right?");
+        }
+        Advice::LinkedMapfile => say_of(
+            line,
+            "mapfile ",
+            names.mapfile,
+            " is a link, and the first save puts a file in its place",
+        ),
+        Advice::UnsafeMapfile => say_of(
+            line,
+            "mapfile ",
+            names.mapfile,
+            " lies on a file system without a journal: a power cut may damage it",
+        ),
+        Advice::NewOutfile => say_of(
+            line,
+            "outfile ",
+            names.outfile,
+            " doesn't exist: fill mode makes a new one",
+        ),
+        Advice::NothingToFill => say_of(
+            line,
+            "mapfile ",
+            names.mapfile,
+            " lists nothing, so fill mode writes nothing",
+        ),
+        Advice::LongPattern { length, cluster } => {
+            say_of(line, "infile ", names.infile, " has ");
+            say_number(line, length, " B, and fill mode repeats only the first ");
+            say_number(line, cluster, ": are infile and outfile swapped?");
+        }
+        Advice::OtherSector { own, sector } => {
+            say_of(line, "infile ", names.infile, " has sectors of ");
+            say_number(line, own, " B, and option -b takes them for ");
+            say_number(line, sector, " B");
+        }
+        Advice::MountedInfile => say_of(
+            line,
+            "infile ",
+            names.infile,
+            " is mounted for writing: unmount it",
+        ),
+        Advice::MountedOutfile => say_of(
+            line,
+            "outfile ",
+            names.outfile,
+            " is mounted: unmount it, or its file system will be damaged",
+        ),
+        Advice::LongPlan { end, reads } => {
+            add(line, "test ");
+            say_of(line, "mapfile ", names.mapfile, " ends at ");
+            say_number(
+                line,
+                end,
+                ", and nothing past it can be read: the plan has at least ",
+            );
+            say_number(line, reads, " reads");
+        }
+        Advice::NothingToCompare => say_of(
+            line,
+            "mapfile ",
+            names.mapfile,
+            " calls nothing finished that is to be compared",
+        ),
+        Advice::LateMapfile => say_of(
+            line,
+            "mapfile ",
+            names.mapfile,
+            " is saved for the first time after 30 s: a stop before that leaves none",
+        ),
+    }
+}
+
+/// The line of a warning, which a program of this name puts before a run. No line has more than 512 bytes, and none has
+/// a control character before its newline.
+pub fn line_of_advice(program: &str, names: Names<'_>, advice: Advice) -> Line
+    requires { length program.now ≤ 18 }
+    ensures text { result.items ≡ warning_text program.now names.entry advice }
+    ensures line { IsOneLine result.items }
+{
+    let mut text = Line::new();
+    add(&mut text, program);
+    add(&mut text, ": warning: ");
+    say(&mut text, names, advice);
+    finished(&text)
+}
