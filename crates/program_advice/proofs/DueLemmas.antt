@@ -136,7 +136,7 @@ long_pattern_only f =
 other_sector_only : (f : Facts) → Only (IsOf f 12 (other_sector f)) (other_sector f)
 other_sector_only f =
     let P = IsOf f 12 (other_sector f) in
-    so P (is_rescue f.work) _ (of P (sector_of f.infile) _ (λ n. so P (not (nat_eq n f.sector)) _ (
+    so P (is_rescue f.work) _ (of P (sector_of f.infile) _ (λ n. so P (nat_lt f.sector n) _ (
     one P (OtherSector n f.sector) (refl, refl))))
 
 mounted_infile_only : (f : Facts) → Only (IsOf f 13 (mounted_infile f)) (mounted_infile f)

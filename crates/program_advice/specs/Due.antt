@@ -157,7 +157,7 @@ abbrev pub within : ℕ → Option ℕ → Bool
 within n (Some most) = nat_le n most
 within n None = true
 
--- where the positions end that are asked for, of so many
+-- where the positions end that are asked for, of this many
 abbrev pub asked_end : Facts → ℕ → ℕ
 asked_end f length = elim f.size as (λ _. ℕ) [ Some size ↦ min length (f.input_position + size) | None ↦ length ]
 
@@ -230,10 +230,10 @@ abbrev pub long_pattern : Facts → Option Advice
 long_pattern f = if_so (is_fill f.work) (if_known (length_of f.infile) (λ n.
     if_so (nat_lt f.cluster n) (Some (LongPattern n f.cluster))))
 
--- the infile is a device whose sectors have another size
+-- the infile is a device whose sectors are larger than the run takes them to be
 abbrev pub other_sector : Facts → Option Advice
 other_sector f = if_so (is_rescue f.work) (if_known (sector_of f.infile) (λ n.
-    if_so (not (nat_eq n f.sector)) (Some (OtherSector n f.sector))))
+    if_so (nat_lt f.sector n) (Some (OtherSector n f.sector))))
 
 -- the infile is a device, and its file system is mounted and may change
 abbrev pub mounted_infile : Facts → Option Advice
@@ -325,12 +325,12 @@ somes [] = []
 somes (Some a ∷ rest) = a ∷ somes rest
 somes (None ∷ rest) = somes rest
 
--- advices stand in the order of the enum, each once at most, none of them before a place
+-- advices are in the order of the enum, each once at most, none of them before a place
 abbrev pub Ascends : ℕ → List Advice → Type 0
 Ascends from [] = ⊤
 Ascends from (a ∷ rest) = (from ≤ rank a) × Ascends (rank a + 1) rest
 
--- what is said is what is due, in the order of the enum, each once
+-- the list is what is due, in the order of the enum, each once
 pub record IsAdvice (f : Facts) (said : List Advice) : Type 0 where
   pub due : All (IsDue f) said
   pub whole : (a : Advice) → IsDue f a → Contains said a

@@ -36,7 +36,7 @@ room_text true = codes ", which goes on from the last saved map"
 abbrev pub unsaved_text : (name reason : List ℕ) → List ℕ
 unsaved_text name reason = codes "cannot save " ++ quoted name ++ codes ": " ++ cut 60 reason
 
--- what is said of bytes that a run left
+-- the advice on bytes that a run left
 abbrev pub left_text : Bool → List ℕ
 left_text false = codes " B weren't read; with option -r 3 the same command tries the bad sectors again"
 left_text true = codes " B weren't read; without -n and -N the same command goes on with them"

@@ -6,11 +6,11 @@ use Rattle.program_advice.specs.declared.advice.Advice.TheVariants.{OutfileShort
 use Rattle.program_advice.specs.declared.warning.Names.{Names}
 use Rattle.program_advice.specs.Lines.{quoted, shown_byte}
 
--- a text, what a file is called, its name in quotes, and what is said of it
+-- a text, what a file is called, its name in quotes, and the text after it
 abbrev pub file_said : (front role name says : List ℕ) → List ℕ
 file_said front role name says = front ++ role ++ quoted name ++ says
 
--- a text, a number, and what is said of that
+-- a text, a number, and the text after it
 abbrev pub number_said : List ℕ → ℕ → List ℕ → List ℕ
 number_said front n says = front ++ decimal n ++ says
 
@@ -23,7 +23,7 @@ outfile_said front names says = file_said front (codes "outfile ") names.outfile
 abbrev pub mapfile_said : List ℕ → Names → List ℕ → List ℕ
 mapfile_said front names says = file_said front (codes "mapfile ") names.mapfile.now says
 
--- a text, and what is said of an advice
+-- a text, and the text of an advice
 abbrev pub advice_said : List ℕ → Names → Advice → List ℕ
 advice_said front names (OutfileShort n e) =
     number_said (number_said (outfile_said front names (codes " has ")) n
@@ -62,6 +62,6 @@ advice_said front names NothingToCompare =
 advice_said front names LateMapfile =
     mapfile_said front names (codes " is saved for the first time after 30 s: a stop before that leaves none")
 
--- the line of a warning: the program's name, what is said, each control character as a question mark, and a newline
+-- the line of a warning: the program's name, the text, each control character as a question mark, and a newline
 abbrev pub warning_text : List ℕ → Names → Advice → List ℕ
 warning_text program names advice = map shown_byte (advice_said (program ++ codes ": warning: ") names advice) ++ 10 ∷ []

@@ -25,7 +25,7 @@ pub enum Advice {
     NewOutfile,
     NothingToFill,
     LongPattern { length: u64, cluster: u64 },
-    /// The infile's own sectors have another size than those of the rescue.
+    /// The infile's own sectors are larger than those of the rescue.
     OtherSector { own: u64, sector: u64 },
     MountedInfile,
     MountedOutfile,
@@ -242,7 +242,7 @@ fn within(n: u64, most: Option<u64>) -> bool
     }
 }
 
-/// Where the positions end that are asked for, of so many.
+/// Where the positions end that are asked for, of this many.
 fn asked_end(facts: &Facts, length: u64) -> u64
     ensures { result ≡ asked_end facts.now length }
 {
@@ -402,7 +402,7 @@ fn other_sector(facts: &Facts) -> Option<Advice>
     }
     let own = sector_of(facts.infile)?;
     let sector = facts.sector;
-    if own == sector {
+    if own <= sector {
         return None;
     }
     Some(Advice::OtherSector { own, sector })

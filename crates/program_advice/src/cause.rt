@@ -134,7 +134,7 @@ pub enum Cause<'a> {
     Usage {
         usage: &'a str,
     },
-    /// A run that is done left so many bytes that failed.
+    /// A run that is done left this many bytes that failed.
     Left {
         bytes: u64,
         /// Options left out trimming or scraping.

@@ -91,7 +91,7 @@ fn add_unsaved(line: &mut Line, name: &str, reason: &str)
     add_cut(line, reason, 60);
 }
 
-/// Adds what is said of bytes that a run left.
+/// Adds the advice on bytes that a run left.
 fn add_left(line: &mut Line, bytes: u64, skips: bool)
     requires { array_vec_len line.old ≤ 20 }
     ensures text { line.new.items ≡ line.old.items ++ (decimal bytes ++ left_text skips) }

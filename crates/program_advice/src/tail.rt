@@ -15,7 +15,7 @@ use std::io::{Seek, SeekFrom};
 /// How many bytes are read at a time.
 const PIECE: usize = 65536;
 
-/// How many pieces are read at most, of which each is in front of the one before.
+/// How many pieces are read at most, of which each comes before the last one.
 const PIECES: usize = 16;
 
 /// A status line, in place of that of a mapfile whose front isn't read.
@@ -84,7 +84,7 @@ fn text_of(end: Option<u64>, finished: Option<Finished>) -> MapText {
 }
 
 impl Tail {
-    /// Puts the blocks of a piece in front of those that were read. None if they don't end where those begin.
+    /// Puts the blocks of a piece before those that were read. None if they don't end where those begin.
     fn put(&mut self, map: &ReadMap) -> Option<()> {
         let end = map.tiles.end();
         if let Some(begin) = self.begin {
@@ -115,7 +115,7 @@ impl Tail {
         }
     }
 
-    /// Reads the piece in front of what was read. None if it can't be read, or is no map's.
+    /// Reads the piece before what was read. None if it can't be read, or is no map's.
     fn read_piece(&mut self, alloc: Global, file: &mut File, room: &mut [u8]) -> Option<Step> {
         let count = self.from.min(room.len() as u64) as usize;
         let start = self.from - count as u64;
@@ -137,7 +137,7 @@ impl Tail {
     }
 }
 
-/// What a mapfile of so many bytes says, if it is a map as far as it is read.
+/// What a mapfile of this many bytes says, if it is a map as far as it is read.
 fn read_tail(alloc: Global, mut file: File, length: u64) -> Option<MapText> {
     let mut room = vec![in alloc; 0; PIECE].ok()?;
     let mut tail = Tail {
@@ -157,7 +157,7 @@ fn read_tail(alloc: Global, mut file: File, length: u64) -> Option<MapText> {
     })
 }
 
-/// What the mapfile of a name says, if that is known. Only the last piece of a long one is read, or so many that one of
+/// What the mapfile of a name says, if that is known. Only the last piece of a long one is read, or as many, until one of
 /// them has a finished block.
 pub fn look_at_map(rt: &HostRuntime, name: &str) -> Option<MapText> {
     let Some(found) = if_there(fs::metadata(rt, name)).ok()? else {

@@ -18,7 +18,7 @@ pub struct Names<'a> {
     pub mapfile: &'a str,
 }
 
-/// Adds what is said of a file.
+/// Adds the part of a line on a file.
 fn say_of(line: &mut Line, role: &str, name: &str, says: &str)
     requires role { array_vec_len line.old + length role.now ≤ 60 }
     requires says { length says.now ≤ 80 }
@@ -30,7 +30,7 @@ fn say_of(line: &mut Line, role: &str, name: &str, says: &str)
     add(line, says);
 }
 
-/// Adds a number, and what is said of it.
+/// Adds a number, and the text after it.
 fn say_number(line: &mut Line, n: u64, says: &str)
     requires { array_vec_len line.old + length says.now ≤ 491 }
     ensures text { line.new.items ≡ number_said line.old.items n says.now }
@@ -40,7 +40,7 @@ fn say_number(line: &mut Line, n: u64, says: &str)
     add(line, says);
 }
 
-/// Adds what is said of a warning.
+/// Adds the text of a warning.
 fn say(line: &mut Line, names: Names<'_>, advice: Advice)
     requires { array_vec_len line.old ≤ 29 }
     ensures text { line.new.items ≡ advice_said line.old.items names.entry advice }
