@@ -157,8 +157,8 @@ fn read_tail(alloc: Global, mut file: File, length: u64) -> Option<MapText> {
     })
 }
 
-/// What the mapfile of a name says, if that is known. Only the last piece of a long one is read, or as many, until one of
-/// them has a finished block.
+/// What the mapfile of a name says, if that is known. Of a long one it reads pieces from its end, until one of them has a
+/// finished block.
 pub fn look_at_map(rt: &HostRuntime, name: &str) -> Option<MapText> {
     let Some(found) = if_there(fs::metadata(rt, name)).ok()? else {
         return Some(MapText::NoFile);
