@@ -11,9 +11,9 @@ use Rattle.save_resume.specs.Saving.{drafting_after_fault}
 use Rattle.option_words.specs.declared.fault.WordFault.TheVariants.{NoMemory as WordNoMemory}
 use Rattle.option_words.specs.declared.fault.UsageFault.{UsageFault}
 use Rattle.option_words.specs.declared.fault.UsageFault.TheVariants.{Word, BadValue, Conflict, Modes, Operands, PlaceTooLarge}
-use Rattle.fault_texts.specs.Texts.{usage_text, error_text, fault_text, at_line, message_of}
-use Rattle.program_promise.specs.Kinds.{Kind, Brought, Wrong, AtCall, AtTake, AtPut, is_silent_kind}
-use Rattle.program_promise.specs.Rows.{AnswerRow, asked_row, brought_row, failed_row, only_where, starved_row}
+use Rattle.fault_texts.specs.Texts.{error_text, fault_text, at_line, message_of}
+use Rattle.program_promise.specs.Kinds.{AtCall, AtTake, AtPut, is_silent_kind}
+use Rattle.program_promise.specs.Rows.{AnswerRow, asked_row, brought_row, failed_row, only_where, starved_row, usage_row}
 use Rattle.ddrescuelog_words.specs.Modes.{creates}
 use Rattle.ddrescuelog_words.specs.Command.{Command}
 use Rattle.ddrescuelog_cli.specs.declared.ending.Which.{Which}
@@ -34,18 +34,6 @@ which_text OtherMap = codes "other mapfile"
 -- why a map is refused
 abbrev pub map_error_text : Which → MapError → List ℕ
 map_error_text which error = which_text which ++ codes ": " ++ error_text error
-
--- a fault of words that ask for nothing; a place is looked at after the words
-abbrev pub usage_kind : UsageFault → Kind
-usage_kind (Word fault) = Wrong (Word fault)
-usage_kind (BadValue n) = Wrong (BadValue n)
-usage_kind (Conflict n) = Wrong (Conflict n)
-usage_kind (Modes given) = Wrong (Modes given)
-usage_kind (Operands given) = Wrong (Operands given)
-usage_kind PlaceTooLarge = Brought
-
-abbrev pub usage_row : UsageFault → AnswerRow
-usage_row fault = record { kind = usage_kind fault; status = 1; text = usage_text fault; also = ⊤ }
 
 -- Want of memory isn't told as an error of a map.
 abbrev pub row_of : LogEnding → AnswerRow

@@ -6,20 +6,10 @@ use Rattle.option_values.specs.Grammar.{AskFor, AreRefusedBy, AskSilence}
 use Rattle.rescue_console.specs.declared.console.Channel.TheVariants.{Err}
 use Rattle.rescue_console.specs.ConsoleState.{Puts, PutsPart}
 use Rattle.work_rules.specs.Work.{Deeds, Works}
-use Rattle.program_promise.specs.World.{WorldState, with_console}
+use Rattle.program_promise.specs.World.{WorldState, Told, with_console}
 use Rattle.program_promise.specs.Kinds.{Kind, Asked, Brought, Wrong, Failed, Starved}
 use Rattle.program_promise.specs.Causes.{Changed, changes_of}
 use Rattle.program_promise.specs.Program.{Program, is_silent_of, kind_of, line_by, message_by}
-
--- the words, the answer, and what all objects tell before the call and after it
-pub record Told (E : Type 0) : Type 0 where
-  pub words : List (List ℕ)
-  pub answer : E
-  pub before : WorldState
-  pub after : WorldState
-
-abbrev pub told : {E : Type 0} → (words : List (List ℕ)) → E → (before after : WorldState) → Told E
-told words answer before after = record { words = words; answer = answer; before = before; after = after }
 
 module _ {C E O : Type 0} (p : Program C E O) where
   -- the words ask for something, which may be answered so
@@ -43,7 +33,7 @@ module _ {C E O : Type 0} (p : Program C E O) where
     pub outside : O
     pub did : Deeds
     pub agrees : p.Agrees c outside did old new
-    pub work : Works p.faults (p.rows c outside) (p.Run c outside) e did
+    pub work : Works p.faults (p.rows c outside) (p.Run c line outside) e did
     pub leaves : p.Leaves c line outside e did old new
 
   -- The same, with the cause that the answer's row says, and with what stays.
@@ -53,15 +43,20 @@ module _ {C E O : Type 0} (p : Program C E O) where
     pub also : (p.row e).also
     pub keeps : p.Keeps e old new
 
-  -- What was done for the words of a call, before anything is said of the answer; `quiet` says whether nothing is to be
-  -- said.
-  pub record IsDone (words : List (List ℕ)) (e : E) (quiet : Bool) (old new : WorldState) : Type 0 where
+  -- What was done for the words of a call. Words that ask for nothing are refused, whatever the objects tell; only memory
+  -- may run out before. Each answer has its cause, and whatever more its row says. If the words ask for something that is
+  -- done, and else nothing.
+  pub record Does (words : List (List ℕ)) (e : E) (old new : WorldState) : Type 0 where
     pub words_are : SaysOfWords (kind_of p e) e words
     pub cause : Changed (changes_of (kind_of p e)) old new
     pub also : (p.row e).also
     pub asked_for : (c : C) → AskFor p.grammar words c → DoneFor c (line_by p words) e old new
     pub nothing : ((c : C) → AskFor p.grammar words c → ⊥) → new ≡ old
     pub keeps : p.Keeps e old new
+
+  -- The same before anything is said of the answer; `quiet` says whether nothing is to be said.
+  pub record IsDone (words : List (List ℕ)) (e : E) (quiet : Bool) (old new : WorldState) : Type 0 where
+    pub does : Does words e old new
     -- Nothing is to be said only if the words ask for that. Something is to be said though they ask for that only if
     -- memory ran out before they were read, and nothing was touched.
     pub silent : quiet ≡ true → AskSilence p.grammar words
