@@ -3,16 +3,14 @@ pub mod EarlyCut
 pub mod EarlyStops
 pub mod GoesLemmas
 pub mod LateLemmas
+pub mod MadeLemmas
 pub mod PromiseLemmas
 pub mod RefusalLemmas
 pub mod RowLemmas
-pub mod SampleLemmas
-pub mod SaysLemmas
 pub mod SpareLemmas
 pub mod StillLemmas
 pub mod SweepGoes
 pub mod SweepSafely
 pub mod SweepWay
-pub mod SweepWords
 pub mod TaskLemmas
 pub mod WordFaults

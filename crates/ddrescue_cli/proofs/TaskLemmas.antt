@@ -1,27 +1,42 @@
--- The promise of a task over files, by what was done for it.
+-- What is done and said for a task over files, by what its work did.
 use Rattle.std.proofs.Common.{◌≡◌, ℕ, Bool, not, List, Option, Some, None, refl, sym, ap, ◌∙◌, subst}
 use Rattle.mapfile_text.specs.HeadingLines.{HeadingLines}
 use Rattle.option_words.specs.Words.{command_line}
-use Rattle.rescue_console.specs.ConsoleState.{ConsoleState}
-use Rattle.rescue_console.specs.Speaking.{SpeaksOn}
+use Rattle.option_words.specs.declared.fault.UsageFault.{UsageFault}
+use Rattle.option_words.specs.declared.fault.UsageFault.TheVariants.{PlaceTooLarge}
+use Rattle.faulty_source.specs.SourceChanges.{Keeps as SourceKeeps}
+use Rattle.crash_site.specs.SiteChanges.{Keeps as SiteKeeps}
+use Rattle.rescue_console.specs.ClockState.{Keeps as ClockKeeps}
+use Rattle.rescue_console.specs.FeedState.{FeedState}
+use Rattle.rescue_rules.specs.declared.stop.Stop.{Stop}
+use Rattle.rescue_rules.specs.declared.stop.Stop.TheVariants.{SourceLost as InputLost}
 use Rattle.rescue_rules.specs.Snapshots.{heading_at}
 use Rattle.save_resume.specs.MapNames.{MapNames}
 use Rattle.ddrescue_words.specs.declared.command.Task.{Task as TaskCode}
-use Rattle.ddrescue_words.specs.Command.{Command, Sample}
+use Rattle.ddrescue_words.specs.Command.{Command, Task, Rescue, Fill, Generate, Sample}
 use Rattle.ddrescue_words.specs.Asking.{AreInLimits, AskSample, IsAsked, IsInLimits, IsTask, is_quiet, told_by}
 use Rattle.ddrescue_cli.specs.declared.aim.Aim.{Aim}
 use Rattle.ddrescue_cli.specs.declared.aim.Aim.TheVariants.{Rescue as ToRescue, Fill as ToFill, Generate as ToGenerate}
 use Rattle.task_files.specs.declared.checked.CheckedCommand.{CheckedCommand}
-use Rattle.ddrescue_cli.specs.Messages.{message_pieces}
+use Rattle.program_promise.specs.Kinds.{Kind, Failed}
+use Rattle.program_promise.specs.Rows.{usage_kind}
+use Rattle.program_promise.specs.Causes.{changes_of}
+use Rattle.program_promise.specs.World.{WorldState, with_console}
+use Rattle.program_promise.specs.Program.{line_by}
+use Rattle.program_promise.specs.Promise.{DoneFor, Worked}
+use Rattle.task_files.specs.declared.ending.Ending.{Ending}
+use Rattle.task_files.specs.declared.ending.Ending.TheVariants.{Usage, SiteFault}
 use Rattle.task_files.specs.Names.{first_same, AreNamedApart, program_name}
 use Rattle.task_files.specs.Asked.{names_by}
-use Rattle.ddrescue_cli.specs.Told.{Told}
-use Rattle.task_files.specs.Answers.{files_of_task}
-use Rattle.ddrescue_cli.specs.Aims.{IsNamedFor, task_for, WorkedFor}
+use Rattle.task_files.specs.Answers.{Causes, drafting_left, failure_after, files_of_task, row_of}
 use Rattle.task_files.specs.Steps.{IsPlanned}
-use Rattle.ddrescue_cli.specs.Ddrescue.{Ddrescue}
+use Rattle.ddrescue_cli.specs.Aims.{IsNamedFor, task_for, WorkedFor}
+use Rattle.ddrescue_cli.specs.ToldParts.{across}
+use Rattle.ddrescue_cli.specs.Words.{same_of}
+use Rattle.ddrescue_cli.specs.Ddrescue.{TaskSaid, rescue_program}
 use Rattle.task_files.proofs.ApartLemmas.{apart_of}
-use Rattle.ddrescue_cli.proofs.PromiseLemmas.{Leaves, up_to, work_kept, fill_kept, generate_kept}
+use Rattle.ddrescue_cli.proofs.MadeLemmas.{task_said}
+use Rattle.ddrescue_cli.proofs.PromiseLemmas.{fill_done, generate_done, rescue_done}
 
 -- ---- what a task over files asks for
 
@@ -89,27 +104,81 @@ pub named_by_plan : (aim : Aim) (plan : CheckedCommand) (c : Command) (line : Li
     → IsInLimits (task_for aim c) → IsNamedFor aim (told_by plan.command)
 named_by_plan aim plan c line h limits = subst (IsNamedFor aim) (sym h.command) (named_for aim c limits)
 
--- ---- the promise
+-- ---- what is done and said
+
+-- what is said of a call besides its work
+pub record Leaves (e : Ending) (old new : WorldState) : Type 0 where
+  pub cause : Causes e old.source new.source old.site new.site
+  pub draft : new.site.is_drafting ≡ drafting_left e
+  pub source : SourceKeeps old.source new.source
+  pub site : SiteKeeps old.site new.site
+  pub clock : ClockKeeps old.clock new.clock
+
+-- no answer is for a feed or a put
+record AsksNoConsole (k : Kind) (n m : ℕ) : Type 0 where
+  takes : n ≡ (changes_of k).takes n
+  puts : m ≡ (changes_of k).puts m
+
+usage_apart : (fault : UsageFault) (n m : ℕ) → AsksNoConsole (usage_kind fault) n m
+usage_apart PlaceTooLarge n m = record { takes = refl; puts = refl }
+usage_apart fault n m = record { takes = refl; puts = refl }
+
+call_apart : (earlier : Option Stop) (n m : ℕ) → AsksNoConsole (Failed (failure_after earlier)) n m
+call_apart None n m = record { takes = refl; puts = refl }
+call_apart (Some InputLost) n m = record { takes = refl; puts = refl }
+call_apart (Some stop) n m = record { takes = refl; puts = refl }
+
+apart_by : (e : Ending) (n m : ℕ) → AsksNoConsole (row_of e).kind n m
+apart_by (Usage fault) n m = usage_apart fault n m
+apart_by (SiteFault call earlier) n m = call_apart earlier n m
+apart_by e n m = record { takes = refl; puts = refl }
+
+abbrev worked_by : (words : List (List ℕ)) (task : Task) (e : Ending) (old new : WorldState) → new.feed_ ≡ old.feed_
+    → DoneFor rescue_program task (line_by rescue_program words) e old (with_console new old.console) → Leaves e old new
+    → Worked rescue_program task words e old (with_console new old.console)
+worked_by words task e old new fed done l =
+    let apart = apart_by e old.feed_.faults old.console.out.faults in
+    record {
+      done = done;
+      cause = record {
+        opens = l.cause.opens;
+        reads = l.cause.reads;
+        calls = l.cause.calls;
+        takes = ap (λ (f : FeedState). f.faults) fed ∙ apart.takes;
+        puts = apart.puts;
+      };
+      also = l.cause.also;
+      keeps = record { draft = l.draft; source = l.source; site = l.site; clock = l.clock };
+    }
 
 -- by what was done for the words' own command and command line
-kept_for : (t : Told) (aim : Aim) (c : Command) (heard heard' : Bool) (between : ConsoleState)
-    → IsAsked t.words (task_for aim c) → first_same c.infile c.outfile (names_by c) ≡ None
-    → WorkedFor aim c (command_line program_name t.words) (not c.options.quiet) heard t.answer (up_to t between)
-    → Leaves t → SpeaksOn (message_pieces t.answer) heard heard' between t.console' → Ddrescue t
-kept_for t ToRescue c heard heard' between a different w l says = work_kept t c heard heard' between a different w l says
-kept_for t (ToFill types) c heard heard' between a different w l says =
-    fill_kept t types c heard heard' between a different w l says
-kept_for t ToGenerate c heard heard' between a different w l says =
-    generate_kept t c heard heard' between a different w l says
+said_for : (words : List (List ℕ)) (aim : Aim) (c : Command) (e : Ending) (heard : Bool) (old new : WorldState)
+    → IsAsked words (task_for aim c) → same_of c ≡ None
+    → WorkedFor aim c (command_line program_name words) (not c.options.quiet) heard e (across old new)
+    → new.feed_ ≡ old.feed_ → Leaves e old new → TaskSaid words e heard old new
+said_for words ToRescue c e heard old new a different w fed l =
+    task_said words (Rescue c) e heard old new a
+    (worked_by words (Rescue c) e old new fed
+    (rescue_done c (command_line program_name words) e old new different (not c.options.quiet) heard a.limits w) l) w.says
+said_for words (ToFill types) c e heard old new a different w fed l =
+    task_said words (Fill types c) e heard old new a
+    (worked_by words (Fill types c) e old new fed
+    (fill_done c (command_line program_name words) e old new different types (not c.options.quiet) heard a.limits w) l)
+    w.says
+said_for words ToGenerate c e heard old new a different w fed l =
+    task_said words (Generate c) e heard old new a
+    (worked_by words (Generate c) e old new fed
+    (generate_done c (command_line program_name words) e old new different (not c.options.quiet) heard a.limits w) l)
+    w.says
 
 -- by what was done by a plan that was made for it
-pub task_kept : (t : Told) (aim : Aim) (plan : CheckedCommand) (c : Command) (heard heard' : Bool) (between : ConsoleState)
-    → IsAsked t.words (task_for aim c) → IsMadeFor plan c (command_line program_name t.words)
-    → WorkedFor aim (told_by plan.command) plan.heading.line (not c.options.quiet) heard t.answer (up_to t between)
-    → Leaves t → SpeaksOn (message_pieces t.answer) heard heard' between t.console' → Ddrescue t
-task_kept t aim plan c heard heard' between a h w l says =
-    kept_for t aim c heard heard' between a h.different
-    (subst (λ (x : Command). WorkedFor aim x (command_line program_name t.words) (not c.options.quiet) heard t.answer
-    (up_to t between)) h.command
-    (subst (λ (x : List ℕ). WorkedFor aim (told_by plan.command) x (not c.options.quiet) heard t.answer
-    (up_to t between)) (line_made plan c (command_line program_name t.words) h) w)) l says
+pub plan_does : (words : List (List ℕ)) (aim : Aim) (plan : CheckedCommand) (c : Command) (e : Ending) (heard : Bool)
+    (old new : WorldState) → IsAsked words (task_for aim c) → IsMadeFor plan c (command_line program_name words)
+    → WorkedFor aim (told_by plan.command) plan.heading.line (not c.options.quiet) heard e (across old new)
+    → new.feed_ ≡ old.feed_ → Leaves e old new → TaskSaid words e heard old new
+plan_does words aim plan c e heard old new a h w fed l =
+    said_for words aim c e heard old new a h.different
+    (subst (λ (x : Command). WorkedFor aim x (command_line program_name words) (not c.options.quiet) heard e
+    (across old new)) h.command
+    (subst (λ (x : List ℕ). WorkedFor aim (told_by plan.command) x (not c.options.quiet) heard e (across old new))
+    (line_made plan c (command_line program_name words) h) w)) fed l

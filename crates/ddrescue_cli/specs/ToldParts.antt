@@ -6,27 +6,28 @@ use Rattle.crash_site.specs.SiteState.{files_in}
 use Rattle.rescue_rules.specs.Setting.{Setting}
 use Rattle.rescue_core.specs.Across.{Across}
 use Rattle.ddrescue_words.specs.Command.{Command}
+use Rattle.program_promise.specs.World.{WorldState}
 use Rattle.task_files.specs.Names.{program_name}
 use Rattle.task_files.specs.Asked.{setting_of}
 use Rattle.task_files.specs.Outside.{Outside}
 use Rattle.ddrescue_cli.specs.Told.{Told}
 
--- what is told of a call, without words and answer
-abbrev pub across_of : Told → Across
-across_of t = record {
-  source = t.source;
-  source' = t.source';
-  site = t.site;
-  site' = t.site';
-  clock = t.clock;
-  clock' = t.clock';
-  console = t.console;
-  console' = t.console';
+-- the objects of a run
+abbrev pub across : (old new : WorldState) → Across
+across old new = record {
+  source = old.source;
+  source' = new.source;
+  site = old.site;
+  site' = new.site;
+  clock = old.clock;
+  clock' = new.clock;
+  console = old.console;
+  console' = new.console;
 }
 
 -- the files as they read before the call
 abbrev pub files_of : Told → List ℕ → Option File
-files_of t = files_in t.site
+files_of t = files_in t.before.site
 
 -- what a command asks for of what was outside
 abbrev pub asked_of : Command → Told → Outside → Setting

@@ -1,5 +1,6 @@
 -- Nothing else ends a rescue than its end, a limit, a refusal, a failure or want of memory.
 use Rattle.std.proofs.Common.{◌≡◌, ◌≢◌, ℕ, Bool, true, false, if◌then◌else◌, List, Option, Some, None, is_none, inl, inr, refl, sym, ap, ◌∙◌}
+use Rattle.fault_count.specs.Counts.{raised}
 use Rattle.fault_count.proofs.CountLemmas.{not_risen}
 use Rattle.block_list.specs.declared.status.Status.{Status}
 use Rattle.mapfile_text.specs.declared.state.MapState.{MapState}
@@ -16,18 +17,21 @@ use Rattle.rescue_rules.specs.Step.{Event, limit_met}
 use Rattle.rescue_rules.specs.Moves.{state_after}
 use Rattle.rescue_rules.specs.Work.{Gain, Ends, IsSaved, IsUnsaved, IsBroken}
 use Rattle.work_rules.specs.Work.{Deeds}
+use Rattle.program_promise.specs.Kinds.{Failed}
+use Rattle.program_promise.specs.Causes.{changes_of}
 use Rattle.work_rules.specs.Verdicts.{AreVerdicts}
 use Rattle.work_rules.proofs.VerdictLemmas.{goes_to_run}
 use Rattle.ddrescue_words.specs.declared.options.Options.{Options}
 use Rattle.ddrescue_words.specs.Command.{Command, Rescue}
 use Rattle.task_files.specs.declared.ending.Ending.{Ending}
 use Rattle.task_files.specs.declared.ending.Ending.TheVariants.{SourceFault, SourceLost, SiteFault, NoMemory}
-use Rattle.task_files.specs.Answers.{Causes}
+use Rattle.task_files.specs.Answers.{Causes, failure_after}
 use Rattle.task_files.specs.Outside.{Outside}
+use Rattle.ddrescue_cli.specs.Tasks.{with_did}
 use Rattle.ddrescue_cli.specs.Told.{Told}
 use Rattle.ddrescue_cli.specs.ToldParts.{asked_of}
 use Rattle.task_files.specs.Work.{Rescues, RunsOver, answer_of, rescue_faults, rescue_rows}
-use Rattle.ddrescue_cli.specs.Ddrescue.{Promise}
+use Rattle.ddrescue_cli.specs.Ddrescue.{Ddrescue, TaskDone}
 use Rattle.ddrescue_laws.specs.Laws.{AreUnlimited, IsDoneOrLimited, NothingFailed, NothingIsRefused, IsDoneUnless}
 
 -- no answer of a failure, nor of want of memory
@@ -103,32 +107,40 @@ ran_itself o s statuses state lines e g none (inr ran) v =
     ends_itself o s _ _ ran.runs.spare g.calls e ran.end none ran.answer ran.runs.ends v
 
 -- where nothing is refused an answer of no fault is that of a run
-passed_itself : (t : Told) (c : Command) (p : Promise c t) → NothingIsRefused c p.outside → IsNoFault t.answer
+passed_itself : (t : Told) (c : Command) (p : TaskDone (Rescue c) t) → NothingIsRefused c (with_did p.outside p.did) → IsNoFault t.answer
     → IsDoneOrLimited c.options t.answer
 passed_itself t c p pass v =
-    let o : Outside = p.outside in
+    let o : Outside = with_did p.outside p.did in
     let run : Ending → Deeds → Type 0 = Rescues (asked_of c t o) o.found.mapfile o.lines in
     let ran : (did : Deeds) × run t.answer did =
-    goes_to_run rescue_faults IsNoFault no_faults (rescue_rows c o.found o.end) run pass t.answer o.did p.works v in
+    goes_to_run rescue_faults IsNoFault no_faults (rescue_rows c o.found o.end) run pass t.answer o.did p.work v in
     ran_itself c.options (asked_of c t o) ran.1.1.0 ran.1.1.1 o.lines t.answer ran.0.gain
     (λ set. record { errors = set.errors; areas = set.areas; time = set.time }) ran.1.1.3 v
 
+-- a call that failed is counted, whatever was before it
+call_rises : (earlier : Option Stop) (n : ℕ) → (changes_of (Failed (failure_after earlier))).calls n ≡ raised n
+call_rises None n = refl
+call_rises (Some InputLost) n = refl
+call_rises (Some stop) n = refl
+
+-- the cause of an answer
+pub caused : (t : Told) → Ddrescue t → Causes t.answer t.before.source t.after.source t.before.site t.after.site
+caused t d = record {
+  opens = d.does.cause.opens;
+  reads = d.does.cause.reads;
+  calls = d.does.cause.calls;
+  also = d.does.also;
+}
+
 -- what is left for an answer
 pub left_itself : (P : Ending → Type 0) (t : Told) (e : Ending) → NothingFailed t → (IsNoFault e → P e)
-    → Causes e t.source t.source' t.site t.site' → e ≢ NoMemory → P e
+    → Causes e t.before.source t.after.source t.before.site t.after.site → e ≢ NoMemory → P e
 left_itself P t SourceFault f itself cause room =
-    absurd (not_risen t.source.faults t.source'.faults f.opens_count f.opens cause.faults)
+    absurd (not_risen t.before.source.faults t.after.source.faults f.opens_count f.opens cause.opens)
 left_itself P t SourceLost f itself cause room =
-    absurd (not_risen t.source.losses t.source'.losses f.reads_count f.reads cause.losses_)
-left_itself P t (SiteFault call None) f itself cause room =
-    absurd (not_risen t.site.faults t.site'.faults f.calls_count f.calls cause.site_faults)
-left_itself P t (SiteFault call (Some InputLost)) f itself cause room =
-    absurd (not_risen t.site.faults t.site'.faults f.calls_count f.calls cause.site_faults)
-left_itself P t (SiteFault call (Some (Site before))) f itself cause room = absurd cause
-left_itself P t (SiteFault call (Some (Limited limit))) f itself cause room =
-    absurd (not_risen t.site.faults t.site'.faults f.calls_count f.calls cause.site_faults)
-left_itself P t (SiteFault call (Some NoRoom)) f itself cause room =
-    absurd (not_risen t.site.faults t.site'.faults f.calls_count f.calls cause.site_faults)
+    absurd (not_risen t.before.source.losses t.after.source.losses f.reads_count f.reads cause.reads)
+left_itself P t (SiteFault call earlier) f itself cause room =
+    absurd (not_risen t.before.site.faults t.after.site.faults f.calls_count f.calls (cause.calls ∙ call_rises earlier t.before.site.faults))
 left_itself P t NoMemory f itself cause room = absurd (room refl)
 left_itself P t e f itself cause room =
     itself (record { opened = λ is. cc; kept = λ is. cc; room = λ is. cc; call = λ call earlier is. cc })
@@ -136,4 +148,4 @@ left_itself P t e f itself cause room =
 pub is_done_unless : IsDoneUnless
 is_done_unless t c d asks failed pass room =
     left_itself (λ (e : Ending). IsDoneOrLimited c.options e) t t.answer failed
-    (passed_itself t c (d.asked_for (Rescue c) asks) pass) d.cause room
+    (passed_itself t c (d.does.asked_for (Rescue c) asks) pass) (caused t d) room

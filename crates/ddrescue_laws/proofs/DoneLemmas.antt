@@ -51,13 +51,14 @@ use Rattle.rescue_rules.proofs.GoesLemmas.{timed}
 use Rattle.task_files.specs.Names.{program_name}
 use Rattle.task_files.specs.Asked.{Maps, setting_of}
 use Rattle.ddrescue_cli.proofs.AskedLemmas.{sensible_to}
+use Rattle.ddrescue_cli.specs.Tasks.{with_did}
 use Rattle.ddrescue_cli.specs.Told.{Told, calls_before}
 use Rattle.ddrescue_cli.specs.ToldParts.{files_of, asked_of}
 use Rattle.work_rules.specs.Work.{Deeds, Works, with_calls, with_opens}
 use Rattle.task_files.specs.Maps.{Found, file_of, found_in, mapfile_of}
 use Rattle.task_files.specs.Outside.{Outside}
 use Rattle.task_files.specs.Work.{answer_of, Rescues, RunsOver, rescue_faults, rescue_rows, worked_rows, barrier_of}
-use Rattle.ddrescue_cli.specs.Ddrescue.{Promise, Ddrescue}
+use Rattle.ddrescue_cli.specs.Ddrescue.{TaskDone, Ddrescue}
 use Rattle.ddrescue_laws.specs.Laws.{outside_by, setting_promised, done_by, HoldsAtEnd, LeavesRescued, DoneIsSaved, machine_reached}
 use Rattle.trim_scrape.proofs.EndingLemmas.{run_ends_well}
 use Rattle.ddrescue_laws.proofs.OutputLemmas.{holds_whole}
@@ -74,26 +75,26 @@ left_all start calls k all =
     subst P (ap (λ n. take n calls) all ∙ take-length calls) (reads_until start calls k)
 
 -- after all calls that a record gained
-pub left_after : (t : Told) (gained : List Entry) → t.site'.start ≡ t.site.start
-    → t.site'.calls ≡ t.site.calls ++ gained → LeftBy (calls_before t) gained (length gained) (files_in t.site')
+pub left_after : (t : Told) (gained : List Entry) → t.after.site.start ≡ t.before.site.start
+    → t.after.site.calls ≡ t.before.site.calls ++ gained → LeftBy (calls_before t) gained (length gained) (files_in t.after.site)
 left_after t gained started grew =
-    let calls : List Entry = t.site.calls ++ gained in
-    let k : ℕ = length t.site.calls + length gained in
-    let P : Folder → Type 0 = λ start. MayBeLeft t.site.start calls k (after start t.site'.calls).files in
-    let Q : List Entry → Type 0 = λ r. MayBeLeft t.site.start calls k (after t.site.start r).files in
+    let calls : List Entry = t.before.site.calls ++ gained in
+    let k : ℕ = length t.before.site.calls + length gained in
+    let P : Folder → Type 0 = λ start. MayBeLeft t.before.site.start calls k (after start t.after.site.calls).files in
+    let Q : List Entry → Type 0 = λ r. MayBeLeft t.before.site.start calls k (after t.before.site.start r).files in
     subst P (sym started)
-    (subst Q (sym grew) (left_all t.site.start calls k (sym (length-append t.site.calls gained))))
+    (subst Q (sym grew) (left_all t.before.site.start calls k (sym (length-append t.before.site.calls gained))))
 
-left_at_end : (c : Command) (t : Told) (d : Ddrescue t) (p : Promise c t) → IsTrue t.site.tells
-    → LeftBy (calls_before t) p.outside.did.gain.calls (length p.outside.did.gain.calls) (files_in t.site')
-left_at_end c t d p tells = left_after t p.outside.did.gain.calls (d.site.start tells) (p.agrees.calls tells)
+left_at_end : (c : Command) (t : Told) (d : Ddrescue t) (p : TaskDone (Rescue c) t) → IsTrue t.before.site.tells
+    → LeftBy (calls_before t) p.did.gain.calls (length p.did.gain.calls) (files_in t.after.site)
+left_at_end c t d p tells = left_after t p.did.gain.calls (d.does.keeps.site.start tells) (p.agrees.agrees.calls tells)
 
 pub holds_at_end : HoldsAtEnd
 holds_at_end t c began state d asks tells on is stands =
-    let p : Promise c t = d.asked_for (Rescue c) asks in
-    let calls : List Entry = p.outside.did.gain.calls in
+    let p : TaskDone (Rescue c) t = d.does.asked_for (Rescue c) asks in
+    let calls : List Entry = p.did.gain.calls in
     let whole : take (length calls) calls ≡ calls = take-length calls in
-    (p.stops tells on).kept (length calls) (files_in t.site') began state (omega arith)
+    (p.leaves.stops tells on).kept (length calls) (files_in t.after.site) began state (omega arith)
     (left_at_end c t d p tells) (ap has_barrier whole ∙ is) stands
 
 -- a run that ended with a save
@@ -285,10 +286,10 @@ last_finished s m over = ap (λ (b : Bool). if b then finished_snapshot m else s
 
 -- what is there after all calls: the mapfile, and the output
 record Left (t : Told) (s : Setting) (g : Gain) (began : List Status) (state : Option MapState) : Type 0 where
-  mapfile : files_in t.site' s.names.map
+  mapfile : files_in t.after.site s.names.map
       ≡ Some (record { bytes = text_of s.line (finished_snapshot (machine_reached s g began state)); regular = true })
   held : Held s g.reads (bytes_of (files_of t s.outfile)) (machine_reached s g began state).map
-      (bytes_of (files_in t.site' s.outfile))
+      (bytes_of (files_in t.after.site s.outfile))
 
 -- all calls of a rescue with a mapfile that is done
 record CallsWith (s : Setting) (g : Gain) (load : List Call) (m : Machine) (events : List Event) : Type 0 where
@@ -298,7 +299,7 @@ record CallsWith (s : Setting) (g : Gain) (load : List Call) (m : Machine) (even
 
 saved_by : (t : Told) (s : Setting) (g : Gain) (r : DoneWork s (files_of t) g) → s.has_mapfile ≡ true
     → CallsWith s g r.run.load (begins s r.run.statuses r.run.state g) (events_in g)
-    → IsKept (calls_before t) s g r.run.statuses r.run.state (length g.calls) (files_in t.site')
+    → IsKept (calls_before t) s g r.run.statuses r.run.state (length g.calls) (files_in t.after.site)
     → Left t s g r.run.statuses r.run.state
 saved_by t s g r on w k =
     let m : Machine = begins s r.run.statuses r.run.state g in
@@ -318,12 +319,12 @@ saved_by t s g r on w k =
     let last : k.number ≡ length due + 1 =
     all ∙ ap (λ (i : ℕ). i + 1) (sym (length-map (filter (is_due s) (moves s m es)) (λ v. snapshot_of v.after))) in
     let P : Snapshot → Type 0 = λ p. (k.statuses ≡ p.map)
-    × (files_in t.site' s.names.map ≡ Some (record { bytes = text_of s.line p; regular = true })) in
+    × (files_in t.after.site s.names.map ≡ Some (record { bytes = text_of s.line p; regular = true })) in
     let saved : P (finished_snapshot (state_after s m es)) = subst P (last_finished s (state_after s m es) r.run.over)
     (save_last (files_before (calls_before t) s.names.map) r.run.statuses s.line due
-    (last_snapshot s (state_after s m es)) k.number (files_in t.site' s.names.map) k.statuses last k.is_save) in
+    (last_snapshot s (state_after s m es)) k.number (files_in t.after.site s.names.map) k.statuses last k.is_save) in
     let Q : List Status → Type 0 =
-    λ x. Held s g.reads (bytes_of (files_of t s.outfile)) x (bytes_of (files_in t.site' s.outfile)) in
+    λ x. Held s g.reads (bytes_of (files_of t s.outfile)) x (bytes_of (files_in t.after.site s.outfile)) in
     record { mapfile = saved.1; held = subst Q saved.0 k.held }
 
 calls_with : (s : Setting) (files : List ℕ → Option File) (g : Gain) (w : DoneWork s files g) → s.has_mapfile ≡ true
@@ -337,7 +338,7 @@ calls_with s files g w on =
       calls = w.grew ∙ ap (λ (r : List Entry). map Returned w.maps ++ r) (w.run.calls ∙ ap F (opening_is s on));
     }
 
-left_with : (t : Told) (c : Command) (d : Ddrescue t) (asks : Asks t.words c) → IsTrue t.site.tells
+left_with : (t : Told) (c : Command) (d : Ddrescue t) (asks : Asks t.words c) → IsTrue t.before.site.tells
     → (r : DoneWork (setting_promised d asks) (files_of t) (done_by d asks)) → (setting_promised d asks).has_mapfile ≡ true
     → Left t (setting_promised d asks) (done_by d asks) r.run.statuses r.run.state
 left_with t c d asks tells r on =
@@ -376,30 +377,30 @@ calls_without s files g off r =
     ∙ ap (λ (load : List Call). map Returned (image_open s.outfile true ∷ load) ++ last) (r.loads.none off)
 
 -- without a mapfile all writes of the run stand in the output
-held_without : (t : Told) (c : Command) (d : Ddrescue t) (asks : Asks t.words c) → IsTrue t.site.tells
+held_without : (t : Told) (c : Command) (d : Ddrescue t) (asks : Asks t.words c) → IsTrue t.before.site.tells
     → (w : DoneWork (setting_promised d asks) (files_of t) (done_by d asks)) → (setting_promised d asks).has_mapfile ≡ false
     → Held (setting_promised d asks) (done_by d asks).reads (bytes_of (files_of t c.outfile))
-    (machine_reached (setting_promised d asks) (done_by d asks) w.run.statuses w.run.state).map (bytes_of (files_in t.site' c.outfile))
+    (machine_reached (setting_promised d asks) (done_by d asks) w.run.statuses w.run.state).map (bytes_of (files_in t.after.site c.outfile))
 held_without t c d asks tells w off =
-    let p : Promise c t = d.asked_for (Rescue c) asks in
+    let p : TaskDone (Rescue c) t = d.does.asked_for (Rescue c) asks in
     let s : Setting = setting_promised d asks in
     let g : Gain = done_by d asks in
     let m : Machine = begins s w.run.statuses w.run.state g in
     let es : List Event = events_in g in
-    let start : Folder = after t.site.start t.site.calls in
+    let start : Folder = after t.before.site.start t.before.site.calls in
     let old : List ℕ = bytes_of (start.files c.outfile) in
     let whole : List Entry = Returned (image_open c.outfile true) ∷ last_calls s m es in
     let calls : g.calls ≡ map Returned w.maps ++ whole =
     w.grew
     ∙ ap (λ (r : List Entry). map Returned w.maps ++ r)
     (calls_without s (files_of t) (record g { calls = w.rest }) off w.run) in
-    let now : after t.site'.start t.site'.calls ≡ after start whole =
-    ap (λ (from : Folder). after from t.site'.calls) (d.site.start tells)
-    ∙ ap (after t.site.start) (p.agrees.calls tells)
-    ∙ after-append t.site.start t.site.calls g.calls ∙ ap (after start) calls
+    let now : after t.after.site.start t.after.site.calls ≡ after start whole =
+    ap (λ (from : Folder). after from t.after.site.calls) (d.does.keeps.site.start tells)
+    ∙ ap (after t.before.site.start) (p.agrees.agrees.calls tells)
+    ∙ after-append t.before.site.start t.before.site.calls g.calls ∙ ap (after start) calls
     ∙ after-append start (map Returned w.maps) whole
     ∙ ap (λ (from : Folder). after from whole) (reads_stand w.maps start w.are) in
-    let image : bytes_of (files_in t.site' c.outfile) ≡ output_after s old es =
+    let image : bytes_of (files_in t.after.site c.outfile) ≡ output_after s old es =
     ap (λ (f : Folder). bytes_of (f.files c.outfile)) now ∙ (holds_whole s m es start off).holds in
     let held : Held s (reads_of es) old (state_after s m es).map (output_after s old es) =
     run_holds s m es old (asked_sensible t c d asks) (begun_order s w.run.statuses w.run.state g) w.run.run in
@@ -407,7 +408,7 @@ held_without t c d asks tells w off =
     (subst (λ (reads : List Reading). Held s reads old (state_after s m es).map (output_after s old es)) w.run.reads
     held)
 
-finished_by : (t : Told) (c : Command) (d : Ddrescue t) (asks : Asks t.words c) → IsTrue t.site.tells
+finished_by : (t : Told) (c : Command) (d : Ddrescue t) (asks : Asks t.words c) → IsTrue t.before.site.tells
     → DoneWork (setting_promised d asks) (files_of t) (done_by d asks) → LeavesRescued t (setting_promised d asks) (done_by d asks)
 finished_by t c d asks tells w =
     let s : Setting = setting_promised d asks in
@@ -427,10 +428,10 @@ finished_by t c d asks tells w =
 
 pub done_is_saved : DoneIsSaved
 done_is_saved t c d asks tells is =
-    let p : Promise c t = d.asked_for (Rescue c) asks in
-    let o : Outside = p.outside in
+    let p : TaskDone (Rescue c) t = d.does.asked_for (Rescue c) asks in
+    let o : Outside = with_did p.outside p.did in
     finished_by t c d asks tells
     (done_works c (command_line program_name t.words) o.end o.maps (files_of t) o.lines t.answer o.did (sym is)
     (subst
     (λ (f : Found). Works rescue_faults (rescue_rows c f o.end) (Rescues (asked_of c t o) f.mapfile o.lines) t.answer o.did)
-    (p.agrees.found tells) p.works))
+    (p.agrees.agrees.found tells) p.work))

@@ -39,9 +39,10 @@ use Rattle.task_files.specs.declared.ending.Ending.TheVariants.{Done, SameName, 
 use Rattle.task_files.specs.Maps.{Found, seen_through}
 use Rattle.ddrescue_laws.specs.InputRead.{HasRead, IsBeforeReads, IsOfOpening}
 use Rattle.task_files.specs.Names.{program_name}
+use Rattle.ddrescue_cli.specs.Tasks.{with_did}
 use Rattle.ddrescue_cli.specs.ToldParts.{asked_of}
 use Rattle.task_files.specs.Outside.{Outside, HasGainedReads}
-use Rattle.ddrescue_cli.specs.Ddrescue.{Promise}
+use Rattle.ddrescue_cli.specs.Ddrescue.{TaskDone}
 use Rattle.ddrescue_laws.specs.Laws.{ReadsAreARun}
 use Rattle.task_files.specs.Work.{Rescues, rescue_faults, rescue_rows, worked_rows, answer_of}
 use Rattle.work_rules.specs.Work.{Deeds, Works}
@@ -205,9 +206,9 @@ has_map (Some name) = refl
 
 pub reads_are_a_run : ReadsAreARun
 reads_are_a_run t c d asks tells =
-    let p : Promise c t = d.asked_for (Rescue c) asks in
-    let o : Outside = p.outside in
+    let p : TaskDone (Rescue c) t = d.does.asked_for (Rescue c) asks in
+    let o : Outside = with_did p.outside p.did in
     let s : Setting = asked_of c t o in
-    works_so c o.found o.end s o.maps.test t.source t.source' t.answer o.lines o.did
-    (sensible_to c t.words (command_line program_name t.words) o.end o.maps asks) (has_map c.mapfile) p.works
-    (p.agrees.reads tells)
+    works_so c o.found o.end s o.maps.test t.before.source t.after.source t.answer o.lines o.did
+    (sensible_to c t.words (command_line program_name t.words) o.end o.maps asks) (has_map c.mapfile) p.work
+    (p.agrees.agrees.reads tells)

@@ -25,10 +25,11 @@ use Rattle.task_files.specs.Maps.{Found, found_in}
 use Rattle.task_files.specs.Refusals.{is_other, NamedMapRefused, PlacesRefused}
 use Rattle.ddrescue_laws.specs.InputRead.{IsBeforeReads}
 use Rattle.ddrescue_laws.specs.LeftAfter.{names_maps, AllStand, made_of, OutputMade, IsAfterOutput, IsMapReadFault, IsLeft}
+use Rattle.ddrescue_cli.specs.Tasks.{with_did}
 use Rattle.ddrescue_cli.specs.ToldParts.{files_of, asked_of}
 use Rattle.task_files.specs.Outside.{Outside}
 use Rattle.task_files.specs.Work.{Rescues, answer_of, rescue_faults, rescue_rows, barrier_of}
-use Rattle.ddrescue_cli.specs.Ddrescue.{Promise}
+use Rattle.ddrescue_cli.specs.Ddrescue.{TaskDone}
 use Rattle.ddrescue_laws.specs.Laws.{FilesAreLeft}
 use Rattle.work_rules.proofs.FrontLemmas.{load_reads, reads_stand, broken_stands}
 use Rattle.work_rules.specs.Work.{Deeds, Look, Read, Works}
@@ -307,19 +308,19 @@ leaves_steps c here end run ends late =
 
 pub files_are_left : FilesAreLeft
 files_are_left t c d asks tells =
-    let p : Promise c t = d.asked_for (Rescue c) asks in
-    let o : Outside = p.outside in
-    let here : Folder = after t.site.start t.site.calls in
+    let p : TaskDone (Rescue c) t = d.does.asked_for (Rescue c) asks in
+    let o : Outside = with_did p.outside p.did in
+    let here : Folder = after t.before.site.start t.before.site.calls in
     let found : Found = found_in c (files_of t) in
     let run : Ending → Deeds → Type 0 = Rescues (asked_of c t o) found.mapfile o.lines in
     let works : Works rescue_faults (rescue_rows c found o.end) run t.answer o.did =
     subst (λ (f : Found). Works rescue_faults (rescue_rows c f o.end) (Rescues (asked_of c t o) f.mapfile o.lines) t.answer
     o.did)
-    (p.agrees.found tells) p.works in
-    let now : files_in t.site' ≡ (after here o.did.gain.calls).files =
-    ap (λ (s : Folder). (after s t.site'.calls).files) (d.site.start tells)
-    ∙ ap (λ (cs : List Entry). (after t.site.start cs).files) (p.agrees.calls tells)
-    ∙ ap (λ (f : Folder). f.files) (after-append t.site.start t.site.calls o.did.gain.calls) in
+    (p.agrees.agrees.found tells) p.work in
+    let now : files_in t.after.site ≡ (after here o.did.gain.calls).files =
+    ap (λ (s : Folder). (after s t.after.site.calls).files) (d.does.keeps.site.start tells)
+    ∙ ap (λ (cs : List Entry). (after t.before.site.start cs).files) (p.agrees.agrees.calls tells)
+    ∙ ap (λ (f : Folder). f.files) (after-append t.before.site.start t.before.site.calls o.did.gain.calls) in
     subst (λ (fs : List ℕ → Option File). IsLeft t.answer (names_maps c) c.outfile (files_of t) fs) (sym now)
     (holds rescue_faults (rescue_rows c found o.end) run (Leaves c here here)
     (leaves_steps c here o.end run (rescue_ends (asked_of c t o) found.mapfile o.lines)

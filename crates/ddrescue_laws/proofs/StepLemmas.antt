@@ -10,10 +10,11 @@ use Rattle.task_files.specs.declared.ending.Ending.{Ending}
 use Rattle.task_files.specs.declared.ending.Ending.TheVariants.{SameName, SourceFault, SiteFault, NoMemory}
 use Rattle.task_files.specs.Maps.{Found}
 use Rattle.task_files.specs.Outside.{Outside}
+use Rattle.ddrescue_cli.specs.Tasks.{with_did}
 use Rattle.ddrescue_cli.specs.ToldParts.{asked_of}
 use Rattle.task_files.specs.Work.{Rescues, rescue_faults, rescue_rows, worked_rows}
 use Rattle.task_files.specs.Answers.{IsRescueCall}
-use Rattle.ddrescue_cli.specs.Ddrescue.{Promise}
+use Rattle.ddrescue_cli.specs.Ddrescue.{TaskDone}
 use Rattle.ddrescue_laws.specs.Laws.{FaultsAreOfSteps}
 use Rattle.ddrescue_cli.proofs.LateLemmas.{IsRunCall, IsLate, rescue_late}
 use Rattle.ddrescue_cli.proofs.RowLemmas.{of_barrier}
@@ -68,7 +69,7 @@ works_own c found end run e d call earlier late is (inr (inr (passed, w))) =
 
 pub faults_are_of_steps : FaultsAreOfSteps
 faults_are_of_steps t c d call earlier asks is =
-    let p : Promise c t = d.asked_for (Rescue c) asks in
-    let o : Outside = p.outside in
+    let p : TaskDone (Rescue c) t = d.does.asked_for (Rescue c) asks in
+    let o : Outside = with_did p.outside p.did in
     works_own c o.found o.end (Rescues (asked_of c t o) o.found.mapfile o.lines) t.answer o.did call earlier
-    (rescue_late (asked_of c t o) o.found.mapfile o.lines) is p.works
+    (rescue_late (asked_of c t o) o.found.mapfile o.lines) is p.work

@@ -140,11 +140,11 @@ pub refused_fill_leaves : RefusedFillLeaves
 refused_fill_leaves t types c d asks tells b =
     let p = promised_fill d asks in
     unbegun_fill_leaves t types c d asks tells
-    (fill_untimed types c p.outside.found p.outside.end p.top _ p.buffer p.pieces p.end p.outside.lines t.answer
-    p.outside.did b p.works)
+    (fill_untimed types c p.outside.found p.outside.end p.outside.top _ p.outside.buffer p.outside.pieces p.outside.swept p.outside.lines t.answer
+    p.did b p.work)
 
 pub refused_generate_leaves : RefusedGenerateLeaves
 refused_generate_leaves t c d asks tells b =
     let p = promised_generate d asks in
     unbegun_generate_leaves t c d asks tells
-    (generate_untimed c p.outside.found p.outside.end _ p.pieces p.end p.outside.lines t.answer p.outside.did b p.works)
+    (generate_untimed c p.outside.found p.outside.end _ p.outside.pieces p.outside.swept p.outside.lines t.answer p.did b p.work)

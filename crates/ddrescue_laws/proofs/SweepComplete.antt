@@ -14,19 +14,19 @@ use Rattle.work_rules.specs.Work.{Deeds, Works}
 use Rattle.work_rules.specs.Verdicts.{RefuseNothing}
 use Rattle.work_rules.proofs.VerdictLemmas.{goes_to_run}
 use Rattle.ddrescue_words.specs.Options.{cluster_of}
-use Rattle.ddrescue_words.specs.Command.{Command}
+use Rattle.ddrescue_words.specs.Command.{Command, Fill, Generate}
 use Rattle.task_files.specs.declared.ending.Ending.{Ending}
 use Rattle.task_files.specs.declared.ending.Ending.TheVariants.{Done, PatternUnread}
 use Rattle.task_files.specs.Names.{program_name}
-use Rattle.task_files.specs.Outside.{Outside}
 use Rattle.ddrescue_cli.specs.Told.{Told}
+use Rattle.ddrescue_cli.specs.Tasks.{TaskOutside, with_did}
 use Rattle.ddrescue_cli.specs.ToldParts.{asked_of}
 use Rattle.task_files.specs.Work.{answer_of, rescue_faults, files_rows}
 use Rattle.task_sweeps.specs.Pattern.{ThenPattern, IsLost, IsShort, IsRead}
 use Rattle.task_sweeps.specs.Modes.{MaySweep, ThenSweep, fill_rows, fill_setting, generate_rows}
-use Rattle.ddrescue_cli.specs.Ddrescue.{FillModePromise, GenerateModePromise}
+use Rattle.ddrescue_cli.specs.Ddrescue.{TaskDone}
 use Rattle.ddrescue_laws.specs.ModeLaws.{FillIsDoneUnless, FillsUnrefused, GenerateIsDoneUnless, promised_fill, promised_generate}
-use Rattle.ddrescue_laws.proofs.CompleteLemmas.{IsNoFault, no_faults, left_itself}
+use Rattle.ddrescue_laws.proofs.CompleteLemmas.{caused, IsNoFault, no_faults, left_itself}
 
 -- how a sweep ends by itself
 ends_itself : (s : Setting) (w : Sweeper) (m : Sweep) (es : List Swept) (calls : List Entry) (e : Ending) (end : RunEnd)
@@ -52,47 +52,48 @@ swept_itself s w mapfile pieces end lines e d v then = itself then.sweeps
     itself (inr swept) = ends_itself s w _ swept.sweeps.events d.gain.calls e end swept.answer swept.sweeps.ends v
 
 -- after the pattern
-pattern_itself : (c : Command) (o : Outside) (top : ℕ) (buffer : List ℕ) (run : Ending → Deeds → Type 0) (e : Ending)
-    (d : Deeds) → FillsUnrefused c o top → e ≢ PatternUnread → IsNoFault e → ((x : Deeds) → run e x → e ≡ Done)
-    → ThenPattern (cluster_of c.options) o.end buffer (Works rescue_faults (files_rows true c o.found top) run) e d
+pattern_itself : (c : Command) (o : TaskOutside) (buffer : List ℕ) (run : Ending → Deeds → Type 0) (e : Ending)
+    (d : Deeds) → FillsUnrefused c o → e ≢ PatternUnread → IsNoFault e → ((x : Deeds) → run e x → e ≡ Done)
+    → ThenPattern (cluster_of c.options) o.end buffer (Works rescue_faults (files_rows true c o.found o.top) run) e d
     → e ≡ Done
-pattern_itself c o top buffer run e d pass short v itself (IsLost is idle) = absurd (v.kept is)
-pattern_itself c o top buffer run e d pass short v itself (IsShort r read less is one) = absurd (short is)
-pattern_itself c o top buffer run e d pass short v itself (IsRead r more read all repeated reads next) =
+pattern_itself c o buffer run e d pass short v itself (IsLost is idle) = absurd (v.kept is)
+pattern_itself c o buffer run e d pass short v itself (IsShort r read less is one) = absurd (short is)
+pattern_itself c o buffer run e d pass short v itself (IsRead r more read all repeated reads next) =
     let ran : (x : Deeds) × run e x =
-    goes_to_run rescue_faults IsNoFault no_faults (files_rows true c o.found top) run pass.files e _ next v in
+    goes_to_run rescue_faults IsNoFault no_faults (files_rows true c o.found o.top) run pass.files e _ next v in
     itself ran.0 ran.1
 
-filled_itself : (t : Told) (types : TypeSet) (c : Command) (p : FillModePromise types c t)
-    → FillsUnrefused c p.outside p.top → t.answer ≢ PatternUnread → IsNoFault t.answer → t.answer ≡ Done
+filled_itself : (t : Told) (types : TypeSet) (c : Command) (p : TaskDone (Fill types c) t)
+    → FillsUnrefused c p.outside → t.answer ≢ PatternUnread → IsNoFault t.answer → t.answer ≡ Done
 filled_itself t types c p pass short v =
-    let o : Outside = p.outside in
-    let s : Setting = fill_setting c (command_line program_name t.words) p.top o.maps in
+    let o : TaskOutside = p.outside in
+    let s : Setting = fill_setting c (command_line program_name t.words) o.top o.maps in
     let sweep : Ending → Deeds → Type 0 =
-    ThenSweep s (filler s types p.buffer) o.found.mapfile p.pieces p.end o.lines in
+    ThenSweep s (filler s types o.buffer) o.found.mapfile o.pieces o.swept o.lines in
     let read : Ending → Deeds → Type 0 =
-    ThenPattern (cluster_of c.options) o.end p.buffer (Works rescue_faults (files_rows true c o.found p.top) sweep) in
+    ThenPattern (cluster_of c.options) o.end o.buffer (Works rescue_faults (files_rows true c o.found o.top) sweep) in
     let ran : (x : Deeds) × read t.answer x =
-    goes_to_run rescue_faults IsNoFault no_faults (fill_rows c o.found o.end) read pass.pattern t.answer o.did p.works v in
-    pattern_itself c o p.top p.buffer sweep t.answer ran.0 pass short v
-    (λ x swept. swept_itself s (filler s types p.buffer) o.found.mapfile p.pieces p.end o.lines t.answer x v swept) ran.1
+    goes_to_run rescue_faults IsNoFault no_faults (fill_rows c o.found o.end) read pass.pattern t.answer p.did p.work v in
+    pattern_itself c o o.buffer sweep t.answer ran.0 pass short v
+    (λ x swept. swept_itself s (filler s types o.buffer) o.found.mapfile o.pieces o.swept o.lines t.answer x v swept) ran.1
 
 pub fill_is_done_unless : FillIsDoneUnless
 fill_is_done_unless t types c d asks failed pass short room =
     left_itself (λ (e : Ending). t.answer ≡ Done) t t.answer failed (filled_itself t types c (promised_fill d asks) pass short)
-    d.cause room
+    (caused t d) room
 
-generated_itself : (t : Told) (c : Command) (p : GenerateModePromise c t)
+generated_itself : (t : Told) (c : Command) (p : TaskDone (Generate c) t)
     → RefuseNothing (generate_rows c p.outside.found p.outside.end) → IsNoFault t.answer → t.answer ≡ Done
 generated_itself t c p pass v =
-    let o : Outside = p.outside in
-    let s : Setting = asked_of c t o in
-    let sweep : Ending → Deeds → Type 0 = ThenSweep s (generator s) o.found.mapfile p.pieces p.end o.lines in
+    let o : TaskOutside = p.outside in
+    let s : Setting = asked_of c t (with_did o p.did) in
+    let sweep : Ending → Deeds → Type 0 = ThenSweep s (generator s) o.found.mapfile o.pieces o.swept o.lines in
     let ran : (x : Deeds) × sweep t.answer x =
-    goes_to_run rescue_faults IsNoFault no_faults (generate_rows c o.found o.end) sweep pass t.answer o.did p.works v in
-    swept_itself s (generator s) o.found.mapfile p.pieces p.end o.lines t.answer ran.0 v ran.1
+    goes_to_run rescue_faults IsNoFault no_faults (generate_rows c o.found o.end) sweep pass t.answer p.did p.work v in
+    swept_itself s (generator s) o.found.mapfile o.pieces o.swept o.lines t.answer ran.0 v ran.1
 
 pub generate_is_done_unless : GenerateIsDoneUnless
 generate_is_done_unless t c d asks failed pass room =
-    left_itself (λ (e : Ending). t.answer ≡ Done) t t.answer failed (generated_itself t c (promised_generate d asks) pass) d.cause
+    left_itself (λ (e : Ending). t.answer ≡ Done) t t.answer failed (generated_itself t c (promised_generate d asks) pass)
+    (caused t d)
     room

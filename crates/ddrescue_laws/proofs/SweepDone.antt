@@ -35,7 +35,7 @@ use Rattle.task_sweeps.specs.Modes.{Fills, Generates, MaySweep, ThenSweep, fill_
 use Rattle.ddrescue_laws.proofs.DoneLemmas.{answer_done, if_reads}
 use Rattle.ddrescue_laws.proofs.SweepCounts.{whole_calls, sweep_calls_of}
 use Rattle.ddrescue_cli.proofs.SweepWay.{by_name, named}
-use Rattle.ddrescue_cli.proofs.SweepWords.{fill_plain, files_plain, generate_plain}
+use Rattle.ddrescue_cli.proofs.RefusalLemmas.{fill_plain, files_plain, generate_plain}
 
 -- A sweep that went on to its end over files, after reads of maps, its opening and its load.
 pub record DoneSweep (s : Setting) (w : Sweeper) (files : List ℕ → Option File) (pieces : List Swept) (end : RunEnd)

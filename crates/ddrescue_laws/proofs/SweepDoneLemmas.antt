@@ -31,11 +31,12 @@ use Rattle.task_files.specs.declared.ending.Ending.TheVariants.{Done}
 use Rattle.task_files.specs.Names.{program_name}
 use Rattle.task_files.specs.Maps.{Found}
 use Rattle.task_files.specs.Outside.{Outside}
+use Rattle.ddrescue_cli.specs.Tasks.{with_did}
 use Rattle.ddrescue_cli.specs.Told.{Told, calls_before}
 use Rattle.ddrescue_cli.specs.ToldParts.{files_of, asked_of}
 use Rattle.task_sweeps.specs.Pattern.{IsRepeated}
 use Rattle.task_sweeps.specs.Modes.{Fills, Generates}
-use Rattle.ddrescue_cli.specs.Ddrescue.{Ddrescue, FillModePromise, GenerateModePromise}
+use Rattle.ddrescue_cli.specs.Ddrescue.{Ddrescue, TaskDone}
 use Rattle.ddrescue_laws.specs.ModeLaws.{DoneIsFilled, DoneIsGenerated, LeavesFilled, LeavesGenerated, HasNoPiece, IsSweptThrough, promised_fill, filling_setting, promised_generate}
 use Rattle.ddrescue_laws.proofs.DoneLemmas.{left_after, number_last, save_last}
 use Rattle.ddrescue_cli.proofs.PromiseLemmas.{named_on}
@@ -49,7 +50,7 @@ use Rattle.ddrescue_laws.proofs.SweepDone.{DoneSweep, fill_done, generate_done}
 
 module _ (t : Told) (s : Setting) (w : Sweeper) (pieces : List Swept) (end : RunEnd) (times : List ℕ) (calls : List Entry)
     (h : DoneSweep s w (files_of t) pieces end times calls) (on : s.has_mapfile ≡ true)
-    (started : t.site'.start ≡ t.site.start) (grew : t.site'.calls ≡ t.site.calls ++ calls) where
+    (started : t.after.site.start ≡ t.before.site.start) (grew : t.after.site.calls ≡ t.before.site.calls ++ calls) where
   abbrev pub begun : Sweep
   begun = sweep_over w h.statuses h.state (began_at times)
 
@@ -62,7 +63,7 @@ module _ (t : Told) (s : Setting) (w : Sweeper) (pieces : List Swept) (end : Run
   abbrev all_calls : List Call
   all_calls = whole_calls s w h.maps h.load begun pieces last
 
-  left : LeftBy (calls_before t) calls (length calls) (files_in t.site')
+  left : LeftBy (calls_before t) calls (length calls) (files_in t.after.site)
   left = left_after t calls started grew
 
   barrier : has_barrier (take (length calls) calls) ≡ true
@@ -71,7 +72,7 @@ module _ (t : Told) (s : Setting) (w : Sweeper) (pieces : List Swept) (end : Run
       ap has_barrier (take-length calls ∙ h.calls_are ∙ map-append Returned h.maps rest)
       ∙ barrier_after h.maps (map Returned rest) h.are
 
-  pub through : (mapfile : files_in t.site' s.names.map
+  pub through : (mapfile : files_in t.after.site s.names.map
       ≡ Some (record { bytes = text_of s.line last; regular = true }))
       → IsSweptThrough t s w pieces h.statuses h.state (began_at times)
   through mapfile = record { stands = h.stands; sweep = h.sweep; over = h.over; mapfile = mapfile }
@@ -85,8 +86,8 @@ module _ (t : Told) (s : Setting) (w : Sweeper) (pieces : List Swept) (end : Run
     saved = dues_of w begun pieces
 
     pub kept : IsKeptBy (saved ++ sweep_end (has_swept_out end) swept_out ∷ []) (promise h.statuses h.state) (calls_before t) s
-        calls h.statuses (length calls) (files_in t.site')
-    kept = stops.kept (length calls) (files_in t.site') h.statuses h.state (omega arith) left barrier h.stands
+        calls h.statuses (length calls) (files_in t.after.site)
+    kept = stops.kept (length calls) (files_in t.after.site) h.statuses h.state (omega arith) left barrier h.stands
 
     pub number_is : kept.number ≡ length saved + 1
     number_is =
@@ -97,29 +98,29 @@ module _ (t : Told) (s : Setting) (w : Sweeper) (pieces : List Swept) (end : Run
         ∙ publishes_in s w h.maps h.load (files_of t s.names.map) begun pieces last on publish h.are h.begins)
         kept.no_older kept.no_newer
 
-    pub last_saved : files_in t.site' s.names.map ≡ Some (record { bytes = text_of s.line last; regular = true })
+    pub last_saved : files_in t.after.site s.names.map ≡ Some (record { bytes = text_of s.line last; regular = true })
     last_saved =
         (save_last (files_of t s.names.map) h.statuses s.line saved (sweep_end (has_swept_out end) swept_out) kept.number
-        (files_in t.site' s.names.map) kept.statuses number_is kept.is_save).1
+        (files_in t.after.site s.names.map) kept.statuses number_is kept.is_save).1
         ∙ ap (λ (out : Bool). Some (record { bytes = text_of s.line (sweep_end out swept_out); regular = true })) h.finished
 
-    pub held : promise h.statuses h.state (length saved + 1) kept.statuses (bytes_of (files_in t.site' s.outfile))
+    pub held : promise h.statuses h.state (length saved + 1) kept.statuses (bytes_of (files_in t.after.site s.outfile))
     held =
-        subst (λ (n : ℕ). promise h.statuses h.state n kept.statuses (bytes_of (files_in t.site' s.outfile))) number_is
+        subst (λ (n : ℕ). promise h.statuses h.state n kept.statuses (bytes_of (files_in t.after.site s.outfile))) number_is
         kept.held
 
 -- ---- a filling
 
-module _ (t : Told) (types : TypeSet) (c : Command) (d : Ddrescue t) (p : FillModePromise types c t)
-    (tells : IsTrue t.site.tells) (has : HasMapfile c) (is : t.answer ≡ Done) where
+module _ (t : Told) (types : TypeSet) (c : Command) (d : Ddrescue t) (p : TaskDone (Fill types c) t)
+    (tells : IsTrue t.before.site.tells) (has : HasMapfile c) (is : t.answer ≡ Done) where
   abbrev o : Outside
-  o = p.outside
+  o = with_did p.outside p.did
 
   abbrev s : Setting
-  s = filling_setting p
+  s = filling_setting t p
 
   abbrev w : Sweeper
-  w = filler s types p.buffer
+  w = filler s types p.outside.buffer
 
   abbrev calls : List Entry
   calls = o.did.gain.calls
@@ -127,63 +128,63 @@ module _ (t : Told) (types : TypeSet) (c : Command) (d : Ddrescue t) (p : FillMo
   on : s.has_mapfile ≡ true
   on = named_on c.mapfile has.named
 
-  done : DoneSweep s w (files_of t) p.pieces p.end o.did.gain.times calls
+  done : DoneSweep s w (files_of t) p.outside.pieces p.outside.swept o.did.gain.times calls
   done =
-      fill_done (files_of t) (command_line program_name t.words) o.end p.top o.maps types p.buffer p.pieces p.end o.lines
+      fill_done (files_of t) (command_line program_name t.words) o.end p.outside.top o.maps types p.outside.buffer p.outside.pieces p.outside.swept o.lines
       t.answer o.did is c has.named
-      (subst (λ (found : Found). Fills types c found o.end p.top s p.buffer p.pieces p.end o.lines t.answer o.did)
-      (p.agrees.found tells) p.works)
+      (subst (λ (found : Found). Fills types c found o.end p.outside.top s p.outside.buffer p.outside.pieces p.outside.swept o.lines t.answer o.did)
+      (p.agrees.agrees.found tells) p.work)
 
   abbrev start : Sweep
   start = sweep_over w done.statuses done.state (began_at o.did.gain.times)
 
   abbrev pledge : List Status → Option MapState → ℕ → List Status → List ℕ → Type 0
   pledge began shown number map image =
-      FillPromise s p.buffer began
-      (pieces_before w (sweep_over w began shown (began_at o.did.gain.times)) p.pieces number) map image
+      FillPromise s p.outside.buffer began
+      (pieces_before w (sweep_over w began shown (began_at o.did.gain.times)) p.outside.pieces number) map image
 
-  filled : AreFilled s p.buffer p.pieces (bytes_of (files_in t.site' s.outfile))
+  filled : AreFilled s p.outside.buffer p.outside.pieces (bytes_of (files_in t.after.site s.outfile))
   filled =
-      let promised : pledge done.statuses done.state (length (dues_of w start p.pieces) + 1) _
-      (bytes_of (files_in t.site' s.outfile)) =
-      held t s w p.pieces p.end o.did.gain.times calls done on (d.site.start tells) (p.agrees.calls tells) pledge true
-      (λ e. refl) (λ e. refl) (p.stops tells) in
-      subst (λ (es : List Swept). AreFilled s p.buffer es (bytes_of (files_in t.site' s.outfile)))
-      (all_before w start p.pieces (length (dues_of w start p.pieces) + 1) refl) promised.filled
+      let promised : pledge done.statuses done.state (length (dues_of w start p.outside.pieces) + 1) _
+      (bytes_of (files_in t.after.site s.outfile)) =
+      held t s w p.outside.pieces p.outside.swept o.did.gain.times calls done on (d.does.keeps.site.start tells) (p.agrees.agrees.calls tells) pledge true
+      (λ e. refl) (λ e. refl) (p.leaves.stops tells) in
+      subst (λ (es : List Swept). AreFilled s p.outside.buffer es (bytes_of (files_in t.after.site s.outfile)))
+      (all_before w start p.outside.pieces (length (dues_of w start p.outside.pieces) + 1) refl) promised.filled
 
-  elsewhere : (y : ℕ) → y < length (bytes_of (files_of t s.outfile)) → HasNoPiece s p.pieces y
-      → slice_get (bytes_of (files_in t.site' s.outfile)) y ≡ slice_get (bytes_of (files_of t s.outfile)) y
+  elsewhere : (y : ℕ) → y < length (bytes_of (files_of t s.outfile)) → HasNoPiece s p.outside.pieces y
+      → slice_get (bytes_of (files_in t.after.site s.outfile)) y ≡ slice_get (bytes_of (files_of t s.outfile)) y
   elsewhere y low off =
-      let last_ = sweep_end true (after_pieces w start p.pieces) in
-      let back : List Call = sweep_calls_of s w start p.pieces last_ in
+      let last_ = sweep_end true (after_pieces w start p.outside.pieces) in
+      let back : List Call = sweep_calls_of s w start p.outside.pieces last_ in
       let spares = spares_append done.maps (opening_by s true ++ (done.load ++ back)) y
       (spares_spare done.maps y (spare_reads done.maps done.are))
       (spares_append (opening_by s true) (done.load ++ back) y (spares_spare (opening_by s true) y (spare_opening s true))
       (spares_append done.load back y
       (spares_spare done.load y
       (spare_reads done.load (load_reads s.names.map (files_of t s.names.map) done.load done.begins)))
-      (spares_filling s types p.buffer start p.pieces last_ y on off))) in
+      (spares_filling s types p.outside.buffer start p.outside.pieces last_ y on off))) in
       let whole : take (length calls + 1) calls ≡ calls = take_all (length calls + 1) calls (omega arith) in
-      (p.stops tells).unwritten (length calls) (files_in t.site') y (omega arith)
-      (left_after t calls (d.site.start tells) (p.agrees.calls tells))
-      (barrier t s w p.pieces p.end o.did.gain.times calls done on (d.site.start tells) (p.agrees.calls tells))
+      (p.leaves.stops tells).unwritten (length calls) (files_in t.after.site) y (omega arith)
+      (left_after t calls (d.does.keeps.site.start tells) (p.agrees.agrees.calls tells))
+      (barrier t s w p.outside.pieces p.outside.swept o.did.gain.times calls done on (d.does.keeps.site.start tells) (p.agrees.agrees.calls tells))
       (subst (λ (es : List Entry). IsUnwritten es y) (sym (whole ∙ done.calls_are)) spares) low
 
-  pattern : IsTrue t.source.tells → IsRepeated (take s.cluster t.source.bytes) s.cluster p.buffer
+  pattern : IsTrue t.before.source.tells → IsRepeated (take s.cluster t.before.source.bytes) s.cluster p.outside.buffer
   pattern told =
-      pattern_is_front (cluster_of c.options) o.end p.buffer t.source.bytes o.did.gain.reads
-      (pattern_read types c o.found o.end p.top s p.buffer p.pieces p.end o.lines t.answer o.did is p.works)
-      (p.agrees.end told) (p.agrees.reads told).right
+      pattern_is_front (cluster_of c.options) o.end p.outside.buffer t.before.source.bytes o.did.gain.reads
+      (pattern_read types c o.found o.end p.outside.top s p.outside.buffer p.outside.pieces p.outside.swept o.lines t.answer o.did is p.work)
+      (p.agrees.agrees.end told) (p.agrees.agrees.reads told).right
 
-  is_filled : LeavesFilled t s types p.buffer p.pieces
+  is_filled : LeavesFilled t s types p.outside.buffer p.outside.pieces
   is_filled = record {
     statuses = done.statuses;
     state = done.state;
     time = began_at o.did.gain.times;
-    through = through t s w p.pieces p.end o.did.gain.times calls done on (d.site.start tells) (p.agrees.calls tells)
-        (last_saved t s w p.pieces p.end o.did.gain.times calls done on (d.site.start tells) (p.agrees.calls tells) pledge
-        true (λ e. refl) (λ e. refl) (p.stops tells));
-    map = filled_map_stands s types p.buffer start p.pieces;
+    through = through t s w p.outside.pieces p.outside.swept o.did.gain.times calls done on (d.does.keeps.site.start tells) (p.agrees.agrees.calls tells)
+        (last_saved t s w p.outside.pieces p.outside.swept o.did.gain.times calls done on (d.does.keeps.site.start tells) (p.agrees.agrees.calls tells) pledge
+        true (λ e. refl) (λ e. refl) (p.leaves.stops tells));
+    map = filled_map_stands s types p.outside.buffer start p.outside.pieces;
     pattern = pattern;
     filled = filled;
     elsewhere = elsewhere;
@@ -196,10 +197,10 @@ done_is_filled t types c d asks tells is =
 
 -- ---- a generating
 
-module _ (t : Told) (c : Command) (d : Ddrescue t) (p : GenerateModePromise c t) (tells : IsTrue t.site.tells)
+module _ (t : Told) (c : Command) (d : Ddrescue t) (p : TaskDone (Generate c) t) (tells : IsTrue t.before.site.tells)
     (has : HasMapfile c) (is : t.answer ≡ Done) where
   abbrev a : Outside
-  a = p.outside
+  a = with_did p.outside p.did
 
   abbrev z : Setting
   z = asked_of c t a
@@ -210,47 +211,47 @@ module _ (t : Told) (c : Command) (d : Ddrescue t) (p : GenerateModePromise c t)
   mapped : z.has_mapfile ≡ true
   mapped = named_on c.mapfile has.named
 
-  looked : DoneSweep z g (files_of t) p.pieces p.end a.did.gain.times a.did.gain.calls
+  looked : DoneSweep z g (files_of t) p.outside.pieces p.outside.swept a.did.gain.times a.did.gain.calls
   looked =
-      generate_done (files_of t) (command_line program_name t.words) a.end a.maps p.pieces p.end a.lines t.answer a.did is c
+      generate_done (files_of t) (command_line program_name t.words) a.end a.maps p.outside.pieces p.outside.swept a.lines t.answer a.did is c
       has.named
-      (subst (λ (found : Found). Generates c found a.end z p.pieces p.end a.lines t.answer a.did) (p.agrees.found tells)
-      p.works)
+      (subst (λ (found : Found). Generates c found a.end z p.outside.pieces p.outside.swept a.lines t.answer a.did) (p.agrees.agrees.found tells)
+      p.work)
 
   abbrev looks : Sweep
   looks = sweep_over g looked.statuses looked.state (began_at a.did.gain.times)
 
-  output : bytes_of (files_in t.site' z.outfile) ≡ bytes_of (files_of t z.outfile)
+  output : bytes_of (files_in t.after.site z.outfile) ≡ bytes_of (files_of t z.outfile)
   output =
-      let last_ = sweep_end true (after_pieces g looks p.pieces) in
-      let all : List Call = whole_calls z g looked.maps looked.load looks p.pieces last_ in
-      let spare = spare_append looked.maps (opening_by z false ++ (looked.load ++ sweep_calls_of z g looks p.pieces last_))
+      let last_ = sweep_end true (after_pieces g looks p.outside.pieces) in
+      let all : List Call = whole_calls z g looked.maps looked.load looks p.outside.pieces last_ in
+      let spare = spare_append looked.maps (opening_by z false ++ (looked.load ++ sweep_calls_of z g looks p.outside.pieces last_))
       (spare_reads looked.maps looked.are)
-      (spare_append (opening_by z false) (looked.load ++ sweep_calls_of z g looks p.pieces last_) (spare_opening z false)
-      (spare_append looked.load (sweep_calls_of z g looks p.pieces last_)
+      (spare_append (opening_by z false) (looked.load ++ sweep_calls_of z g looks p.outside.pieces last_) (spare_opening z false)
+      (spare_append looked.load (sweep_calls_of z g looks p.outside.pieces last_)
       (spare_reads looked.load (load_reads z.names.map (files_of t z.names.map) looked.load looked.begins))
-      (spare_generating z looks p.pieces last_ mapped))) in
+      (spare_generating z looks p.outside.pieces last_ mapped))) in
       let calls : List Entry = a.did.gain.calls in
       let whole : take (length calls + 1) calls ≡ calls = take_all (length calls + 1) calls (omega arith) in
-      (p.stops tells).output (length calls) (files_in t.site') (omega arith)
-      (left_after t calls (d.site.start tells) (p.agrees.calls tells))
-      (barrier t z g p.pieces p.end a.did.gain.times calls looked mapped (d.site.start tells) (p.agrees.calls tells))
+      (p.leaves.stops tells).1.output (length calls) (files_in t.after.site) (omega arith)
+      (left_after t calls (d.does.keeps.site.start tells) (p.agrees.agrees.calls tells))
+      (barrier t z g p.outside.pieces p.outside.swept a.did.gain.times calls looked mapped (d.does.keeps.site.start tells) (p.agrees.agrees.calls tells))
       (ap (list_any is_write) (whole ∙ looked.calls_are) ∙ none_written all spare)
 
-  given : AreGiven z (bytes_of (files_of t z.outfile)) p.pieces
-  given = subst (λ (found : Found). AreGiven z (bytes_of found.output) p.pieces) (p.agrees.found tells) (p.given tells)
+  given : AreGiven z (bytes_of (files_of t z.outfile)) p.outside.pieces
+  given = subst (λ (found : Found). AreGiven z (bytes_of found.output) p.outside.pieces) (p.agrees.agrees.found tells) (p.leaves.stops tells).0
 
-  is_generated : LeavesGenerated t z p.pieces
+  is_generated : LeavesGenerated t z p.outside.pieces
   is_generated = record {
     statuses = looked.statuses;
     state = looked.state;
     time = began_at a.did.gain.times;
-    through = through t z g p.pieces p.end a.did.gain.times a.did.gain.calls looked mapped (d.site.start tells)
-        (p.agrees.calls tells)
-        (last_saved t z g p.pieces p.end a.did.gain.times a.did.gain.calls looked mapped (d.site.start tells)
-        (p.agrees.calls tells) _ false (λ e. refl) (λ e. refl) (p.stops tells));
+    through = through t z g p.outside.pieces p.outside.swept a.did.gain.times a.did.gain.calls looked mapped (d.does.keeps.site.start tells)
+        (p.agrees.agrees.calls tells)
+        (last_saved t z g p.outside.pieces p.outside.swept a.did.gain.times a.did.gain.calls looked mapped (d.does.keeps.site.start tells)
+        (p.agrees.agrees.calls tells) _ false (λ e. refl) (λ e. refl) (p.leaves.stops tells).1);
     given = given;
-    held = generates_what_is_held z (bytes_of (files_of t z.outfile)) looks p.pieces given;
+    held = generates_what_is_held z (bytes_of (files_of t z.outfile)) looks p.outside.pieces given;
     output = output;
   }
 

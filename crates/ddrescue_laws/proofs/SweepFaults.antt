@@ -21,21 +21,22 @@ use Rattle.work_rules.specs.Work.{Deeds, WorkStep, Works}
 use Rattle.work_rules.proofs.AnswerLemmas.{IsCalled, IsRefused, Starved, Unopened, Broken, Refused, Came, Stopped, Went, came}
 use Rattle.work_rules.proofs.GainLemmas.{broke_named}
 use Rattle.ddrescue_words.specs.Options.{cluster_of}
-use Rattle.ddrescue_words.specs.Command.{Command}
+use Rattle.ddrescue_words.specs.Command.{Command, Fill, Generate}
 use Rattle.task_files.specs.declared.ending.Ending.{Ending}
 use Rattle.task_files.specs.declared.ending.Ending.TheVariants.{Done, SourceFault, SourceLost, PatternUnread, SameName, SiteFault, NoMemory}
 use Rattle.task_files.specs.Maps.{Found}
 use Rattle.task_files.specs.Outside.{Outside}
+use Rattle.ddrescue_cli.specs.Tasks.{with_did}
 use Rattle.ddrescue_cli.specs.ToldParts.{asked_of}
 use Rattle.task_files.specs.Refusals.{NamesRefused}
 use Rattle.task_files.specs.Work.{answer_of, rescue_faults, files_rows}
 use Rattle.task_files.specs.Answers.{IsGenerateCall, IsRescueCall}
 use Rattle.task_sweeps.specs.Pattern.{ThenPattern, IsLost, IsShort, IsRead}
 use Rattle.task_sweeps.specs.Modes.{MaySweep, ThenSweep, fill_rows, generate_rows}
-use Rattle.ddrescue_cli.specs.Ddrescue.{FillModePromise, GenerateModePromise}
+use Rattle.ddrescue_cli.specs.Ddrescue.{TaskDone}
 use Rattle.ddrescue_laws.specs.ModeLaws.{FillFaultsAreOfSteps, GenerateFaultsAreOfSteps, promised_fill, filling_setting, promised_generate}
 use Rattle.ddrescue_cli.proofs.RowLemmas.{of_barrier}
-use Rattle.ddrescue_cli.proofs.SweepWords.{fill_plain, files_plain, generate_plain}
+use Rattle.ddrescue_cli.proofs.RefusalLemmas.{fill_plain, files_plain, generate_plain}
 
 -- what holds of the names of the opening's calls, of reads of maps, and of a save's calls
 record OfSteps (P : SiteCall → Type 0) : Type 0 where
@@ -185,15 +186,15 @@ fill_called c found input_end call earlier at is (inr none) = absurd none
 
 pub fill_faults_are_of_steps : FillFaultsAreOfSteps
 fill_faults_are_of_steps t types c d call earlier asks is =
-    let p : FillModePromise types c t = promised_fill d asks in
-    let o : Outside = p.outside in
-    let s : Setting = filling_setting p in
+    let p : TaskDone (Fill types c) t = promised_fill d asks in
+    let o : Outside = with_did p.outside p.did in
+    let s : Setting = filling_setting t p in
     of_rows IsRescueCall fill_steps call earlier (fill_rows c o.found o.end) _ t.answer o.did is
     (λ refused. (fill_plain c o.found o.end t.answer (unnamed IsRescueCall fill_steps call earlier c t.answer is)
     refused).call call earlier is) (fill_called c o.found o.end call earlier)
-    (λ x read. of_pattern IsRescueCall fill_steps call earlier c o.found o.end p.top p.buffer _ t.answer x is
-    (λ y swept. of_then IsRescueCall fill_steps call earlier s (filler s types p.buffer) o.found.mapfile p.pieces p.end
-    o.lines t.answer y (λ e. tt) is swept) read) p.works
+    (λ x read. of_pattern IsRescueCall fill_steps call earlier c o.found o.end p.outside.top p.outside.buffer _ t.answer x is
+    (λ y swept. of_then IsRescueCall fill_steps call earlier s (filler s types p.outside.buffer) o.found.mapfile p.outside.pieces p.outside.swept
+    o.lines t.answer y (λ e. tt) is swept) read) p.work
 
 generate_called : (c : Command) (found : Found) (input_end : ℕ) (call : SiteCall) (earlier : Option Stop)
     (at : SiteCall) → at ≡ call → IsCalled at (generate_rows c found input_end) → IsGenerateCall call
@@ -204,12 +205,12 @@ generate_called c found input_end call earlier at is (inr files) =
 
 pub generate_faults_are_of_steps : GenerateFaultsAreOfSteps
 generate_faults_are_of_steps t c d call earlier asks is =
-    let p : GenerateModePromise c t = promised_generate d asks in
-    let o : Outside = p.outside in
+    let p : TaskDone (Generate c) t = promised_generate d asks in
+    let o : Outside = with_did p.outside p.did in
     let s : Setting = asked_of c t o in
     of_rows IsGenerateCall generate_steps call earlier (generate_rows c o.found o.end) _ t.answer o.did is
     (λ refused. (generate_plain c o.found o.end t.answer
     (unnamed IsGenerateCall generate_steps call earlier c t.answer is) refused).call call earlier is)
     (generate_called c o.found o.end call earlier)
-    (λ x swept. of_then IsGenerateCall generate_steps call earlier s (generator s) o.found.mapfile p.pieces p.end o.lines
-    t.answer x (λ e. tt) is swept) p.works
+    (λ x swept. of_then IsGenerateCall generate_steps call earlier s (generator s) o.found.mapfile p.outside.pieces p.outside.swept o.lines
+    t.answer x (λ e. tt) is swept) p.work

@@ -22,10 +22,11 @@ use Rattle.task_files.specs.Names.{program_name}
 use Rattle.task_files.specs.Maps.{Found}
 use Rattle.task_files.specs.Outside.{Outside}
 use Rattle.ddrescue_laws.specs.LeftAfter.{AllStand, OutputMade}
+use Rattle.ddrescue_cli.specs.Tasks.{with_did}
 use Rattle.ddrescue_cli.specs.Told.{Told}
 use Rattle.ddrescue_cli.specs.ToldParts.{files_of, asked_of}
 use Rattle.task_sweeps.specs.Modes.{Fills, Generates, fill_setting}
-use Rattle.ddrescue_cli.specs.Ddrescue.{FillModePromise, GenerateModePromise}
+use Rattle.ddrescue_cli.specs.Ddrescue.{TaskDone}
 use Rattle.ddrescue_laws.specs.ModeLaws.{UnbegunFillLeaves, UnbegunGenerateLeaves, promised_fill, promised_generate}
 use Rattle.ddrescue_cli.proofs.EarlyCut.{EarlyCut, early_cut}
 use Rattle.ddrescue_laws.proofs.LeftAfterLemmas.{made_there}
@@ -130,41 +131,41 @@ way_leaves ready s w d pieces end g on still
     absurd (let never : [] ≡ _ = sym still ∙ sym timed ∙ sweeps.times in cc)
 
 -- the folder after a call
-folder_after : (t : Told) (gained : List Entry) → t.site'.start ≡ t.site.start → t.site'.calls ≡ t.site.calls ++ gained
-    → files_in t.site' ≡ (after (after t.site.start t.site.calls) gained).files
+folder_after : (t : Told) (gained : List Entry) → t.after.site.start ≡ t.before.site.start → t.after.site.calls ≡ t.before.site.calls ++ gained
+    → files_in t.after.site ≡ (after (after t.before.site.start t.before.site.calls) gained).files
 folder_after t gained started grew =
-    ap (λ (f : Folder). (after f t.site'.calls).files) started
-    ∙ ap (λ (l : List Entry). (after t.site.start l).files) grew
-    ∙ ap (λ (f : Folder). f.files) (after-append t.site.start t.site.calls gained)
+    ap (λ (f : Folder). (after f t.after.site.calls).files) started
+    ∙ ap (λ (l : List Entry). (after t.before.site.start l).files) grew
+    ∙ ap (λ (f : Folder). f.files) (after-append t.before.site.start t.before.site.calls gained)
 
 pub unbegun_fill_leaves : UnbegunFillLeaves
 unbegun_fill_leaves t types c d asks tells still =
-    let p : FillModePromise types c t = promised_fill d asks in
-    let o : Outside = p.outside in
+    let p : TaskDone (Fill types c) t = promised_fill d asks in
+    let o : Outside = with_did p.outside p.did in
     let line : List ℕ = command_line program_name t.words in
-    let s : Setting = fill_setting c line p.top o.maps in
+    let s : Setting = fill_setting c line p.outside.top o.maps in
     let named = (reading_asks t.words asks.rows asks.items asks.operands (Fill types c) asks.options asks.reading
     asks.is).limits.named in
     subst (λ (files : List ℕ → Option File). LeavesBy true c.outfile (files_of t) files)
-    (sym (folder_after t o.did.gain.calls (d.site.start tells) (p.agrees.calls tells)))
-    (way_leaves _ s (filler s types p.buffer) (after t.site.start t.site.calls) p.pieces p.end o.did.gain
+    (sym (folder_after t o.did.gain.calls (d.does.keeps.site.start tells) (p.agrees.agrees.calls tells)))
+    (way_leaves _ s (filler s types p.outside.buffer) (after t.before.site.start t.before.site.calls) p.outside.pieces p.outside.swept o.did.gain
     (named_on c.mapfile named) still
-    (fill_way (files_of t) line o.end p.top o.maps types p.buffer p.pieces p.end o.lines t.answer o.did c named
-    (subst (λ (found : Found). Fills types c found o.end p.top s p.buffer p.pieces p.end o.lines t.answer o.did)
-    (p.agrees.found tells) p.works)))
+    (fill_way (files_of t) line o.end p.outside.top o.maps types p.outside.buffer p.outside.pieces p.outside.swept o.lines t.answer o.did c named
+    (subst (λ (found : Found). Fills types c found o.end p.outside.top s p.outside.buffer p.outside.pieces p.outside.swept o.lines t.answer o.did)
+    (p.agrees.agrees.found tells) p.work)))
 
 pub unbegun_generate_leaves : UnbegunGenerateLeaves
 unbegun_generate_leaves t c d asks tells still =
-    let p : GenerateModePromise c t = promised_generate d asks in
-    let o : Outside = p.outside in
+    let p : TaskDone (Generate c) t = promised_generate d asks in
+    let o : Outside = with_did p.outside p.did in
     let line : List ℕ = command_line program_name t.words in
     let s : Setting = asked_of c t o in
     let named = (reading_asks t.words asks.rows asks.items asks.operands (Generate c) asks.options asks.reading
     asks.is).limits.named in
     subst (λ (files : List ℕ → Option File). LeavesBy false c.outfile (files_of t) files)
-    (sym (folder_after t o.did.gain.calls (d.site.start tells) (p.agrees.calls tells)))
-    (way_leaves _ s (generator s) (after t.site.start t.site.calls) p.pieces p.end o.did.gain (named_on c.mapfile named)
+    (sym (folder_after t o.did.gain.calls (d.does.keeps.site.start tells) (p.agrees.agrees.calls tells)))
+    (way_leaves _ s (generator s) (after t.before.site.start t.before.site.calls) p.outside.pieces p.outside.swept o.did.gain (named_on c.mapfile named)
     still
-    (generate_way (files_of t) line o.end o.maps p.pieces p.end o.lines t.answer o.did c named
-    (subst (λ (found : Found). Generates c found o.end s p.pieces p.end o.lines t.answer o.did) (p.agrees.found tells)
-    p.works)))
+    (generate_way (files_of t) line o.end o.maps p.outside.pieces p.outside.swept o.lines t.answer o.did c named
+    (subst (λ (found : Found). Generates c found o.end s p.outside.pieces p.outside.swept o.lines t.answer o.did) (p.agrees.agrees.found tells)
+    p.work)))

@@ -18,7 +18,7 @@ use Rattle.task_files.specs.Maps.{Found}
 use Rattle.task_files.specs.Work.{rescue_faults}
 use Rattle.task_sweeps.specs.Pattern.{IsPatternRead, IsRepeated, ThenPattern, IsLost, IsShort, IsRead}
 use Rattle.task_sweeps.specs.Modes.{Fills, fill_rows}
-use Rattle.ddrescue_cli.proofs.SweepWords.{fill_plain}
+use Rattle.ddrescue_cli.proofs.RefusalLemmas.{fill_plain}
 use Rattle.ddrescue_laws.proofs.SweepDone.{undone_by, unnamed}
 
 -- the first read gave the pattern that fills the buffer

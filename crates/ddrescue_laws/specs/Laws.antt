@@ -29,6 +29,7 @@ use Rattle.task_files.specs.Asked.{Maps}
 use Rattle.task_files.specs.Maps.{Found, AreMapsIn}
 use Rattle.task_files.specs.Outside.{Outside}
 use Rattle.ddrescue_cli.specs.Told.{Told, calls_before}
+use Rattle.ddrescue_cli.specs.Tasks.{with_did}
 use Rattle.ddrescue_cli.specs.ToldParts.{files_of, asked_of}
 use Rattle.task_files.specs.Work.{Rescues, rescue_faults, rescue_rows}
 use Rattle.task_files.specs.Answers.{IsRescueCall}
@@ -38,7 +39,8 @@ use Rattle.ddrescue_cli.specs.Ddrescue.{Ddrescue}
 
 -- the outside of a promise, the setting by it, and what was done there
 abbrev pub outside_by : {t : Told} {c : Command} → Ddrescue t → Asks t.words c → Outside
-outside_by {t} {c} d asks = (d.asked_for (Rescue c) asks).outside
+outside_by {t} {c} d asks =
+    with_did (d.does.asked_for (Rescue c) asks).outside (d.does.asked_for (Rescue c) asks).did
 
 abbrev pub setting_promised : {t : Told} {c : Command} → Ddrescue t → Asks t.words c → Setting
 setting_promised {t} {c} d asks = asked_of c t (outside_by d asks)
@@ -48,13 +50,13 @@ done_by {t} {c} d asks = (outside_by d asks).did.gain
 
 -- Where the files tell, what an answer before the first read leaves of them is known by the answer.
 abbrev pub FilesAreLeft : Type 0
-FilesAreLeft = (t : Told) (c : Command) (d : Ddrescue t) → Asks t.words c → IsTrue t.site.tells
-    → IsLeft t.answer (names_maps c) c.outfile (files_of t) (files_in t.site')
+FilesAreLeft = (t : Told) (c : Command) (d : Ddrescue t) → Asks t.words c → IsTrue t.before.site.tells
+    → IsLeft t.answer (names_maps c) c.outfile (files_of t) (files_in t.after.site)
 
 -- Where the input tells, whatever the files do: what was read is a run, which asks few times and ends well.
 abbrev pub ReadsAreARun : Type 0
-ReadsAreARun = (t : Told) (c : Command) (d : Ddrescue t) (asks : Asks t.words c) → IsTrue t.source.tells
-    → HasRead (setting_promised d asks) (outside_by d asks).maps.test t.answer t.source t.source'
+ReadsAreARun = (t : Told) (c : Command) (d : Ddrescue t) (asks : Asks t.words c) → IsTrue t.before.source.tells
+    → HasRead (setting_promised d asks) (outside_by d asks).maps.test t.answer t.before.source t.after.source
 
 -- An answer of a rescue that names a failed call names one that a step makes.
 abbrev pub FaultsAreOfSteps : Type 0
@@ -65,16 +67,16 @@ FaultsAreOfSteps = (t : Told) (c : Command) (d : Ddrescue t) (call : SiteCall) (
 abbrev pub HoldsAtEnd : Type 0
 HoldsAtEnd =
     (t : Told) (c : Command) (began : List Status) (state : Option MapState) (d : Ddrescue t) (asks : Asks t.words c)
-    → IsTrue t.site.tells → (setting_promised d asks).has_mapfile ≡ true → has_barrier (done_by d asks).calls ≡ true
+    → IsTrue t.before.site.tells → (setting_promised d asks).has_mapfile ≡ true → has_barrier (done_by d asks).calls ≡ true
     → Stands (files_of t (setting_promised d asks).names.map) (setting_promised d asks).end began state
     → IsKept (calls_before t) (setting_promised d asks) (done_by d asks) began state (length (done_by d asks).calls)
-    (files_in t.site')
+    (files_in t.after.site)
 
 -- the state that a rescue came to over a map, and the state that its mapfile showed
 abbrev pub machine_reached : Setting → Gain → List Status → Option MapState → Machine
 machine_reached s g statuses state = state_after s (begins s statuses state g) (events_in g)
 
--- What a rescue leaves that went on to its end, over the map that its mapfile gave, or no mapfile:
+-- What a rescue leaves that went on to its end, over the map that its mapfile stood for, or no mapfile:
 pub record LeavesRescued (t : Told) (s : Setting) (g : Gain) : Type 0 where
   pub statuses : List Status
   pub state : Option MapState
@@ -86,34 +88,31 @@ pub record LeavesRescued (t : Told) (s : Setting) (g : Gain) : Type 0 where
   -- rescued, or not to be tried further, or tried in vain as often as was asked
   pub well : EndsWell s (begins s statuses state g) (events_in g)
   -- the mapfile, if there is one, is the map of all reads, and says that it is finished
-  pub mapfile : s.has_mapfile ≡ true → files_in t.site' s.names.map
-      ≡ Some (record {
-        bytes = text_of s.line (finished_snapshot (machine_reached s g statuses state));
-        regular = true;
-      })
+  pub mapfile : s.has_mapfile ≡ true → files_in t.after.site s.names.map
+      ≡ Some (record { bytes = text_of s.line (finished_snapshot (machine_reached s g statuses state)); regular = true })
   -- and the output holds what that map promises
   pub held : Held s g.reads (bytes_of (files_of t s.outfile)) (machine_reached s g statuses state).map
-      (bytes_of (files_in t.site' s.outfile))
+      (bytes_of (files_in t.after.site s.outfile))
 
 -- A finished rescue leaves that.
 abbrev pub DoneIsSaved : Type 0
-DoneIsSaved = (t : Told) (c : Command) (d : Ddrescue t) (asks : Asks t.words c) → IsTrue t.site.tells
+DoneIsSaved = (t : Told) (c : Command) (d : Ddrescue t) (asks : Asks t.words c) → IsTrue t.before.site.tells
     → t.answer ≡ Done → LeavesRescued t (setting_promised d asks) (done_by d asks)
 
--- What the reads gave is the input's own, if the input tells. So what a saved map calls finished, and the reads gave,
--- is in the output as it is in the input.
+-- What the reads gave is the input's own, where the input tells. So what a saved map calls finished, and the reads
+-- gave, stands in the output as it stands in the input.
 abbrev pub GivenIsInput : Type 0
-GivenIsInput = (t : Told) (c : Command) (x b : ℕ) (d : Ddrescue t) (asks : Asks t.words c) → IsTrue t.source.tells
-    → given c.options.sector (done_by d asks).reads x ≡ Some b → slice_get t.source.bytes x ≡ Some b
+GivenIsInput = (t : Told) (c : Command) (x b : ℕ) (d : Ddrescue t) (asks : Asks t.words c) → IsTrue t.before.source.tells
+    → given c.options.sector (done_by d asks).reads x ≡ Some b → slice_get t.before.source.bytes x ≡ Some b
 
 -- no open of the input failed, no read was lost, and no call on the files failed; and the counts say so
 pub record NothingFailed (t : Told) : Type 0 where
-  pub opens : t.source'.faults ≡ t.source.faults
-  pub reads : t.source'.losses ≡ t.source.losses
-  pub calls : t.site'.faults ≡ t.site.faults
-  pub opens_count : t.source.faults < 2 ^ 64 - 1
-  pub reads_count : t.source.losses < 2 ^ 64 - 1
-  pub calls_count : t.site.faults < 2 ^ 64 - 1
+  pub opens : t.after.source.faults ≡ t.before.source.faults
+  pub reads : t.after.source.losses ≡ t.before.source.losses
+  pub calls : t.after.site.faults ≡ t.before.site.faults
+  pub opens_count : t.before.source.faults < 2 ^ 64 - 1
+  pub reads_count : t.before.source.losses < 2 ^ 64 - 1
+  pub calls_count : t.before.site.faults < 2 ^ 64 - 1
 
 -- no row of the work refuses anything: the names of the files are apart, the maps that options name and the mapfile are
 -- maps, the output may be written to, and each position has a place in it
@@ -144,9 +143,10 @@ MapsAreThere = (c : Command) (found : Found) → (maps : Maps) × AreMapsIn c fo
 abbrev pub SampleIsOneLine : Type 0
 SampleIsOneLine = (t t' : Told) (kib : ℕ) (quiet quiet' : Bool) (d : Ddrescue t) (d' : Ddrescue t')
     (asks : AskSample t.words kib quiet) (asks' : AskSample t'.words kib quiet') → t.answer ≡ Done → t'.answer ≡ Done
-    → (d.asked_for (Sample kib quiet) asks).lines ≡ (d'.asked_for (Sample kib quiet') asks').lines
+    → (d.does.asked_for (Sample kib quiet) asks).outside.lines
+    ≡ (d'.does.asked_for (Sample kib quiet') asks').outside.lines
 
--- an answer that a command, an input's length and the files that were found lead to, whatever the calls and memory do
+-- an answer that a command, an input's length and the files that were found bring, whatever the calls and memory do
 pub record IsVerdict (e : Ending) : Type 0 where
   pub opened : e ≢ SourceFault
   pub kept : e ≢ SourceLost
@@ -154,7 +154,7 @@ pub record IsVerdict (e : Ending) : Type 0 where
   pub room : e ≢ NoMemory
   pub call : (call : SiteCall) (earlier : Option Stop) → e ≢ SiteFault call earlier
 
--- A command, an input's length and the files that were found lead to one such answer at most.
+-- They bring one such answer at most.
 abbrev pub HasOneVerdict : Type 0
 HasOneVerdict = (c : Command) (s : Setting) (found : Found) (lines lines' : List (List ℕ)) (e e' : Ending)
     (d d' : Deeds) → Works rescue_faults (rescue_rows c found s.end) (Rescues s found.mapfile lines) e d

@@ -25,42 +25,40 @@ use Rattle.task_files.specs.declared.ending.Ending.{Ending}
 use Rattle.task_files.specs.declared.ending.Ending.TheVariants.{Done, PatternUnread, SiteFault, NoMemory}
 use Rattle.task_files.specs.Names.{program_name}
 use Rattle.task_files.specs.Maps.{Found}
-use Rattle.task_files.specs.Outside.{Outside}
 use Rattle.task_files.specs.Answers.{IsGenerateCall, IsRescueCall}
 use Rattle.ddrescue_laws.specs.InputRead.{IsOfOpening}
 use Rattle.ddrescue_laws.specs.LeftAfter.{AllStand, OutputMade}
 use Rattle.ddrescue_cli.specs.Told.{Told}
+use Rattle.ddrescue_cli.specs.Tasks.{TaskOutside, with_did}
 use Rattle.ddrescue_cli.specs.ToldParts.{asked_of, files_of}
 use Rattle.task_files.specs.Work.{files_rows}
 use Rattle.task_sweeps.specs.Pattern.{IsRepeated}
 use Rattle.task_sweeps.specs.Modes.{Fills, Generates, fill_rows, fill_setting, generate_rows}
-use Rattle.ddrescue_cli.specs.Ddrescue.{Ddrescue, FillModePromise, GenerateModePromise}
+use Rattle.ddrescue_cli.specs.Ddrescue.{Ddrescue, TaskDone}
 use Rattle.ddrescue_laws.specs.Laws.{IsVerdict, NothingFailed}
 
 -- the promise of a filling, and what it was asked for
 abbrev pub promised_fill : {t : Told} {types : TypeSet} {c : Command} → Ddrescue t → AskTask t.words (Fill types c)
-    → FillModePromise types c t
-promised_fill {t} {types} {c} d asks = d.asked_for (Fill types c) asks
+    → TaskDone (Fill types c) t
+promised_fill {t} {types} {c} d asks = d.does.asked_for (Fill types c) asks
 
-abbrev pub filling_setting : {t : Told} {types : TypeSet} {c : Command} → FillModePromise types c t → Setting
-filling_setting {t} {types} {c} p = fill_setting c (command_line program_name t.words) p.top p.outside.maps
+abbrev pub filling_setting : (t : Told) {types : TypeSet} {c : Command} → TaskDone (Fill types c) t → Setting
+filling_setting t {types} {c} p = fill_setting c (command_line program_name t.words) p.outside.top p.outside.maps
 
 -- the promise of a generating
-abbrev pub promised_generate : {t : Told} {c : Command} → Ddrescue t → AskTask t.words (Generate c)
-    → GenerateModePromise c t
-promised_generate {t} {c} d asks = d.asked_for (Generate c) asks
+abbrev pub promised_generate : {t : Told} {c : Command} → Ddrescue t → AskTask t.words (Generate c) → TaskDone (Generate c) t
+promised_generate {t} {c} d asks = d.does.asked_for (Generate c) asks
 
 -- nothing of a filling is refused
-pub record FillsUnrefused (c : Command) (o : Outside) (top : ℕ) : Type 0 where
+pub record FillsUnrefused (c : Command) (o : TaskOutside) : Type 0 where
   pub pattern : RefuseNothing (fill_rows c o.found o.end)
-  pub files : RefuseNothing (files_rows true c o.found top)
+  pub files : RefuseNothing (files_rows true c o.found o.top)
 
--- Where nothing failed, nothing is refused, the pattern came whole and memory doesn't run out, a filling is done,
--- whoever tells.
+-- Where nothing failed, nothing is refused, the pattern came whole and memory doesn't run out, a filling is done, whoever
+-- tells.
 abbrev pub FillIsDoneUnless : Type 0
 FillIsDoneUnless = (t : Told) (types : TypeSet) (c : Command) (d : Ddrescue t) (asks : AskTask t.words (Fill types c))
-    → NothingFailed t → FillsUnrefused c (promised_fill d asks).outside (promised_fill d asks).top
-    → t.answer ≢ PatternUnread
+    → NothingFailed t → FillsUnrefused c (promised_fill d asks).outside → t.answer ≢ PatternUnread
     → t.answer ≢ NoMemory → t.answer ≡ Done
 
 -- Where nothing failed, nothing is refused and memory doesn't run out, a generating is done, whoever tells.
@@ -82,13 +80,12 @@ GenerateFaultsAreOfSteps = (t : Told) (c : Command) (d : Ddrescue t) (call : Sit
 -- made, empty; and such a generating leaves every file.
 abbrev pub UnbegunFillLeaves : Type 0
 UnbegunFillLeaves = (t : Told) (types : TypeSet) (c : Command) (d : Ddrescue t) (asks : AskTask t.words (Fill types c))
-    → IsTrue t.site.tells → (promised_fill d asks).outside.did.gain.times ≡ []
-    → AllStand (files_of t) (files_in t.site') ⊎ OutputMade c.outfile (files_of t) (files_in t.site')
+    → IsTrue t.before.site.tells → (promised_fill d asks).did.gain.times ≡ []
+    → AllStand (files_of t) (files_in t.after.site) ⊎ OutputMade c.outfile (files_of t) (files_in t.after.site)
 
 abbrev pub UnbegunGenerateLeaves : Type 0
 UnbegunGenerateLeaves = (t : Told) (c : Command) (d : Ddrescue t) (asks : AskTask t.words (Generate c))
-    → IsTrue t.site.tells → (promised_generate d asks).outside.did.gain.times ≡ []
-    → AllStand (files_of t) (files_in t.site')
+    → IsTrue t.before.site.tells → (promised_generate d asks).did.gain.times ≡ [] → AllStand (files_of t) (files_in t.after.site)
 
 -- an answer that comes before a sweep: a refusal, a pattern that was lost, or a call of the opening that failed
 pub record IsBeforeSweep (e : Ending) : Type 0 where
@@ -100,15 +97,15 @@ pub record IsBeforeSweep (e : Ending) : Type 0 where
 -- output may be made, empty; and such a generating leaves every file.
 abbrev pub RefusedFillLeaves : Type 0
 RefusedFillLeaves = (t : Told) (types : TypeSet) (c : Command) (d : Ddrescue t) → AskTask t.words (Fill types c)
-    → IsTrue t.site.tells → IsBeforeSweep t.answer
-    → AllStand (files_of t) (files_in t.site') ⊎ OutputMade c.outfile (files_of t) (files_in t.site')
+    → IsTrue t.before.site.tells → IsBeforeSweep t.answer
+    → AllStand (files_of t) (files_in t.after.site) ⊎ OutputMade c.outfile (files_of t) (files_in t.after.site)
 
 abbrev pub RefusedGenerateLeaves : Type 0
 RefusedGenerateLeaves = (t : Told) (c : Command) (d : Ddrescue t) → AskTask t.words (Generate c)
-    → IsTrue t.site.tells → IsBeforeSweep t.answer → AllStand (files_of t) (files_in t.site')
+    → IsTrue t.before.site.tells → IsBeforeSweep t.answer → AllStand (files_of t) (files_in t.after.site)
 
--- A filling whose pattern comes whole has one verdict at most, by its command, its pattern's length and the files that
--- it finds, and so has a generating.
+-- A filling whose pattern comes whole has one verdict at most, by its command, its pattern's length and the files that it
+-- finds, and so has a generating.
 abbrev pub FillHasOneVerdict : Type 0
 FillHasOneVerdict = (types : TypeSet) (c : Command) (found : Found) (input_end top : ℕ) (s s' : Setting)
     (buffer buffer' : List ℕ) (pieces pieces' : List Swept) (end end' : RunEnd) (lines lines' : List (List ℕ))
@@ -122,14 +119,14 @@ GenerateHasOneVerdict = (c : Command) (found : Found) (input_end : ℕ) (s s' : 
     → Generates c found input_end s pieces end lines e d → Generates c found input_end s' pieces' end' lines' e' d'
     → IsVerdict e → IsVerdict e' → e ≡ e'
 
--- What a sweep leaves that went on to its end, over the map that its mapfile gave: all its pieces in order, and a
+-- What a sweep leaves that went on to its end, over the map that its mapfile stood for: all its pieces in order, and a
 -- mapfile that says that it is finished.
 pub record IsSweptThrough (t : Told) (s : Setting) (w : Sweeper) (pieces : List Swept) (statuses : List Status)
     (state : Option MapState) (time : ℕ) : Type 0 where
   pub stands : Stands (files_of t s.names.map) s.end statuses state
   pub sweep : IsSweep s w (sweep_over w statuses state time) pieces
   pub over : IsSweptOut s w (after_pieces w (sweep_over w statuses state time) pieces)
-  pub mapfile : files_in t.site' s.names.map ≡ Some (record {
+  pub mapfile : files_in t.after.site s.names.map ≡ Some (record {
     bytes = text_of s.line (sweep_end true (after_pieces w (sweep_over w statuses state time) pieces));
     regular = true;
   })
@@ -140,24 +137,22 @@ HasNoPiece s pieces y = All (λ e. (y < place s e.pos) ⊎ (place s e.pos + e.le
 
 -- What a filling leaves that is done: its map as it was, the pattern in each piece, and the old bytes elsewhere. If the
 -- source tells, the pattern is the infile's front.
-pub record LeavesFilled (t : Told) (s : Setting) (types : TypeSet) (buffer : List ℕ) (pieces : List Swept)
-    : Type 0 where
+pub record LeavesFilled (t : Told) (s : Setting) (types : TypeSet) (buffer : List ℕ) (pieces : List Swept) : Type 0 where
   pub statuses : List Status
   pub state : Option MapState
   pub time : ℕ
   pub through : IsSweptThrough t s (filler s types buffer) pieces statuses state time
   pub map : (after_pieces (filler s types buffer) (sweep_over (filler s types buffer) statuses state time) pieces).map
       ≡ statuses
-  pub pattern : IsTrue t.source.tells → IsRepeated (take s.cluster t.source.bytes) s.cluster buffer
-  pub filled : AreFilled s buffer pieces (bytes_of (files_in t.site' s.outfile))
+  pub pattern : IsTrue t.before.source.tells → IsRepeated (take s.cluster t.before.source.bytes) s.cluster buffer
+  pub filled : AreFilled s buffer pieces (bytes_of (files_in t.after.site s.outfile))
   pub elsewhere : (y : ℕ) → y < length (bytes_of (files_of t s.outfile)) → HasNoPiece s pieces y
-      → slice_get (bytes_of (files_in t.site' s.outfile)) y ≡ slice_get (bytes_of (files_of t s.outfile)) y
+      → slice_get (bytes_of (files_in t.after.site s.outfile)) y ≡ slice_get (bytes_of (files_of t s.outfile)) y
 
 abbrev pub DoneIsFilled : Type 0
 DoneIsFilled = (t : Told) (types : TypeSet) (c : Command) (d : Ddrescue t) (asks : AskTask t.words (Fill types c))
-    → IsTrue t.site.tells → t.answer ≡ Done
-    → LeavesFilled t (filling_setting (promised_fill d asks)) types (promised_fill d asks).buffer
-    (promised_fill d asks).pieces
+    → IsTrue t.before.site.tells → t.answer ≡ Done
+    → LeavesFilled t (filling_setting t (promised_fill d asks)) types (promised_fill d asks).outside.buffer (promised_fill d asks).outside.pieces
 
 -- What a generating leaves that is done: a map of what the output held, and the output as it was.
 pub record LeavesGenerated (t : Told) (s : Setting) (pieces : List Swept) : Type 0 where
@@ -167,12 +162,11 @@ pub record LeavesGenerated (t : Told) (s : Setting) (pieces : List Swept) : Type
   pub through : IsSweptThrough t s (generator s) pieces statuses state time
   pub given : AreGiven s (bytes_of (files_of t s.outfile)) pieces
   -- what its map calls finished was so before, or has a byte in the output
-  pub held : (x : ℕ)
-      → Has (after_pieces (generator s) (sweep_over (generator s) statuses state time) pieces).map Finished x
+  pub held : (x : ℕ) → Has (after_pieces (generator s) (sweep_over (generator s) statuses state time) pieces).map Finished x
       → Has statuses Finished x ⊎ ((b : ℕ) × (slice_get (bytes_of (files_of t s.outfile)) (place s x) ≡ Some b))
-  pub output : bytes_of (files_in t.site' s.outfile) ≡ bytes_of (files_of t s.outfile)
+  pub output : bytes_of (files_in t.after.site s.outfile) ≡ bytes_of (files_of t s.outfile)
 
 abbrev pub DoneIsGenerated : Type 0
 DoneIsGenerated = (t : Told) (c : Command) (d : Ddrescue t) (asks : AskTask t.words (Generate c))
-    → IsTrue t.site.tells → t.answer ≡ Done
-    → LeavesGenerated t (asked_of c t (promised_generate d asks).outside) (promised_generate d asks).pieces
+    → IsTrue t.before.site.tells → t.answer ≡ Done
+    → LeavesGenerated t (asked_of c t (with_did (promised_generate d asks).outside (promised_generate d asks).did)) (promised_generate d asks).outside.pieces

@@ -16,12 +16,13 @@ use Rattle.work_rules.specs.Work.{Deeds, Take, Look}
 use Rattle.program_promise.specs.Kinds.{AtPut, Kind, Asked, Failed}
 use Rattle.program_promise.specs.Causes.{Changed, changes_of}
 use Rattle.program_promise.specs.Printing.{PutsByKind}
+use Rattle.program_promise.specs.Rows.{usage_kind}
 use Rattle.ddrescuelog_cli.specs.declared.ending.LogEnding.{LogEnding}
 use Rattle.ddrescuelog_cli.specs.declared.ending.LogEnding.TheVariants.{Done, NotDone, Differ, Usage, FeedFault, ConsoleFault}
 use Rattle.ddrescuelog_cli.specs.Modes.{prints, removes_map}
 use Rattle.ddrescuelog_cli.specs.Maps.{Maps}
 use Rattle.ddrescuelog_cli.specs.Refusals.{PlacesRefused}
-use Rattle.ddrescuelog_cli.specs.Answers.{FitsCommand, TakesFeed, drafting_left, row_of, usage_kind}
+use Rattle.ddrescuelog_cli.specs.Answers.{FitsCommand, TakesFeed, drafting_left, row_of}
 use Rattle.ddrescuelog_cli.specs.After.{SiteLeft, feed_count, site_count}
 use Rattle.ddrescuelog_cli.specs.Printing.{PutsAs, PutsWhole}
 use Rattle.ddrescuelog_cli.specs.Ddrescuelog.{handed}

@@ -6,12 +6,13 @@ use Rattle.option_words.specs.declared.fault.UsageFault.{UsageFault}
 use Rattle.option_words.specs.declared.fault.UsageFault.TheVariants.{BadValue, Modes, PlaceTooLarge}
 use Rattle.option_values.specs.Grammar.{unless_empty}
 use Rattle.option_values.specs.Values.{empty_operand}
-use Rattle.program_promise.specs.World.{WorldState}
+use Rattle.program_promise.specs.World.{WorldState, Told}
 use Rattle.program_promise.specs.Kinds.{IsWorkKind, Wrong}
 use Rattle.program_promise.specs.WellMade.{IsWellMade}
-use Rattle.program_promise.specs.Promise.{IsDone, Nothing, Message, Says, Told}
+use Rattle.program_promise.specs.Promise.{IsDone, Nothing, Message, Says}
 use Rattle.program_promise.proofs.GrammarLemmas.{IsRefusedBy, refused_by}
 use Rattle.program_promise.proofs.PromiseLemmas.{asked, keeps_promises}
+use Rattle.program_promise.specs.Rows.{usage_kind}
 use Rattle.ddrescuelog_words.specs.declared.mode.LogMode.{LogMode}
 use Rattle.ddrescuelog_words.specs.declared.options.LogOptions.{LogOptions}
 use Rattle.ddrescuelog_words.specs.Options.{options_in}
@@ -19,7 +20,7 @@ use Rattle.ddrescuelog_words.specs.Command.{Command, IsAsked, is_too_long, modes
 use Rattle.save_resume.proofs.FillLemmas.{keeps_self}
 use Rattle.ddrescuelog_cli.specs.declared.ending.LogEnding.{LogEnding}
 use Rattle.ddrescuelog_cli.specs.declared.ending.LogEnding.TheVariants.{Usage, NoMemory}
-use Rattle.ddrescuelog_cli.specs.Answers.{FitsCommand, FitsUsage, IsModeFault, drafting_left, row_of, usage_kind}
+use Rattle.ddrescuelog_cli.specs.Answers.{FitsCommand, FitsUsage, IsModeFault, drafting_left, row_of}
 use Rattle.ddrescuelog_cli.specs.Ddrescuelog.{LogKeeps, LogWorked, log_program}
 use Rattle.ddrescuelog_cli.specs.Laws.{LogKeepsPromises}
 use Rattle.ddrescuelog_cli.proofs.AfterLemmas.{feed_keeps}

@@ -11,9 +11,9 @@ use Rattle.save_resume.specs.Saving.{drafting_after_fault}
 use Rattle.option_words.specs.declared.fault.WordFault.TheVariants.{NoMemory as WordNoMemory}
 use Rattle.option_words.specs.declared.fault.UsageFault.{UsageFault}
 use Rattle.option_words.specs.declared.fault.UsageFault.TheVariants.{Word, BadValue, Conflict, Modes, Operands, PlaceTooLarge}
-use Rattle.fault_texts.specs.Texts.{usage_text, error_text, fault_text, at_line, message_of}
-use Rattle.program_promise.specs.Kinds.{Kind, Brought, Wrong, AtCall, AtTake, AtPut, is_silent_kind}
-use Rattle.program_promise.specs.Rows.{AnswerRow, asked_row, brought_row, failed_row, only_where, starved_row}
+use Rattle.fault_texts.specs.Texts.{error_text, fault_text, at_line, message_of}
+use Rattle.program_promise.specs.Kinds.{AtCall, AtTake, AtPut, is_silent_kind}
+use Rattle.program_promise.specs.Rows.{AnswerRow, asked_row, brought_row, failed_row, only_where, starved_row, usage_row}
 use Rattle.ddrescuelog_words.specs.Modes.{creates}
 use Rattle.ddrescuelog_words.specs.Command.{Command}
 use Rattle.ddrescuelog_cli.specs.declared.ending.Which.{Which}
@@ -35,18 +35,6 @@ which_text OtherMap = codes "other mapfile"
 abbrev pub map_error_text : Which → MapError → List ℕ
 map_error_text which error = which_text which ++ codes ": " ++ error_text error
 
--- a fault of words that ask for nothing; a place is checked after the words
-abbrev pub usage_kind : UsageFault → Kind
-usage_kind (Word fault) = Wrong (Word fault)
-usage_kind (BadValue n) = Wrong (BadValue n)
-usage_kind (Conflict n) = Wrong (Conflict n)
-usage_kind (Modes given) = Wrong (Modes given)
-usage_kind (Operands given) = Wrong (Operands given)
-usage_kind PlaceTooLarge = Brought
-
-abbrev pub usage_row : UsageFault → AnswerRow
-usage_row fault = record { kind = usage_kind fault; status = 1; text = usage_text fault; also = ⊤ }
-
 -- Want of memory isn't told as an error of a map.
 abbrev pub row_of : LogEnding → AnswerRow
 row_of Done = asked_row 0
@@ -67,11 +55,11 @@ row_of NoMemory = starved_row
 abbrev pub status_of_ending : LogEnding → ℕ
 status_of_ending e = (row_of e).status
 
--- an answer has no message, since it is what was asked for
+-- nothing is said of an answer, since it is what was asked for
 abbrev pub is_silent : LogEnding → Bool
 is_silent e = is_silent_kind (row_of e).kind
 
--- the text on an answer, and the message on standard error
+-- what is said of an answer, and the message on standard error
 abbrev pub text_of_ending : LogEnding → List ℕ
 text_of_ending e = (row_of e).text
 
@@ -109,7 +97,7 @@ MayCall DraftPublish c = creates c.mode ≡ true
 MayCall MapSettle c = (creates c.mode ≡ true) ⊎ (removes_map c.mode ≡ true)
 MayCall MapRemove c = removes_map c.mode ≡ true
 
--- words that ask for something are refused only for a place
+-- words that ask for something are refused for nothing but a place
 abbrev pub FitsUsage : UsageFault → Command → Type 0
 FitsUsage (Word fault) c = ⊥
 FitsUsage (BadValue n) c = ⊥

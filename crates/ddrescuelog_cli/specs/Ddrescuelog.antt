@@ -6,9 +6,9 @@ use Rattle.rescue_console.specs.FeedState.{FeedState, Keeps as FeedKeeps}
 use Rattle.rescue_console.specs.ConsoleState.{ConsoleState}
 use Rattle.save_resume.specs.MapNames.{names_of}
 use Rattle.work_rules.specs.Work.{Deeds}
-use Rattle.program_promise.specs.World.{WorldState, no_clock, no_source}
+use Rattle.program_promise.specs.World.{WorldState, no_clock, no_source, Told}
 use Rattle.program_promise.specs.Program.{Program}
-use Rattle.program_promise.specs.Promise.{Told, IsDone, Promise, Worked}
+use Rattle.program_promise.specs.Promise.{IsDone, Promise, Worked}
 use Rattle.ddrescuelog_words.specs.Modes.{creates}
 use Rattle.ddrescuelog_words.specs.Command.{Command, log_grammar}
 use Rattle.ddrescuelog_cli.specs.declared.ending.LogEnding.{LogEnding}
@@ -65,7 +65,7 @@ log_program = record {
   faults = log_faults;
   Fits = λ c e. FitsCommand e c;
   rows = λ c o. first_rows (creates c.mode) c o.found;
-  Run = λ c o. RunsAs (creates c.mode) c o.line o.list o.found o.maps;
+  Run = λ c line o. RunsAs (creates c.mode) c o.line o.list o.found o.maps;
   Agrees = Agrees;
   Leaves = LeavesAs;
   Begins = λ w. w.site.is_drafting ≡ false;

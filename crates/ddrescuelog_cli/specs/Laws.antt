@@ -11,7 +11,7 @@ use Rattle.work_rules.specs.Work.{Deeds, WorkStep}
 use Rattle.work_rules.specs.Verdicts.{RefuseNothing}
 use Rattle.program_promise.specs.Kinds.{Kind, Asked, Brought, Wrong, Failed, Starved}
 use Rattle.program_promise.specs.Program.{line_by}
-use Rattle.program_promise.specs.Promise.{Told}
+use Rattle.program_promise.specs.World.{Told}
 use Rattle.program_promise.specs.WellMade.{IsVerdict as IsVerdictOf}
 use Rattle.program_promise.specs.Laws.{KeepsPromises, NothingFailed}
 use Rattle.ddrescuelog_words.specs.Modes.{creates}

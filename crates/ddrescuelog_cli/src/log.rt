@@ -4,7 +4,7 @@ ghost use Rattle.mapfile_text.specs.declared.heading.Program.TheVariants.{Ddresc
 ghost use Rattle.rescue_console.specs.FeedState.{FeedState};
 ghost use Rattle.option_words.specs.declared.fault.UsageFault.{UsageFault as Fault};
 ghost use Rattle.option_words.specs.Words.{command_line};
-ghost use Rattle.program_promise.specs.Promise.{told};
+ghost use Rattle.program_promise.specs.World.{told};
 ghost use Rattle.ddrescuelog_words.specs.Modes.{creates};
 ghost use Rattle.ddrescuelog_words.specs.Command.{AreInLimits, AreRefused, told_by};
 ghost use Rattle.ddrescuelog_cli.specs.Modes.{removes_map};

@@ -3,11 +3,11 @@ use Rattle.std.specs.Prelude.{⊤, ℕ, Bool, List}
 use Rattle.faulty_source.specs.SourceState.{SourceState}
 use Rattle.faulty_source.specs.SourceChanges.{Keeps}
 use Rattle.rescue_console.specs.ConsoleState.{ConsoleState}
-use Rattle.program_promise.specs.World.{WorldState, no_clock, no_feed, no_site}
+use Rattle.program_promise.specs.World.{WorldState, no_clock, no_feed, no_site, Told}
 use Rattle.program_promise.specs.WordFaults.{IsPlainFault}
 use Rattle.program_promise.specs.Printing.{PutsText}
 use Rattle.program_promise.specs.Program.{Program}
-use Rattle.program_promise.specs.Promise.{Told, IsDone, Promise, Worked}
+use Rattle.program_promise.specs.Promise.{IsDone, Promise, Worked}
 use Rattle.ddrescuepart_words.specs.Command.{Command, part_grammar}
 use Rattle.ddrescuepart_cli.specs.declared.ending.PartEnding.{PartEnding}
 use Rattle.ddrescuepart_cli.specs.declared.ending.PartEnding.TheVariants.{Usage}
@@ -32,7 +32,7 @@ part_program = record {
   faults = part_faults;
   Fits = λ c e. ⊤;
   rows = λ c length. part_rows c;
-  Run = λ c length. ReadsPart c;
+  Run = λ c line length. ReadsPart c;
   Agrees = λ c length did old new. Agrees length did old.source new.source;
   Leaves = λ c line length e did old new.
       PutsText (row_of e).kind (text_of c line length did) old.console new.console;

@@ -1,7 +1,7 @@
 -- What the definitions mean.
 use Rattle.std.specs.Prelude.{◌≡◌, ◌≢◌, ℕ, List}
 use Rattle.work_rules.specs.Work.{Deeds}
-use Rattle.program_promise.specs.Promise.{Told}
+use Rattle.program_promise.specs.World.{Told}
 use Rattle.program_promise.specs.WellMade.{IsVerdict as IsVerdictOf}
 use Rattle.program_promise.specs.Laws.{KeepsPromises, NothingFailed}
 use Rattle.partition_domain.specs.Reads.{records_of}

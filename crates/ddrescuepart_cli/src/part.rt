@@ -3,7 +3,7 @@ ghost use Rattle.std.specs.Prelude.{◌≡◌, IfOk};
 ghost use Rattle.mapfile_text.specs.declared.heading.Program.TheVariants.{Ddrescuelog as Log};
 ghost use Rattle.option_words.specs.declared.fault.UsageFault.{UsageFault as Fault};
 ghost use Rattle.option_words.specs.Words.{command_line};
-ghost use Rattle.program_promise.specs.Promise.{told};
+ghost use Rattle.program_promise.specs.World.{told};
 ghost use Rattle.ddrescuepart_cli.specs.Names.{program_name};
 ghost use Rattle.ddrescuepart_words.specs.Command.{AreRefused, IsInLimits, told_by};
 ghost use Rattle.ddrescuepart_cli.specs.Ddrescuepart.{Ddrescuepart, PartDone, PartWorked, handed};

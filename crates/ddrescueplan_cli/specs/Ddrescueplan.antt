@@ -4,10 +4,10 @@ use Rattle.crash_site.specs.Files.{File}
 use Rattle.crash_site.specs.SiteState.{SiteState}
 use Rattle.crash_site.specs.SiteChanges.{Stays}
 use Rattle.rescue_console.specs.ConsoleState.{ConsoleState}
-use Rattle.program_promise.specs.World.{WorldState, no_clock, no_feed, no_source}
+use Rattle.program_promise.specs.World.{WorldState, no_clock, no_feed, no_source, Told}
 use Rattle.program_promise.specs.WordFaults.{IsPlainFault}
 use Rattle.program_promise.specs.Program.{Program}
-use Rattle.program_promise.specs.Promise.{Told, IsDone, Promise, Worked}
+use Rattle.program_promise.specs.Promise.{IsDone, Promise, Worked}
 use Rattle.ddrescueplan_words.specs.Command.{Command, plan_grammar}
 use Rattle.ddrescueplan_cli.specs.declared.ending.PlanEnding.{PlanEnding}
 use Rattle.ddrescueplan_cli.specs.declared.ending.PlanEnding.TheVariants.{Usage}
@@ -31,7 +31,7 @@ plan_program = record {
   faults = plan_faults;
   Fits = λ c e. ⊤;
   rows = plan_rows;
-  Run = λ c file. RunsPlan file;
+  Run = λ c line file. RunsPlan file;
   Agrees = λ c file did old new. Agrees c file did old.site new.site;
   Leaves = λ c line file e did old new. LeavesAs c file e did old new;
   Begins = λ w. ⊤;

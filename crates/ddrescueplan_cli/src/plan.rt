@@ -2,7 +2,7 @@
 ghost use Rattle.std.specs.Prelude.{◌≡◌, ℕ, List};
 ghost use Rattle.option_words.specs.declared.fault.UsageFault.{UsageFault as Fault};
 ghost use Rattle.ddrescueplan_words.specs.Command.{AreInLimits, AreRefused, told_by};
-ghost use Rattle.program_promise.specs.Promise.{told};
+ghost use Rattle.program_promise.specs.World.{told};
 ghost use Rattle.ddrescueplan_cli.specs.Ddrescueplan.{Ddrescueplan, PlanDone, PlanWorked, handed};
 
 use crate::ending::PlanEnding;

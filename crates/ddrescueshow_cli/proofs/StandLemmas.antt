@@ -12,8 +12,8 @@ use Rattle.save_resume.specs.Loading.{BeginsLoad}
 use Rattle.save_resume.specs.Named.{map_mode}
 use Rattle.work_rules.specs.Work.{Deeds, Take, WorkStep, Works}
 use Rattle.work_rules.proofs.FrontLemmas.{broken_stands, load_reads, reads_stand}
-use Rattle.program_promise.specs.World.{WorldState}
-use Rattle.program_promise.specs.Promise.{DoneFor, Told, Says, Nothing, Message}
+use Rattle.program_promise.specs.World.{WorldState, Told}
+use Rattle.program_promise.specs.Promise.{DoneFor, Says, Nothing, Message}
 use Rattle.ddrescueshow_words.specs.Command.{Command}
 use Rattle.ddrescueshow_cli.specs.declared.ending.Which.{Which}
 use Rattle.ddrescueshow_cli.specs.declared.ending.Which.TheVariants.{RunMap, DomainMap}

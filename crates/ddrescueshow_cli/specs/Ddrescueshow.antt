@@ -3,10 +3,10 @@ use Rattle.std.specs.Prelude.{⊤, ℕ, Bool, List}
 use Rattle.crash_site.specs.SiteState.{SiteState}
 use Rattle.crash_site.specs.SiteChanges.{Stays}
 use Rattle.rescue_console.specs.ConsoleState.{ConsoleState}
-use Rattle.program_promise.specs.World.{WorldState, no_clock, no_feed, no_source}
+use Rattle.program_promise.specs.World.{WorldState, no_clock, no_feed, no_source, Told}
 use Rattle.program_promise.specs.WordFaults.{IsPlainFault}
 use Rattle.program_promise.specs.Program.{Program}
-use Rattle.program_promise.specs.Promise.{Told, IsDone, Promise, Worked}
+use Rattle.program_promise.specs.Promise.{IsDone, Promise, Worked}
 use Rattle.ddrescueshow_words.specs.Command.{Command, show_grammar}
 use Rattle.ddrescueshow_cli.specs.declared.ending.ShowEnding.{ShowEnding}
 use Rattle.ddrescueshow_cli.specs.declared.ending.ShowEnding.TheVariants.{Usage}
@@ -30,7 +30,7 @@ show_program = record {
   faults = show_faults;
   Fits = λ c e. ⊤;
   rows = show_rows;
-  Run = λ c found. PutsAll;
+  Run = λ c line found. PutsAll;
   Agrees = λ c found did old new. Agrees c found did old.site new.site;
   Leaves = λ c line found e did old new. LeavesAs c found e old.console new.console;
   Begins = λ w. ⊤;

@@ -6,7 +6,7 @@ use Rattle.crash_site.specs.SiteState.{files_in}
 use Rattle.map_algebra.specs.At.{status_at}
 use Rattle.map_algebra.specs.Compare.{IsDoneIn}
 use Rattle.map_algebra.specs.Summary.{summary_of}
-use Rattle.program_promise.specs.Promise.{Told}
+use Rattle.program_promise.specs.World.{Told}
 use Rattle.program_promise.specs.WellMade.{IsVerdict as IsVerdictOf}
 use Rattle.program_promise.specs.Laws.{KeepsPromises}
 use Rattle.work_rules.specs.Work.{Deeds}

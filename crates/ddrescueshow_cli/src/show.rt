@@ -3,7 +3,7 @@ ghost use Rattle.std.specs.Prelude.{◌≡◌, ℕ, List, IfOk, option_map};
 ghost use Rattle.block_list.specs.Tiled.{Tiled};
 ghost use Rattle.option_words.specs.declared.fault.UsageFault.{UsageFault as Fault};
 ghost use Rattle.ddrescueshow_words.specs.Command.{AreInLimits, AreRefused, told_by};
-ghost use Rattle.program_promise.specs.Promise.{told};
+ghost use Rattle.program_promise.specs.World.{told};
 ghost use Rattle.ddrescueshow_cli.specs.Steps.{statuses_in};
 ghost use Rattle.rescue_domain.specs.Parts.{covers};
 ghost use Rattle.ddrescueshow_cli.specs.Work.{domain_of, text_of};

@@ -9,10 +9,11 @@ use Rattle.option_words.specs.declared.fault.UsageFault.TheVariants.{Word, BadVa
 use Rattle.program_promise.specs.Kinds.{AtTake, AtPut, Kind, Asked, Wrong, Failed, is_silent_kind}
 use Rattle.program_promise.specs.Causes.{Changed, changes_of, none_rises}
 use Rattle.program_promise.specs.Printing.{PutsByKind}
+use Rattle.program_promise.specs.Rows.{usage_kind}
 use Rattle.rescue_verify.specs.declared.tally.Tally.{Tally}
 use Rattle.ddrescueverify_cli.specs.declared.ending.VerifyEnding.{VerifyEnding}
 use Rattle.ddrescueverify_cli.specs.declared.ending.VerifyEnding.TheVariants.{Done, Differs, ConsoleFault}
-use Rattle.ddrescueverify_cli.specs.Answers.{drafting_left, row_of, usage_kind}
+use Rattle.ddrescueverify_cli.specs.Answers.{drafting_left, row_of}
 use Rattle.ddrescueverify_cli.specs.Counting.{CountsRise, IsStopKind, WorkCause, drafting_after}
 use Rattle.ddrescueverify_cli.specs.Ddrescueverify.{PutsAs, handed}
 use Rattle.ddrescueverify_cli.specs.Reporting.{PutsLine, Reports, line_of_tally}

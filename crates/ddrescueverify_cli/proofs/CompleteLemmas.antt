@@ -17,6 +17,7 @@ use Rattle.work_rules.proofs.AnswerLemmas.{Stopped, Went, came}
 use Rattle.work_rules.proofs.VerdictLemmas.{goes_to_run}
 use Rattle.program_promise.specs.Kinds.{Starved}
 use Rattle.program_promise.proofs.PromiseLemmas.{keeps_promises}
+use Rattle.program_promise.specs.Rows.{usage_kind}
 use Rattle.rescue_verify.specs.declared.halt.Halt.{Halt}
 use Rattle.rescue_verify.specs.declared.halt.Halt.TheVariants.{NoMemory as NoRoom, SourceLost as InputLost, ImageFault}
 use Rattle.rescue_verify.specs.Pieces.{AskForPieces, end_of_reads}
@@ -30,7 +31,7 @@ use Rattle.ddrescueverify_cli.specs.declared.ending.Operand.{Operand}
 use Rattle.ddrescueverify_cli.specs.declared.ending.Which.TheVariants.{RunMap}
 use Rattle.ddrescueverify_cli.specs.declared.ending.VerifyEnding.{VerifyEnding}
 use Rattle.ddrescueverify_cli.specs.declared.ending.VerifyEnding.TheVariants.{Usage, SameName, MapRefused, NoMemory}
-use Rattle.ddrescueverify_cli.specs.Answers.{row_of, usage_kind}
+use Rattle.ddrescueverify_cli.specs.Answers.{row_of}
 use Rattle.ddrescueverify_cli.specs.Asked.{plan_of, text_of}
 use Rattle.ddrescueverify_cli.specs.Ddrescueverify.{verify_program}
 use Rattle.ddrescueverify_cli.specs.Laws.{HasOneVerdict, IsComparedUnless, IsOfLooks, IsVerdict, NoneIsReadTwice, VerifyKeepsPromises}

@@ -1,14 +1,12 @@
 -- The row of each answer, from which follows what it says of the words, which count rose, its exit status and its
 -- message; and whether a draft is left begun. No row stands for several answers.
-use Rattle.std.specs.Prelude.{◌≢◌, ⊤, ℕ, Bool, true, false, List, ◌++◌, codes}
+use Rattle.std.specs.Prelude.{◌≢◌, ℕ, Bool, true, false, List, ◌++◌, codes}
 use Rattle.mapfile_text.specs.declared.read.MapError.{MapError}
 use Rattle.mapfile_text.specs.declared.read.MapError.TheVariants.{NoStatusLine, NoMemory as OutOfMemory}
 use Rattle.save_resume.specs.Saving.{drafting_after_fault}
-use Rattle.option_words.specs.declared.fault.UsageFault.{UsageFault}
-use Rattle.option_words.specs.declared.fault.UsageFault.TheVariants.{Word, BadValue, Conflict, Modes, Operands, PlaceTooLarge}
-use Rattle.fault_texts.specs.Texts.{usage_text, error_text, fault_text, message_of}
-use Rattle.program_promise.specs.Kinds.{Failure, AtOpen, AtRead, AtCall, AtTake, AtPut, Kind, Asked, Brought, Wrong, Failed, Starved, is_silent_kind}
-use Rattle.program_promise.specs.Rows.{AnswerRow, asked_row, brought_row, failed_row, only_where, starved_row}
+use Rattle.fault_texts.specs.Texts.{error_text, fault_text, message_of}
+use Rattle.program_promise.specs.Kinds.{Failure, AtOpen, AtRead, AtCall, AtCallAfterRead, AtTake, AtPut, Kind, Asked, Brought, Wrong, Failed, Starved, is_silent_kind}
+use Rattle.program_promise.specs.Rows.{AnswerRow, asked_row, brought_row, failed_row, only_where, starved_row, usage_row}
 use Rattle.ddrescueverify_cli.specs.declared.ending.Which.{Which}
 use Rattle.ddrescueverify_cli.specs.declared.ending.Which.TheVariants.{RunMap}
 use Rattle.ddrescueverify_cli.specs.declared.ending.VerifyEnding.{VerifyEnding}
@@ -22,18 +20,6 @@ which_text RunMap = codes "mapfile"
 -- why a map is refused
 abbrev pub map_error_text : Which → MapError → List ℕ
 map_error_text which error = which_text which ++ codes ": " ++ error_text error
-
--- Words are refused for any fault but a place, which is checked after the mapfile.
-abbrev pub usage_kind : UsageFault → Kind
-usage_kind (Word fault) = Wrong (Word fault)
-usage_kind (BadValue n) = Wrong (BadValue n)
-usage_kind (Conflict n) = Wrong (Conflict n)
-usage_kind (Modes given) = Wrong (Modes given)
-usage_kind (Operands given) = Wrong (Operands given)
-usage_kind PlaceTooLarge = Brought
-
-abbrev pub usage_row : UsageFault → AnswerRow
-usage_row fault = record { kind = usage_kind fault; status = 1; text = usage_text fault; also = ⊤ }
 
 -- Want of memory isn't told as an error of the mapfile, nor is a mapfile refused that says nothing.
 abbrev pub row_of : VerifyEnding → AnswerRow
@@ -72,11 +58,11 @@ drafting_left NoMemory = false
 abbrev pub status_of_ending : VerifyEnding → ℕ
 status_of_ending e = (row_of e).status
 
--- an answer has no message on standard error: it is what was asked for, and standard output says it
+-- nothing is said of an answer on standard error: it is what was asked for, and standard output says it
 abbrev pub is_silent : VerifyEnding → Bool
 is_silent e = is_silent_kind (row_of e).kind
 
--- the text on an answer, and the message on standard error
+-- what is said of an answer, and the message on standard error
 abbrev pub text_of_ending : VerifyEnding → List ℕ
 text_of_ending e = (row_of e).text
 
@@ -88,6 +74,7 @@ abbrev pub is_saved_failing : Failure → Bool
 is_saved_failing AtOpen = false
 is_saved_failing AtRead = false
 is_saved_failing AtCall = false
+is_saved_failing AtCallAfterRead = false
 is_saved_failing AtTake = false
 is_saved_failing AtPut = true
 

@@ -3,7 +3,7 @@ use Rattle.std.specs.Prelude.{◌≡◌, ⊤, Bool, false, Result, Ok, Err}
 use Rattle.faulty_source.specs.SourceState.{SourceState}
 use Rattle.crash_site.specs.SiteState.{SiteState}
 use Rattle.rescue_verify.specs.declared.tally.Tally.{Tally}
-use Rattle.program_promise.specs.Kinds.{Failure, AtOpen, AtRead, AtCall, AtTake, AtPut, Kind, Asked, Brought, Wrong, Failed, Starved}
+use Rattle.program_promise.specs.Kinds.{Failure, AtOpen, AtRead, AtCall, AtCallAfterRead, AtTake, AtPut, Kind, Asked, Brought, Wrong, Failed, Starved}
 use Rattle.program_promise.specs.Causes.{Changes, changes_of, none_rises}
 use Rattle.ddrescueverify_cli.specs.declared.ending.VerifyEnding.{VerifyEnding}
 use Rattle.ddrescueverify_cli.specs.Answers.{drafting_left, row_of}
@@ -19,6 +19,7 @@ abbrev pub IsStopFailure : Failure → Type 0
 IsStopFailure AtOpen = ⊤
 IsStopFailure AtRead = ⊤
 IsStopFailure AtCall = ⊤
+IsStopFailure AtCallAfterRead = ⊤
 IsStopFailure AtTake = ⊥
 IsStopFailure AtPut = ⊥
 

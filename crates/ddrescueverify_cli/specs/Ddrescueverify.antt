@@ -9,11 +9,11 @@ use Rattle.save_resume.specs.MapNames.{names_of}
 use Rattle.work_rules.specs.Work.{Deeds}
 use Rattle.rescue_verify.specs.Comparing.{tally_of}
 use Rattle.ddrescueverify_words.specs.Command.{Command, verify_grammar}
-use Rattle.program_promise.specs.World.{WorldState, no_clock, no_feed}
+use Rattle.program_promise.specs.World.{WorldState, no_clock, no_feed, Told}
 use Rattle.program_promise.specs.WordFaults.{IsPlainFault}
 use Rattle.program_promise.specs.Printing.{PutsByKind}
 use Rattle.program_promise.specs.Program.{Program}
-use Rattle.program_promise.specs.Promise.{Told, IsDone, Promise, Worked}
+use Rattle.program_promise.specs.Promise.{IsDone, Promise, Worked}
 use Rattle.ddrescueverify_cli.specs.declared.ending.VerifyEnding.{VerifyEnding}
 use Rattle.ddrescueverify_cli.specs.declared.ending.VerifyEnding.TheVariants.{Usage}
 use Rattle.ddrescueverify_cli.specs.Answers.{drafting_left, row_of}
@@ -65,7 +65,7 @@ verify_program = record {
   faults = verify_faults;
   Fits = λ c e. FitsNames (same_of c) e;
   rows = λ c o. verify_rows c o.found o.end;
-  Run = λ c o. Verifies c o.line o.found o.end o.looks;
+  Run = λ c line o. Verifies c o.line o.found o.end o.looks;
   Agrees = λ c o did old new. Agrees c o did old.source new.source old.site new.site;
   Leaves = LeavesAs;
   Begins = λ w. w.site.is_drafting ≡ false;

@@ -12,7 +12,7 @@ use Rattle.rescue_verify.specs.Verified.{IsJudged, is_doubted, judged_by}
 use Rattle.ddrescueverify_words.specs.Command.{Command, Asks}
 use Rattle.program_promise.specs.Kinds.{Asked}
 use Rattle.program_promise.specs.Program.{line_by}
-use Rattle.program_promise.specs.Promise.{Told}
+use Rattle.program_promise.specs.World.{Told}
 use Rattle.program_promise.specs.WellMade.{IsVerdict as IsVerdictOf}
 use Rattle.program_promise.specs.Laws.{KeepsPromises, NothingFailed}
 use Rattle.ddrescueverify_cli.specs.declared.ending.VerifyEnding.{VerifyEnding}

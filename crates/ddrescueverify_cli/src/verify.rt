@@ -5,7 +5,7 @@ ghost use Rattle.faulty_source.specs.SourceChanges.{Keeps as SourceKeeps, Stays 
 ghost use Rattle.crash_site.specs.SiteChanges.{Keeps as SiteKeeps, Stays as SiteStays};
 ghost use Rattle.rescue_verify.specs.Comparing.{Compares};
 ghost use Rattle.ddrescueverify_words.specs.Command.{AreInLimits, AreRefused, told_by};
-ghost use Rattle.program_promise.specs.Promise.{told};
+ghost use Rattle.program_promise.specs.World.{told};
 ghost use Rattle.ddrescueverify_cli.specs.declared.ending.Operand.{Operand};
 ghost use Rattle.ddrescueverify_cli.specs.Asked.{IsBeyond, output_from, plan_of};
 ghost use Rattle.ddrescueverify_cli.specs.Counting.{WorkCause, drafting_after};

@@ -9,18 +9,19 @@ use Rattle.option_words.proofs.MemoryLemmas.{never_memory}
 use Rattle.option_values.specs.Grammar.{AskFor, AreRefusedBy, AskSilence, IsRefusalBy, Unread as UnreadWords, Wrong as WrongWords}
 use Rattle.option_values.proofs.MeaningLemmas.{asked_or_refused}
 use Rattle.rescue_console.specs.ConsoleState.{ChannelState, ConsoleState, TextGoesOn}
+use Rattle.work_rules.specs.Work.{Works}
 use Rattle.work_rules.proofs.VerdictLemmas.{one_verdict}
-use Rattle.program_promise.specs.World.{WorldState, with_console}
-use Rattle.program_promise.specs.Kinds.{Failure, AtOpen, AtRead, AtCall, AtTake, AtPut, Kind, Asked, Brought, Wrong, Failed, Starved, IsNoFaultKind, IsVerdictKind, IsWorkKind}
+use Rattle.program_promise.specs.World.{WorldState, with_console, Told, told}
+use Rattle.program_promise.specs.Kinds.{Failure, AtOpen, AtRead, AtCall, AtCallAfterRead, AtTake, AtPut, Kind, Asked, Brought, Wrong, Failed, Starved, IsNoFaultKind, IsVerdictKind, IsWorkKind}
 use Rattle.program_promise.specs.Causes.{Changed, Changes, changes_of, none_rises}
 use Rattle.program_promise.specs.Program.{Program, is_silent_of, kind_of, line_by, message_by}
 use Rattle.program_promise.specs.Saying.{SaysAs, Silence, Speech}
-use Rattle.program_promise.specs.Promise.{Told, told, AreAccepted, DoneFor, IsDone, Promise, Says, SaysOfWords, Nothing, Message, Worked}
+use Rattle.program_promise.specs.Promise.{AreAccepted, DoneFor, IsDone, Promise, Says, SaysOfWords, Nothing, Message, Worked}
 use Rattle.program_promise.specs.WellMade.{IsWellMade}
 use Rattle.program_promise.specs.Laws.{HasOneVerdict, IsBroughtUnless, IsNoFaultUnless, KeepsPromises, NothingFailed, RefusedTouchNothing, SaysOneMessage}
 
 -- nothing rose
-still : (w : WorldState) → Changed none_rises w w
+pub still : (w : WorldState) → Changed none_rises w w
 still w = record { opens = refl; reads = refl; calls = refl; takes = refl; puts = refl }
 
 -- a count of standard output, by what became of all of it
@@ -54,53 +55,68 @@ module _ {C E O : Type 0} (p : Program C E O) where
     pub said : SaysAs (is_silent_of p e) quiet (message_by p e) mid.console now
         → Promise p (told words e old (with_console mid now))
     said s = record {
-      words = d.words_are;
-      cause = changed_beside (changes_of (kind_of p e)) old mid now d.cause
+      words = d.does.words_are;
+      cause = changed_beside (changes_of (kind_of p e)) old mid now d.does.cause
           (said_beside (is_silent_of p e) quiet (message_by p e) mid.console now s);
-      also = d.also;
+      also = d.does.also;
       between = mid;
-      asked_for = d.asked_for;
-      nothing = d.nothing;
-      keeps = d.keeps;
+      asked_for = d.does.asked_for;
+      nothing = d.does.nothing;
+      keeps = d.does.keeps;
       says = says s;
     }
 
   -- ---- what is done
 
   -- by work that answers no fault of the words
-  accepted : (k : Kind) (e : E) (words : List (List ℕ)) → IsWorkKind k → AreAccepted p words e → SaysOfWords p k e words
+  pub accepted : (k : Kind) (e : E) (words : List (List ℕ)) → IsWorkKind k → AreAccepted p words e → SaysOfWords p k e words
   accepted (Wrong fault) e words work a = absurd work
   accepted Starved e words work a = tt
   accepted _ e words work a = a
 
+  -- for a command that is another's
+  abbrev pub done_alike : (words : List (List ℕ)) (c other : C) (e : E) (old new : WorldState) → c ≡ other
+      → DoneFor p c (line_by p words) e old new → DoneFor p other (line_by p words) e old new
+  done_alike words c other e old new same d = record {
+    outside = d.outside;
+    did = d.did;
+    agrees = subst (λ (x : C). p.Agrees x d.outside d.did old new) same d.agrees;
+    work = subst (λ (x : C). Works p.faults (p.rows x d.outside) (p.Run x (line_by p words) d.outside) e d.did) same
+        d.work;
+    leaves = subst (λ (x : C). p.Leaves x (line_by p words) d.outside e d.did old new) same d.leaves;
+  }
+
   module _ (m : IsWellMade p) where
     -- for what the words ask for
-    pub asked : (words : List (List ℕ)) (c : C) (e : E) (quiet : Bool) (old new : WorldState)
+    unfoldable pub asked : (words : List (List ℕ)) (c : C) (e : E) (quiet : Bool) (old new : WorldState)
         → AskFor p.grammar words c → ((other : C) → AskFor p.grammar words other → other ≡ c)
         → AskSilence p.grammar words ↔ (quiet ≡ true) → Worked p c words e old new → IsDone p words e quiet old new
     asked words c e quiet old new asks alone quiet_is worked =
         let w = m.work c (line_by p words) e old new worked.done in
         record {
-          words_are = accepted (kind_of p e) e words w.0 (record { command = c; asks = asks; fits = w.1 });
-          cause = worked.cause;
-          also = worked.also;
-          asked_for = λ other o.
-              subst (λ (x : C). DoneFor p x (line_by p words) e old new) (sym (alone other o)) worked.done;
-          nothing = λ none. absurd (none c asks);
-          keeps = worked.keeps;
+          does = record {
+            words_are = accepted (kind_of p e) e words w.0 (record { command = c; asks = asks; fits = w.1 });
+            cause = worked.cause;
+            also = worked.also;
+            asked_for = λ other o. done_alike words c other e old new (sym (alone other o)) worked.done;
+            nothing = λ none. absurd (none c asks);
+            keeps = worked.keeps;
+          };
           silent = λ on. quiet_is.1 on;
           loud = λ off silence. absurd (both_ways quiet off (quiet_is.0 silence));
         }
 
     -- nothing, if memory ran out before the words were read
-    pub starved : (words : List (List ℕ)) (w : WorldState) → p.Begins w → IsDone p words p.faults.memory false w w
+    unfoldable pub starved : (words : List (List ℕ)) (w : WorldState) → p.Begins w → IsDone p words p.faults.memory false w w
     starved words w begins = record {
-      words_are = subst (λ (k : Kind). SaysOfWords p k p.faults.memory words) (sym m.memory) tt;
-      cause = subst (λ (k : Kind). Changed (changes_of k) w w) (sym m.memory) (still w);
-      also = m.memory_idle.also;
-      asked_for = λ c asks. m.starves c (line_by p words) w begins;
-      nothing = λ none. refl;
-      keeps = m.memory_idle.keeps w begins;
+      does = record {
+        words_are = subst (λ (k : Kind). SaysOfWords p k p.faults.memory words) (sym m.memory) tt;
+        cause = subst (λ (k : Kind). Changed (changes_of k) w w) (sym m.memory) (still w);
+        also = m.memory_idle.also;
+        asked_for = λ c asks. m.starves c (line_by p words) w begins;
+        nothing = λ none. refl;
+        keeps = m.memory_idle.keeps w begins;
+      };
       silent = λ on. absurd (cc);
       loud = λ off silence. (refl, refl);
     }
@@ -117,13 +133,15 @@ module _ {C E O : Type 0} (p : Program C E O) where
     refused words fault quiet w begins r =
         let has = may_have words fault r.refused in
         record {
-          words_are = subst (λ (k : Kind). SaysOfWords p k (p.wrong fault) words) (sym (m.wrong fault has))
-              (r.refused, has);
-          cause = subst (λ (k : Kind). Changed (changes_of k) w w) (sym (m.wrong fault has)) (still w);
-          also = (m.wrong_idle fault has).also;
-          asked_for = λ c asks. absurd (r.nothing c asks);
-          nothing = λ none. refl;
-          keeps = (m.wrong_idle fault has).keeps w begins;
+          does = record {
+            words_are = subst (λ (k : Kind). SaysOfWords p k (p.wrong fault) words) (sym (m.wrong fault has))
+                (r.refused, has);
+            cause = subst (λ (k : Kind). Changed (changes_of k) w w) (sym (m.wrong fault has)) (still w);
+            also = (m.wrong_idle fault has).also;
+            asked_for = λ c asks. absurd (r.nothing c asks);
+            nothing = λ none. refl;
+            keeps = (m.wrong_idle fault has).keeps w begins;
+          };
           silent = λ on. r.quiet_is.1 on;
           loud = λ off silence. absurd (both_ways quiet off (r.quiet_is.0 silence));
         }
@@ -134,6 +152,7 @@ module _ {C E O : Type 0} (p : Program C E O) where
     not_failed AtOpen t f c = not_risen t.before.source.faults t.after.source.faults f.opens_count f.opens c.opens
     not_failed AtRead t f c = not_risen t.before.source.losses t.after.source.losses f.reads_count f.reads c.reads
     not_failed AtCall t f c = not_risen t.before.site.faults t.after.site.faults f.calls_count f.calls c.calls
+    not_failed AtCallAfterRead t f c = not_risen t.before.site.faults t.after.site.faults f.calls_count f.calls c.calls
     not_failed AtTake t f c = not_risen t.before.feed_.faults t.after.feed_.faults f.takes_count f.takes c.takes
     not_failed AtPut t f c =
         not_risen t.before.console.out.faults t.after.console.out.faults f.puts_count f.puts c.puts
@@ -179,8 +198,8 @@ module _ {C E O : Type 0} (p : Program C E O) where
     says_one t d tells = one_message t d.between d.says tells
 
     verdict : HasOneVerdict p
-    verdict c o e e' d d' once last w w' v v' =
-        one_verdict E p.faults _ m.faults (p.rows c o) (p.Run c o) once last e e' d d' w w' v v'
+    verdict c line o e e' d d' once last w w' v v' =
+        one_verdict E p.faults _ m.faults (p.rows c o) (p.Run c line o) once last e e' d d' w w' v v'
 
     pub keeps_promises : KeepsPromises p
     keeps_promises = record { no_fault = no_fault; brought = brought; untouched = untouched; says = says_one; verdict = verdict }

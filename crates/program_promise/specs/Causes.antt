@@ -2,7 +2,7 @@
 use Rattle.std.specs.Prelude.{◌≡◌, ℕ}
 use Rattle.fault_count.specs.Counts.{raised}
 use Rattle.program_promise.specs.World.{WorldState}
-use Rattle.program_promise.specs.Kinds.{Failure, AtOpen, AtRead, AtCall, AtTake, AtPut, Kind, Asked, Brought, Wrong, Failed, Starved}
+use Rattle.program_promise.specs.Kinds.{Failure, AtOpen, AtRead, AtCall, AtCallAfterRead, AtTake, AtPut, Kind, Asked, Brought, Wrong, Failed, Starved}
 
 -- a count that stands
 abbrev pub unchanged : ℕ → ℕ
@@ -20,19 +20,21 @@ pub record Changes : Type 0 where
 abbrev pub none_rises : Changes
 none_rises = record { opens = unchanged; reads = unchanged; calls = unchanged; takes = unchanged; puts = unchanged }
 
-abbrev pub one_rises : Failure → Changes
-one_rises AtOpen = record none_rises { opens = raised }
-one_rises AtRead = record none_rises { reads = raised }
-one_rises AtCall = record none_rises { calls = raised }
-one_rises AtTake = record none_rises { takes = raised }
-one_rises AtPut = record none_rises { puts = raised }
+abbrev pub those_rise : Failure → Changes
+those_rise AtOpen = record none_rises { opens = raised }
+those_rise AtRead = record none_rises { reads = raised }
+those_rise AtCall = record none_rises { calls = raised }
+those_rise AtCallAfterRead = record none_rises { reads = raised; calls = raised }
+those_rise AtTake = record none_rises { takes = raised }
+those_rise AtPut = record none_rises { puts = raised }
 
--- A failure is answered exactly if its count rose, by one, and no other rose. So no other answer hides one.
+-- A failure is answered exactly if its count rose, by one, and no other rose; of a call after a lost read both counts
+-- rose. So no other answer hides one.
 abbrev pub changes_of : Kind → Changes
 changes_of Asked = none_rises
 changes_of Brought = none_rises
 changes_of (Wrong fault) = none_rises
-changes_of (Failed at) = one_rises at
+changes_of (Failed at) = those_rise at
 changes_of Starved = none_rises
 
 pub record Changed (c : Changes) (old new : WorldState) : Type 0 where

@@ -2,12 +2,13 @@
 use Rattle.std.specs.Prelude.{⊤, Bool, true, false}
 use Rattle.option_words.specs.declared.fault.UsageFault.{UsageFault}
 
--- what may fail: an open of the input, a read of it, a call on the files, a take from the feed, a put on standard
--- output
+-- what may fail: an open of the input, a read of it, a call on the files, a call on them after a read was lost, a take
+-- from the feed, a put on standard output
 pub data Failure : Type 0 where
   AtOpen : Failure
   AtRead : Failure
   AtCall : Failure
+  AtCallAfterRead : Failure
   AtTake : Failure
   AtPut : Failure
 

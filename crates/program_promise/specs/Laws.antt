@@ -1,5 +1,5 @@
 -- What a promise means, whatever the program.
-use Rattle.std.specs.Prelude.{◌≡◌, ◌≢◌, ◌-◌, ◌^◌, ◌<◌, IsTrue}
+use Rattle.std.specs.Prelude.{◌≡◌, ◌≢◌, ℕ, ◌-◌, ◌^◌, ◌<◌, IsTrue, List}
 use Rattle.option_words.specs.declared.fault.UsageFault.{UsageFault}
 use Rattle.option_values.specs.Grammar.{AskFor, AreRefusedBy}
 use Rattle.rescue_console.specs.ConsoleState.{TextGoesOn}
@@ -7,7 +7,8 @@ use Rattle.work_rules.specs.Work.{Deeds, Works}
 use Rattle.work_rules.specs.Verdicts.{RefuseOnce}
 use Rattle.program_promise.specs.Kinds.{Starved, IsNoFaultKind}
 use Rattle.program_promise.specs.Program.{Program, kind_of, message_by}
-use Rattle.program_promise.specs.Promise.{Told, Promise}
+use Rattle.program_promise.specs.World.{Told}
+use Rattle.program_promise.specs.Promise.{Promise}
 use Rattle.program_promise.specs.WellMade.{IsVerdict}
 
 -- no open, read, call, take or put on standard output failed; and the counts say so
@@ -46,9 +47,10 @@ module _ {C E O : Type 0} (p : Program C E O) where
 
   -- On one outside there is one verdict at most, if each refusal has one answer and so has what is run.
   abbrev pub HasOneVerdict : Type 0
-  HasOneVerdict = (c : C) (o : O) (e e' : E) (d d' : Deeds) → RefuseOnce (p.rows c o)
-      → ((v v' : E) (x x' : Deeds) → p.Run c o v x → p.Run c o v' x' → IsVerdict p v → IsVerdict p v' → v ≡ v')
-      → Works p.faults (p.rows c o) (p.Run c o) e d → Works p.faults (p.rows c o) (p.Run c o) e' d'
+  HasOneVerdict = (c : C) (line : List ℕ) (o : O) (e e' : E) (d d' : Deeds) → RefuseOnce (p.rows c o)
+      → ((v v' : E) (x x' : Deeds) → p.Run c line o v x → p.Run c line o v' x' → IsVerdict p v → IsVerdict p v' → v ≡ v')
+      → Works p.faults (p.rows c o) (p.Run c line o) e d
+      → Works p.faults (p.rows c o) (p.Run c line o) e' d'
       → IsVerdict p e → IsVerdict p e' → e ≡ e'
 
   -- All of them.

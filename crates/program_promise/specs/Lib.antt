@@ -6,6 +6,7 @@ pub mod WordFaults
 pub mod Program
 pub mod Saying
 pub mod Promise
+pub mod Spoken
 pub mod WellMade
 pub mod Laws
 pub mod Printing

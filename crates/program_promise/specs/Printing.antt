@@ -2,13 +2,14 @@
 use Rattle.std.specs.Prelude.{◌≡◌, ℕ, List}
 use Rattle.rescue_console.specs.declared.console.Channel.TheVariants.{Out}
 use Rattle.rescue_console.specs.ConsoleState.{ConsoleState, Puts, PutsPart}
-use Rattle.program_promise.specs.Kinds.{Failure, AtOpen, AtRead, AtCall, AtTake, AtPut, Kind, Asked, Brought, Wrong, Failed, Starved}
+use Rattle.program_promise.specs.Kinds.{Failure, AtOpen, AtRead, AtCall, AtCallAfterRead, AtTake, AtPut, Kind, Asked, Brought, Wrong, Failed, Starved}
 
 -- `Part` if a put failed, and after every other failure nothing
 abbrev pub PutsFailing : Failure → (Part : Type 0) → (old new : ConsoleState) → Type 0
 PutsFailing AtOpen Part old new = new ≡ old
 PutsFailing AtRead Part old new = new ≡ old
 PutsFailing AtCall Part old new = new ≡ old
+PutsFailing AtCallAfterRead Part old new = new ≡ old
 PutsFailing AtTake Part old new = new ≡ old
 PutsFailing AtPut Part old new = Part
 

@@ -21,9 +21,9 @@ pub record Program (C E O : Type 0) : Type 1 where
   pub faults : Faults E
   -- which answers a command may have;
   pub Fits : C → E → Type 0
-  -- the work: its rows, and what is run after them;
+  -- the work: its rows, and what is run after them, where the command line may be shown;
   pub rows : C → O → List (WorkStep E)
-  pub Run : C → O → E → Deeds → Type 0
+  pub Run : C → (line : List ℕ) → O → E → Deeds → Type 0
   -- that what was found and done is what the objects tell, before and after it;
   pub Agrees : C → O → Deeds → (old new : WorldState) → Type 0
   -- what the work leaves: what is put on standard output, where the command line may be shown, and whatever the answer

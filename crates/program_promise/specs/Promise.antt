@@ -6,20 +6,10 @@ use Rattle.option_values.specs.Grammar.{AskFor, AreRefusedBy, AskSilence}
 use Rattle.rescue_console.specs.declared.console.Channel.TheVariants.{Err}
 use Rattle.rescue_console.specs.ConsoleState.{Puts, PutsPart}
 use Rattle.work_rules.specs.Work.{Deeds, Works}
-use Rattle.program_promise.specs.World.{WorldState, with_console}
+use Rattle.program_promise.specs.World.{WorldState, Told, with_console}
 use Rattle.program_promise.specs.Kinds.{Kind, Asked, Brought, Wrong, Failed, Starved}
 use Rattle.program_promise.specs.Causes.{Changed, changes_of}
 use Rattle.program_promise.specs.Program.{Program, is_silent_of, kind_of, line_by, message_by}
-
--- the words, the answer, and what all objects tell before the call and after it
-pub record Told (E : Type 0) : Type 0 where
-  pub words : List (List ℕ)
-  pub answer : E
-  pub before : WorldState
-  pub after : WorldState
-
-abbrev pub told : {E : Type 0} → (words : List (List ℕ)) → E → (before after : WorldState) → Told E
-told words answer before after = record { words = words; answer = answer; before = before; after = after }
 
 module _ {C E O : Type 0} (p : Program C E O) where
   -- the words ask for something, which may be answered so
@@ -28,8 +18,8 @@ module _ {C E O : Type 0} (p : Program C E O) where
     pub asks : AskFor p.grammar words command
     pub fits : p.Fits command e
 
-  -- What an answer says of the words, by its kind: they are refused exactly if they lead to a refusal, except that
-  -- memory may run out first.
+  -- What an answer says of the words, by its kind: they are refused exactly if they bring a refusal, except that memory
+  -- may run out first.
   abbrev pub SaysOfWords : Kind → E → (words : List (List ℕ)) → Type 0
   SaysOfWords Asked e words = AreAccepted words e
   SaysOfWords Brought e words = AreAccepted words e
@@ -38,35 +28,41 @@ module _ {C E O : Type 0} (p : Program C E O) where
   SaysOfWords Starved e words = ⊤
 
   -- What was done for a command: there is an outside, and deeds there, which agree with what the objects tell; the
-  -- answer is what the work leads to, and so is what it left.
+  -- answer is what the work brings, and so is what it left.
   pub record DoneFor (c : C) (line : List ℕ) (e : E) (old new : WorldState) : Type 0 where
     pub outside : O
     pub did : Deeds
     pub agrees : p.Agrees c outside did old new
-    pub work : Works p.faults (p.rows c outside) (p.Run c outside) e did
+    pub work : Works p.faults (p.rows c outside) (p.Run c line outside) e did
     pub leaves : p.Leaves c line outside e did old new
 
-  -- What was done for a command, with the cause that the answer's row says, and with what stays.
+  -- The same, with the cause that the answer's row says, and with what stays.
   pub record Worked (c : C) (words : List (List ℕ)) (e : E) (old new : WorldState) : Type 0 where
     pub done : DoneFor c (line_by p words) e old new
     pub cause : Changed (changes_of (kind_of p e)) old new
     pub also : (p.row e).also
     pub keeps : p.Keeps e old new
 
-  -- What was done for the words of a call, before the message on the answer; `quiet` says whether there is to be none.
-  pub record IsDone (words : List (List ℕ)) (e : E) (quiet : Bool) (old new : WorldState) : Type 0 where
+  -- What was done for the words of a call. Words that ask for nothing are refused, whatever the objects tell; only memory
+  -- may run out before. Each answer has its cause, and whatever more its row says. If the words ask for something that is
+  -- done, and else nothing.
+  pub record Does (words : List (List ℕ)) (e : E) (old new : WorldState) : Type 0 where
     pub words_are : SaysOfWords (kind_of p e) e words
     pub cause : Changed (changes_of (kind_of p e)) old new
     pub also : (p.row e).also
     pub asked_for : (c : C) → AskFor p.grammar words c → DoneFor c (line_by p words) e old new
     pub nothing : ((c : C) → AskFor p.grammar words c → ⊥) → new ≡ old
     pub keeps : p.Keeps e old new
+
+  -- The same before anything is said of the answer; `quiet` says whether nothing is to be said.
+  pub record IsDone (words : List (List ℕ)) (e : E) (quiet : Bool) (old new : WorldState) : Type 0 where
+    pub does : Does words e old new
     -- Nothing is to be said only if the words ask for that. Something is to be said though they ask for that only if
     -- memory ran out before they were read, and nothing was touched.
     pub silent : quiet ≡ true → AskSilence p.grammar words
     pub loud : quiet ≡ false → AskSilence p.grammar words → (e ≡ p.faults.memory) × (new ≡ old)
 
-  -- What is put on standard error when the work is done, and the world is `between`: nothing for an answer that was
+  -- What is said on standard error when the work is done, and the world is `between`: nothing of an answer that was
   -- asked for, and nothing if the words ask for that. Else the message of the answer, as one put; or a beginning of it,
   -- if the console failed.
   pub data Says (t : Told E) (between : WorldState) : Type 0 where
@@ -90,5 +86,5 @@ module _ {C E O : Type 0} (p : Program C E O) where
     pub asked_for : (c : C) → AskFor p.grammar t.words c → DoneFor c (line_by p t.words) t.answer t.before between
     pub nothing : ((c : C) → AskFor p.grammar t.words c → ⊥) → between ≡ t.before
     pub keeps : p.Keeps t.answer t.before between
-    -- Then comes the message.
+    -- Then comes what is said.
     pub says : Says t between

@@ -2,6 +2,7 @@
 -- words, which count rose and whether there is a message follow from its kind alone.
 use Rattle.std.specs.Prelude.{⊤, ℕ, List, [], codes}
 use Rattle.option_words.specs.declared.fault.UsageFault.{UsageFault}
+use Rattle.option_words.specs.declared.fault.UsageFault.TheVariants.{Word, BadValue, Conflict, Modes, Operands, PlaceTooLarge}
 use Rattle.fault_texts.specs.Texts.{usage_text}
 use Rattle.program_promise.specs.Kinds.{Failure, Kind, Asked, Brought, Wrong, Failed, Starved}
 
@@ -18,10 +19,23 @@ asked_row status = record { kind = Asked; status = status; text = []; also = ⊤
 abbrev pub brought_row : (status : ℕ) → (text : List ℕ) → AnswerRow
 brought_row status text = record { kind = Brought; status = status; text = text; also = ⊤ }
 
--- words that are refused, and what failed, both of status 1;
+-- words that are refused, of status 1;
 abbrev pub wrong_row : UsageFault → AnswerRow
 wrong_row fault = record { kind = Wrong fault; status = 1; text = usage_text fault; also = ⊤ }
 
+-- the same of a program that looks at places, of which one that is too large is no fault of the words;
+abbrev pub usage_kind : UsageFault → Kind
+usage_kind (Word fault) = Wrong (Word fault)
+usage_kind (BadValue n) = Wrong (BadValue n)
+usage_kind (Conflict n) = Wrong (Conflict n)
+usage_kind (Modes given) = Wrong (Modes given)
+usage_kind (Operands given) = Wrong (Operands given)
+usage_kind PlaceTooLarge = Brought
+
+abbrev pub usage_row : UsageFault → AnswerRow
+usage_row fault = record { kind = usage_kind fault; status = 1; text = usage_text fault; also = ⊤ }
+
+-- what failed, of status 1;
 abbrev pub failed_row : Failure → (text : List ℕ) → AnswerRow
 failed_row at text = record { kind = Failed at; status = 1; text = text; also = ⊤ }
 

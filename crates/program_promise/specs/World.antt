@@ -1,5 +1,5 @@
--- All that the objects tell which a program may be handed, at one time.
-use Rattle.std.specs.Prelude.{false, [], None}
+-- All that the objects tell which a program may be handed, at one time, and what is told of a call.
+use Rattle.std.specs.Prelude.{ℕ, false, List, [], None}
 use Rattle.fault_count.specs.Plan.{no_plan}
 use Rattle.faulty_source.specs.SourceState.{SourceState}
 use Rattle.crash_site.specs.SiteState.{SiteState}
@@ -55,3 +55,13 @@ no_feed = record { tells = false; left = []; faults = 0; is_planned = false; pla
 abbrev pub with_console : WorldState → ConsoleState → WorldState
 with_console w console =
     record { source = w.source; site = w.site; clock = w.clock; feed_ = w.feed_; console = console }
+
+-- the words, the answer, and what all objects tell before the call and after it
+pub record Told (E : Type 0) : Type 0 where
+  pub words : List (List ℕ)
+  pub answer : E
+  pub before : WorldState
+  pub after : WorldState
+
+abbrev pub told : {E : Type 0} → (words : List (List ℕ)) → E → (before after : WorldState) → Told E
+told words answer before after = record { words = words; answer = answer; before = before; after = after }

@@ -10,10 +10,10 @@ use Rattle.crash_site.specs.Files.{File}
 use Rattle.save_resume.specs.Named.{map_mode, IsMapOf}
 use Rattle.rescue_domain.specs.Domain.{is_below, whole_domain, in_map}
 use Rattle.rescue_domain.specs.Finished.{is_finished, is_finished_at}
-use Rattle.ddrescue_words.specs.Command.{Command}
+use Rattle.ddrescue_words.specs.Command.{Command, Rescue as ForRescue}
 use Rattle.task_files.specs.Asked.{Maps, domain_asked, in_list}
 use Rattle.task_files.specs.Maps.{Found, file_of, found_in, mapfile_of, MapfileLists}
-use Rattle.ddrescue_cli.specs.Ddrescue.{Promise}
+use Rattle.ddrescue_cli.specs.Ddrescue.{TaskDone}
 use Rattle.rescue_safety.specs.Rescue.{Rescue, files_at_first}
 use Rattle.rescue_safety.specs.AskedFor.{IsAskedFor}
 
@@ -62,7 +62,7 @@ pub named_file : (name : Option (List ℕ)) (n : List ℕ) (files : List ℕ →
     → file_of name files ≡ files n
 named_file name n files is = ap (λ (o : Option (List ℕ)). file_of o files) is
 
-pub asked_for : (r : Rescue) (p : Promise r.command r.did.call.told) (x : ℕ)
+pub asked_for : (r : Rescue) (p : TaskDone (ForRescue r.command) r.did.call.told) (x : ℕ)
     → domain_asked r.command.options p.outside.end p.outside.maps x ≡ true → IsAskedFor r x
 asked_for r p x is =
     let c : Command = r.command in
@@ -70,26 +70,26 @@ asked_for r p x is =
     let maps : Maps = p.outside.maps in
     let whole : ℕ → Bool = whole_domain c.options.input_position c.options.size p.outside.end in
     let mapped : ℕ → Bool = in_map whole maps.domain in
-    let found : p.outside.found ≡ found_in c files = p.agrees.found r.did.call.site_tells in
+    let found : p.outside.found ≡ found_in c files = p.agrees.agrees.found r.did.call.site_tells in
     let in_mapped : in_map whole maps.domain x ≡ true = in_list_first mapped maps.listed x is in
     let w : InWhole c.options.input_position c.options.size p.outside.end x
     = in_whole c.options.input_position c.options.size p.outside.end x (in_map_first whole maps.domain x in_mapped) in
     record {
       from = w.from;
-      within = subst (λ (n : ℕ). x < n) (p.agrees.end r.did.source_tells) w.within;
+      within = subst (λ (n : ℕ). x < n) (p.agrees.agrees.end r.did.source_tells) w.within;
       size = w.size;
       domain = λ name statuses named map.
           let file : p.outside.found.domain ≡ files name
           = ap (λ (f : Found). f.domain) found ∙ named_file c.domain_map name files named in
           let are : maps.domain ≡ Some statuses
-          = p.are_maps.domain statuses (ap is_some named)
+          = p.agrees.are_maps.domain statuses (ap is_some named)
           (subst (λ (f : Option File). IsMapOf f (map_mode c.options.loose) statuses) (sym file) map) in
           in_map_has whole statuses x
           (subst (λ (o : Option (List Status)). in_map whole o x ≡ true) are in_mapped);
       listed = λ first end only lists.
           let file : p.outside.found.mapfile ≡ mapfile_of c files = ap (λ (f : Found). f.mapfile) found in
           let are : maps.listed ≡ Some (first, end)
-          = p.are_maps.listed first end only
+          = p.agrees.are_maps.listed first end only
           (subst (λ (f : Option File). MapfileLists f first end) (sym file) lists) in
           in_list_range mapped first end x (subst (λ (o : Option (ℕ × ℕ)). in_list mapped o x ≡ true) are is);
     }

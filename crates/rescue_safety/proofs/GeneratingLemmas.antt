@@ -40,9 +40,10 @@ use Rattle.task_files.specs.Maps.{Found, found_in}
 use Rattle.task_files.specs.Names.{program_name}
 use Rattle.task_files.specs.Outside.{Outside}
 use Rattle.task_sweeps.specs.Modes.{Generates, GenerateStops}
+use Rattle.ddrescue_cli.specs.Tasks.{with_did}
 use Rattle.ddrescue_cli.specs.Told.{calls_before}
 use Rattle.ddrescue_cli.specs.ToldParts.{files_of, asked_of}
-use Rattle.ddrescue_cli.specs.Ddrescue.{GenerateModePromise}
+use Rattle.ddrescue_cli.specs.Ddrescue.{TaskDone}
 use Rattle.ddrescue_cli.proofs.AskedLemmas.{sensible_in}
 use Rattle.ddrescue_cli.proofs.EarlyCut.{EarlyCut, early_cut}
 use Rattle.ddrescue_cli.proofs.SweepGoes.{Unbegun, Begun}
@@ -315,11 +316,11 @@ module _ (b : Before) (s : Setting) (g : Gain) (pieces : List Swept) (end : RunE
         (cases_Bool (has_barrier (take k g.calls)))
 
 module _ (t : Target) (l : Link) (apart : t.outfile ≢ t.mapfile) (q : IsGenerating t l) where
-  abbrev p : GenerateModePromise q.command q.call.told
+  abbrev p : TaskDone (Generate q.command) q.call.told
   p = promised_generate q.call.promised q.asks
 
   abbrev o : Outside
-  o = p.outside
+  o = with_did p.outside p.did
 
   abbrev s : Setting
   s = asked_of q.command q.call.told o
@@ -352,25 +353,25 @@ module _ (t : Target) (l : Link) (apart : t.outfile ≢ t.mapfile) (q : IsGenera
   ok = sensible_in q.command line o.end o.maps has.limits
 
   found : o.found ≡ found_in q.command (files_of q.call.told)
-  found = p.agrees.found q.call.site_tells
+  found = p.agrees.agrees.found q.call.site_tells
 
-  way : SweepWay ⊤ s (generator s) (files_of q.call.told) p.pieces p.end g
+  way : SweepWay ⊤ s (generator s) (files_of q.call.told) p.outside.pieces p.outside.swept g
   way =
-      generate_way (files_of q.call.told) line o.end o.maps p.pieces p.end o.lines q.call.told.answer o.did q.command has.named
-      (subst (λ (f : Found). Generates q.command f o.end s p.pieces p.end o.lines q.call.told.answer o.did) found p.works)
+      generate_way (files_of q.call.told) line o.end o.maps p.outside.pieces p.outside.swept o.lines q.call.told.answer o.did q.command has.named
+      (subst (λ (f : Found). Generates q.command f o.end s p.outside.pieces p.outside.swept o.lines q.call.told.answer o.did) found p.work)
 
-  given : AreGiven s (bytes_of (files_of q.call.told s.outfile)) p.pieces
-  given = subst (λ (f : Found). AreGiven s (bytes_of f.output) p.pieces) found (p.given q.call.site_tells)
+  given : AreGiven s (bytes_of (files_of q.call.told s.outfile)) p.outside.pieces
+  given = subst (λ (f : Found). AreGiven s (bytes_of f.output) p.outside.pieces) found (p.leaves.stops q.call.site_tells).0
 
-  silent : g.times ≡ [] → p.pieces ≡ []
-  silent none = (p.silent none).1
+  silent : g.times ≡ [] → p.outside.pieces ≡ []
+  silent none = (p.leaves.silent none).1
 
-  starts : StartFrom s.from p.pieces
-  starts = way_starts s (files_of q.call.told) p.pieces p.end on g ok silent way
+  starts : StartFrom s.from p.outside.pieces
+  starts = way_starts s (files_of q.call.told) p.outside.pieces p.outside.swept on g ok silent way
 
   calls_are : q.call.calls ≡ g.calls
   calls_are =
-      append_cancel_left q.call.told.site.calls q.call.calls g.calls (sym q.call.made ∙ p.agrees.calls q.call.site_tells)
+      append_cancel_left q.call.told.before.site.calls q.call.calls g.calls (sym q.call.made ∙ p.agrees.agrees.calls q.call.site_tells)
 
   within : q.step.moment ≤ length g.calls
   within = subst (λ (cs : List Entry). q.step.moment ≤ length cs) calls_are q.step.within
@@ -382,7 +383,7 @@ module _ (t : Target) (l : Link) (apart : t.outfile ≢ t.mapfile) (q : IsGenera
 
   -- what it gave is what its pieces got that it had read by then
   abbrev got_by_then : List Swept
-  got_by_then = take (seen_in (take (q.step.moment + 1) g.calls)) p.pieces
+  got_by_then = take (seen_in (take (q.step.moment + 1) g.calls)) p.outside.pieces
 
   abbrev bytes : List ℕ
   bytes = bytes_of (files_before b s.outfile)
@@ -397,10 +398,10 @@ module _ (t : Target) (l : Link) (apart : t.outfile ≢ t.mapfile) (q : IsGenera
       ∙ looked_by t bytes part
       ∙ ap (λ (ls : List (ℕ × ℕ)). look_pairs t bytes ls)
       (ap (λ (cs : List Entry). looks_in (take (q.step.moment + 1) cs)) calls_are
-      ∙ part_looks s g.calls (q.step.moment + 1) p.pieces (way_looks s (files_of q.call.told) p.pieces p.end on g silent way))
+      ∙ part_looks s g.calls (q.step.moment + 1) p.outside.pieces (way_looks s (files_of q.call.told) p.outside.pieces p.outside.swept on g silent way))
       ∙ looked_pieces t s bytes got_by_then q.step.places
-      (first_pieces (λ (e : Swept). s.from ≤ e.pos) n p.pieces starts)
-      (first_pieces (λ (e : Swept). e.got ≡ take e.len (drop (place s e.pos) bytes)) n p.pieces given)
+      (first_pieces (λ (e : Swept). s.from ≤ e.pos) n p.outside.pieces starts)
+      (first_pieces (λ (e : Swept). e.got ≡ take e.len (drop (place s e.pos) bytes)) n p.outside.pieces given)
 
   gave_is : l.gave ≡ after_barrier (take q.step.moment g.calls) (pieces_given got_by_then)
   gave_is =
@@ -420,7 +421,7 @@ module _ (t : Target) (l : Link) (apart : t.outfile ≢ t.mapfile) (q : IsGenera
       subst (λ (gs : List (ℕ × ℕ)). IsOwedAt t (gave ++ gs) old l.next) (sym gave_is)
       (same_at (own_target s) t same (gave ++ gives) old l.next
       (next_owed (own_target s) (gave ++ gives) old b g.calls q.step.moment l.next
-      (λ files left. owed_at_stop b s g p.pieces p.end
-      (way_comes s (files_of q.call.told) p.pieces p.end on g way) starts given (p.stops q.call.site_tells) own_apart
-      (λ began was there. way_begins b s p.pieces p.end on began was there g way)
+      (λ files left. owed_at_stop b s g p.outside.pieces p.outside.swept
+      (way_comes s (files_of q.call.told) p.outside.pieces p.outside.swept on g way) starts given (p.leaves.stops q.call.site_tells).1 own_apart
+      (λ began was there. way_begins b s p.outside.pieces p.outside.swept on began was there g way)
       gave old q.step.moment files within left here) next))

@@ -12,15 +12,16 @@ use Rattle.rescue_rules.specs.Work.{Gain, begins, events_in, opening_calls, InOp
 use Rattle.rescue_rules.proofs.GoesLemmas.{Course, Way, AnyMap, OneMap, way}
 use Rattle.rescue_rules.proofs.ReadyLemmas.{order_over}
 use Rattle.option_words.specs.Words.{command_line}
-use Rattle.ddrescue_words.specs.Command.{Command}
+use Rattle.ddrescue_words.specs.Command.{Command, Rescue as ForRescue}
 use Rattle.work_rules.specs.Work.{Works}
 use Rattle.task_files.specs.Maps.{found_in}
 use Rattle.task_files.specs.Names.{program_name}
 use Rattle.task_files.specs.Outside.{Outside}
 use Rattle.task_files.specs.Work.{Rescues, rescue_faults, rescue_rows}
+use Rattle.ddrescue_cli.specs.Tasks.{with_did}
 use Rattle.ddrescue_cli.specs.Told.{Told}
 use Rattle.ddrescue_cli.specs.ToldParts.{files_of, asked_of}
-use Rattle.ddrescue_cli.specs.Ddrescue.{Promise}
+use Rattle.ddrescue_cli.specs.Ddrescue.{TaskDone}
 use Rattle.ddrescue_cli.proofs.GoesLemmas.{work_goes}
 use Rattle.rescue_safety.proofs.ClaimLemmas.{given_domain}
 
@@ -31,16 +32,16 @@ idle_goes s files g none unread =
     (InOpening [] (opening_calls s) refl unread (inl none))
 
 -- the work of a promise goes as it should
-pub promise_goes : (c : Command) (t : Told) (p : Promise c t) → IsTrue t.site.tells
-    → (asked_of c t p.outside).has_mapfile ≡ true → Goes (asked_of c t p.outside) (files_of t) p.outside.did.gain
+pub promise_goes : (c : Command) (t : Told) (p : TaskDone (ForRescue c) t) → IsTrue t.before.site.tells
+    → (asked_of c t (with_did p.outside p.did)).has_mapfile ≡ true → Goes (asked_of c t (with_did p.outside p.did)) (files_of t) p.did.gain
 promise_goes c t p tells on =
-    let o : Outside = p.outside in
+    let o : Outside = with_did p.outside p.did in
     let s : Setting = asked_of c t o in
     let files : List ℕ → Option File = files_of t in
     let works : Works rescue_faults (rescue_rows c (found_in c files) o.end)
     (Rescues s (found_in c files).mapfile o.lines) t.answer o.did
     = subst (λ f. Works rescue_faults (rescue_rows c f o.end) (Rescues s f.mapfile o.lines) t.answer o.did)
-    (p.agrees.found tells) p.works in
+    (p.agrees.agrees.found tells) p.work in
     ⊎_elim
     (λ idle. idle_goes s files o.did.gain idle.1.gain.calls idle.1.gain.reads)
     (λ more. ⊎_elim

@@ -25,9 +25,10 @@ use Rattle.task_files.specs.Names.{program_name}
 use Rattle.task_files.specs.Maps.{Found, seen_through}
 use Rattle.task_files.specs.Outside.{Outside, HasGainedReads}
 use Rattle.task_files.specs.Work.{Rescues}
+use Rattle.ddrescue_cli.specs.Tasks.{with_did}
 use Rattle.ddrescue_cli.specs.Told.{Told, calls_before}
 use Rattle.ddrescue_cli.specs.ToldParts.{asked_of}
-use Rattle.ddrescue_cli.specs.Ddrescue.{Promise}
+use Rattle.ddrescue_cli.specs.Ddrescue.{TaskDone}
 use Rattle.ddrescue_cli.proofs.AskedLemmas.{sensible_to}
 use Rattle.rescue_safety.specs.Saves.{CallsFinished, IsOneSaved}
 use Rattle.rescue_safety.specs.Safe.{Target, HasPlace, Run, reads_until, by_then, gives, IsOwn, IsHeld, IsSafe, IsSafeAnywhere}
@@ -60,11 +61,11 @@ module _ (r : Rescue) where
   abbrev c : Command
   c = r.command
 
-  abbrev pub p : Promise r.command r.did.call.told
-  p = r.did.call.promised.asked_for (ForRescue r.command) r.asks
+  abbrev pub p : TaskDone (ForRescue r.command) r.did.call.told
+  p = r.did.call.promised.does.asked_for (ForRescue r.command) r.asks
 
   abbrev pub w : Outside
-  w = p.outside
+  w = with_did p.outside p.did
 
   abbrev pub s : Setting
   s = asked_of r.command r.did.call.told w
@@ -91,16 +92,16 @@ module _ (r : Rescue) where
   goes = promise_goes c t p r.did.call.site_tells on
 
   pub safe : RescueStopsBy b s g
-  safe = p.stops r.did.call.site_tells on
+  safe = p.leaves.stops r.did.call.site_tells on
 
   pub calls_are : r.did.call.calls ≡ g.calls
-  calls_are = append_cancel_left t.site.calls r.did.call.calls g.calls (sym r.did.call.made ∙ p.agrees.calls r.did.call.site_tells)
+  calls_are = append_cancel_left t.before.site.calls r.did.call.calls g.calls (sym r.did.call.made ∙ p.agrees.agrees.calls r.did.call.site_tells)
 
-  gained : HasGainedReads w.maps.test t.source t.source' g.reads
-  gained = p.agrees.reads r.did.source_tells
+  gained : HasGainedReads w.maps.test t.before.source t.after.source g.reads
+  gained = p.agrees.agrees.reads r.did.source_tells
 
   raw_are : r.did.reads ≡ gained.raw
-  raw_are = append_cancel_left t.source.journal r.did.reads gained.raw (sym r.did.read ∙ gained.journal)
+  raw_are = append_cancel_left t.before.source.journal r.did.reads gained.raw (sym r.did.read ∙ gained.journal)
 
   -- the reads are seen by the map that the test map's name stands for
   seen_by : (test : Option (List Status)) → w.maps.test ≡ test → g.reads ≡ seen_through test r.did.reads
@@ -109,16 +110,16 @@ module _ (r : Rescue) where
       ∙ ap (seen_through test) (sym raw_are)
 
   untested : c.test_map ≡ None → g.reads ≡ r.did.reads
-  untested none = seen_by None (p.asked_maps.test none)
+  untested none = seen_by None (p.agrees.asked_maps.test none)
 
   test_file : (name : List ℕ) → c.test_map ≡ Some name → w.found.test ≡ files_at_first r name
   test_file name named =
-      ap (λ (f : Found). f.test) (p.agrees.found r.did.call.site_tells) ∙ named_file c.test_map name (files_at_first r) named
+      ap (λ (f : Found). f.test) (p.agrees.agrees.found r.did.call.site_tells) ∙ named_file c.test_map name (files_at_first r) named
 
   with_test : (name : List ℕ) (statuses : List Status) → c.test_map ≡ Some name
       → IsMapOf (files_at_first r name) (map_mode c.options.loose) statuses → g.reads ≡ map (seen statuses) r.did.reads
   with_test name statuses named of =
-      seen_by (Some statuses) (p.are_maps.test statuses (ap is_some named)
+      seen_by (Some statuses) (p.agrees.are_maps.test statuses (ap is_some named)
       (subst (λ (f : Option File). IsMapOf f (map_mode c.options.loose) statuses) (sym (test_file name named)) of))
 
   -- a read that was answered is seen
@@ -137,7 +138,7 @@ module _ (r : Rescue) where
       let of : IsMapOf (files_at_first r name) (map_mode c.options.loose) m.0
       = subst (λ (f : Option File). IsMapOf f (map_mode c.options.loose) m.0) (test_file name named) m.1 in
       Tested name m.0 named of (with_test name m.0 named of))
-      (tested c w.found w.end (Rescues s w.found.mapfile w.lines) t.answer w.did name named p.works)
+      (tested c w.found w.end (Rescues s w.found.mapfile w.lines) t.answer w.did name named p.work)
 
   seen_are : AreSeen r g.reads
   seen_are = seen_named c.test_map refl
@@ -149,8 +150,8 @@ module _ (r : Rescue) where
   seen_alone reads (Untested none is) = is ∙ sym (untested none)
   seen_alone reads (Tested name statuses named of is) = is ∙ sym (with_test name statuses named of)
 
-  own : All (IsOwn t.source.bytes) g.reads
-  own = all_own t.source.bytes g.reads gained.right
+  own : All (IsOwn t.before.source.bytes) g.reads
+  own = all_own t.before.source.bytes g.reads gained.right
 
   inside : (x byte : ℕ) → given c.options.sector g.reads x ≡ Some byte → s.domain x ≡ true
   inside x byte is = goes_domain s ok (files_before b) g x byte on goes is
@@ -319,16 +320,16 @@ gives_what_is_asked_for r reads x byte are is =
 
 pub each_is_told : EachIsTold
 each_is_told t c mapfile promised asks named site_tells source_tells =
-    let p : Promise c t = promised.asked_for (ForRescue c) asks in
-    let gained : HasGainedReads p.outside.maps.test t.source t.source' p.outside.did.gain.reads = p.agrees.reads source_tells in (
+    let p : TaskDone (ForRescue c) t = promised.does.asked_for (ForRescue c) asks in
+    let gained : HasGainedReads p.outside.maps.test t.before.source t.after.source p.did.gain.reads = p.agrees.agrees.reads source_tells in (
       record {
         did = record {
           call = record {
             told = t;
             promised = promised;
             site_tells = site_tells;
-            calls = p.outside.did.gain.calls;
-            made = p.agrees.calls site_tells;
+            calls = p.did.gain.calls;
+            made = p.agrees.agrees.calls site_tells;
           };
           source_tells = source_tells;
           reads = gained.raw;

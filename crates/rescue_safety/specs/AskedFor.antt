@@ -23,7 +23,7 @@ pub data AreSeen (r : Rescue) (reads : List Reading) : Type 0 where
 -- map it is finished there. If only what the mapfile lists is asked for, the mapfile lists it.
 pub record IsAskedFor (r : Rescue) (x : ℕ) : Type 0 where
   pub from : r.command.options.input_position ≤ x
-  pub within : x < length r.did.call.told.source.bytes
+  pub within : x < length r.did.call.told.before.source.bytes
   pub size : IfSome r.command.options.size (λ n. x < r.command.options.input_position + n)
   pub domain : (name : List ℕ) (statuses : List Status) → r.command.domain_map ≡ Some name
       → IsMapOf (files_at_first r name) (map_mode r.command.options.loose) statuses → Has statuses Finished x

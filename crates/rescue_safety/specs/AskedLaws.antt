@@ -20,7 +20,7 @@ use Rattle.rescue_safety.specs.Written.{written_in, kept_in}
 -- a rescue with a mapfile.
 abbrev pub EachIsTold : Type 0
 EachIsTold = (t : Told) (c : Command) (mapfile : List ℕ) → Ddrescue t → Asks t.words c → c.mapfile ≡ Some mapfile
-    → IsTrue t.site.tells → IsTrue t.source.tells → (r : Rescue) × (r.did.call.told ≡ t) × (r.command ≡ c)
+    → IsTrue t.before.site.tells → IsTrue t.before.source.tells → (r : Rescue) × (r.did.call.told ≡ t) × (r.command ≡ c)
 
 -- The reads of a rescue give a byte only to positions that are asked for.
 abbrev pub GivesWhatIsAskedFor : Type 0

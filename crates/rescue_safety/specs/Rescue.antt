@@ -18,16 +18,16 @@ pub record Invocation : Type 0 where
   pub told : Told
   -- the call was one of `ddrescue`: this is what its contract ensures
   pub promised : Ddrescue told
-  pub site_tells : IsTrue told.site.tells
+  pub site_tells : IsTrue told.before.site.tells
   pub calls : List Entry
-  pub made : told.site'.calls ≡ told.site.calls ++ calls
+  pub made : told.after.site.calls ≡ told.before.site.calls ++ calls
 
 -- An invocation whose input tells, too, and the reads that the input answered.
 pub record Observed : Type 0 where
   pub call : Invocation
-  pub source_tells : IsTrue call.told.source.tells
+  pub source_tells : IsTrue call.told.before.source.tells
   pub reads : List Reading
-  pub read : call.told.source'.journal ≡ call.told.source.journal ++ reads
+  pub read : call.told.after.source.journal ≡ call.told.before.source.journal ++ reads
 
 -- An invocation whose words ask for a rescue with a mapfile.
 pub record Rescue : Type 0 where
@@ -52,7 +52,7 @@ run_by o t sector reads = record {
   target = t;
   past = calls_before o.call.told;
   calls = o.call.calls;
-  input = o.call.told.source.bytes;
+  input = o.call.told.before.source.bytes;
   sector = sector;
   reads = reads;
 }
@@ -63,4 +63,4 @@ run_of r reads = run_by r.did (target_of r.command r.mapfile) r.command.options.
 
 -- the files as they read when it began
 abbrev pub files_at_first : Rescue → List ℕ → Option File
-files_at_first r = files_in r.did.call.told.site
+files_at_first r = files_in r.did.call.told.before.site

@@ -12,8 +12,9 @@ use Rattle.task_files.specs.declared.ending.Which.{Which}
 use Rattle.task_files.specs.declared.ending.Which.TheVariants.{RunMap}
 use Rattle.task_files.specs.declared.ending.Ending.{Ending}
 use Rattle.task_files.specs.declared.ending.Ending.TheVariants.{NoMap, MapRefused, SiteFault, NoMemory}
-use Rattle.task_files.specs.Answers.{Rises, Causes, drafting_left}
-use Rattle.task_files.specs.Steps.{MapCause, LoadCause}
+use Rattle.program_promise.specs.Causes.{changes_of}
+use Rattle.task_files.specs.Answers.{Causes, drafting_left, row_of}
+use Rattle.task_files.specs.Steps.{MapCause, LoadCause, OutputCause}
 
 -- what holds of each answer of such a read
 map_each : (P : Ending → Type 0) (which : Which) (e : Ending) (faults faults' : ℕ) → P NoMemory → P (NoMap which)
@@ -40,19 +41,30 @@ load_leaves e faults faults' (inr (inr c)) = rw c.1 (resume_leaves c.0 c.2)
 -- a call that failed was counted, and nothing else
 pub map_causes : (which : Which) (e : Ending) (s : SourceState) (d d' : SiteState) → (which ≡ RunMap → ⊥)
     → MapCause which e d.faults d'.faults → Causes e s s d d'
-map_causes which e s d d' early (inl c) = rw c.0 (record { faults = refl; losses_ = refl; site_faults = c.1 })
-map_causes which e s d d' early (inr (inl c)) = rw c.0 (record { faults = refl; losses_ = refl; site_faults = c.1 })
+map_causes which e s d d' early (inl c) = rw c.0 (record { opens = refl; reads = refl; calls = c.1; also = tt })
+map_causes which e s d d' early (inr (inl c)) = rw c.0 (record { opens = refl; reads = refl; calls = c.1; also = tt })
 map_causes which e s d d' early (inr (inr (inl c))) =
-    rw c.1 (λ run. absurd (early run), c.2, record { faults = refl; losses_ = refl; site_faults = c.3 })
-map_causes which e s d d' early (inr (inr (inr c))) = rw c.0 (record { faults = refl; losses_ = refl; site_faults = c.1 })
+    rw c.1 (record { opens = refl; reads = refl; calls = c.3; also = (λ run. absurd (early run), c.2) })
+map_causes which e s d d' early (inr (inr (inr c))) =
+    rw c.0 (record { opens = refl; reads = refl; calls = c.1; also = tt })
 
--- after reads of maps that went on no call is counted
-rises_after : (opens losses calls : ℕ → ℕ) (s s' : SourceState) (d d1 d' : SiteState) → d1.faults ≡ d.faults
-    → Rises opens losses calls s s' d1 d' → Rises opens losses calls s s' d d'
-rises_after opens losses calls s s' d d1 d' same r =
-    record { faults = r.faults; losses_ = r.losses_; site_faults = r.site_faults ∙ ap calls same }
+pub output_causes : (e : Ending) (s : SourceState) (d d' : SiteState) → OutputCause e d.faults d'.faults → Causes e s s d d'
+output_causes e s d d' (inl c) = rw c.0 (record { opens = refl; reads = refl; calls = c.1; also = tt })
+output_causes e s d d' (inr (inl c)) = rw c.0 (record { opens = refl; reads = refl; calls = c.1; also = tt })
+output_causes e s d d' (inr (inr c)) = rw c.0 (record { opens = refl; reads = refl; calls = c.1; also = tt })
 
-pub causes_after : (e : Ending) (s s' : SourceState) (d d1 d' : SiteState) → d1.faults ≡ d.faults → Causes e s s' d1 d' → Causes e s s' d d'
-causes_after (MapRefused which error) s s' d d1 d' same c = (c.0, c.1, rises_after _ _ _ s s' d d1 d' same c.2)
-causes_after (SiteFault call (Some (Site before))) s s' d d1 d' same c = absurd c
-causes_after e s s' d d1 d' same c = rises_after _ _ _ s s' d d1 d' same c
+pub load_causes : (e : Ending) (s : SourceState) (d d' : SiteState) → LoadCause e d.faults d'.faults → Causes e s s d d'
+load_causes e s d d' (inl c) = rw c.0 (record { opens = refl; reads = refl; calls = c.1; also = tt })
+load_causes e s d d' (inr (inl c)) =
+    rw c.1 (record { opens = refl; reads = refl; calls = c.4; also = (λ run. c.2, c.3) })
+load_causes e s d d' (inr (inr c)) = rw c.1 (record { opens = refl; reads = refl; calls = c.3; also = tt })
+
+-- after steps in which no count rose
+pub causes_after : (e : Ending) (s s1 s' : SourceState) (d d1 d' : SiteState) → s1.faults ≡ s.faults
+    → s1.losses ≡ s.losses → d1.faults ≡ d.faults → Causes e s1 s' d1 d' → Causes e s s' d d'
+causes_after e s s1 s' d d1 d' opens reads calls c = record {
+  opens = c.opens ∙ ap (changes_of (row_of e).kind).opens opens;
+  reads = c.reads ∙ ap (changes_of (row_of e).kind).reads reads;
+  calls = c.calls ∙ ap (changes_of (row_of e).kind).calls calls;
+  also = c.also;
+}

@@ -5,6 +5,7 @@ pub mod checked;
 pub mod ending;
 pub mod load;
 pub mod maps;
+mod message;
 pub mod open;
 pub mod opening;
 pub mod places;

@@ -12,9 +12,10 @@ use Rattle.rescue_core.specs.RunState.{RunState}
 use Rattle.rescue_core.specs.Across.{Across}
 use Rattle.rescue_core.specs.Turning.{Starved, Lost, Unwritten, Limited as LimitedTurn, Unsaved as UnsavedTurn}
 use Rattle.rescue_core.specs.Closing.{LastSave, Saved, Unsaved, Closes, drafting_at_stop}
+use Rattle.program_promise.specs.Causes.{unchanged}
 use Rattle.copy_passes.specs.Turns.{WentUpTo, ObjectsStay}
 use Rattle.task_files.specs.declared.ending.Ending.TheVariants.{SiteFault}
-use Rattle.task_files.specs.Answers.{Causes, Rises, drafting_left, unchanged}
+use Rattle.task_files.specs.Answers.{Causes, drafting_left}
 use Rattle.task_files.specs.Work.{answer_of}
 
 -- the last save after a stop, by what that has counted
@@ -22,21 +23,17 @@ module _ (stop : Stop) (r : RunState) (losses : ℕ → ℕ) (source source' : S
     (opens_are : source'.faults ≡ source.faults) (losses_are : source'.losses ≡ losses source.losses)
     (calls_are : before.faults ≡ site.faults) where
   saves_cause : (end : RunEnd) → LastSave (Some stop) r end before after
-      → (Rises unchanged losses unchanged source source' site after
+      → (source'.faults ≡ source.faults → source'.losses ≡ losses source.losses → after.faults ≡ site.faults
       → Causes (answer_of (Stopped stop)) source source' site after)
-      → ((call : SiteCall) → Rises unchanged losses raised source source' site after
-      → Causes (SiteFault call (Some stop)) source source' site after)
+      → ((call : SiteCall) → source'.faults ≡ source.faults → source'.losses ≡ losses source.losses
+      → after.faults ≡ raised site.faults → Causes (SiteFault call (Some stop)) source source' site after)
       → Causes (answer_of end) source source' site after
   saves_cause end (Saved is makes rest) whole broken =
       subst (λ (e : RunEnd). Causes (answer_of e) source source' site after) (sym is)
-      (whole (record { faults = opens_are; losses_ = losses_are; site_faults = makes.faults ∙ calls_are }))
+      (whole opens_are losses_are (makes.faults ∙ calls_are))
   saves_cause end (Unsaved call is named breaks rest) whole broken =
       subst (λ (e : RunEnd). Causes (answer_of e) source source' site after) (sym is)
-      (broken call (record {
-        faults = opens_are;
-        losses_ = losses_are;
-        site_faults = breaks.rose ∙ ap raised calls_are;
-      }))
+      (broken call opens_are losses_are (breaks.rose ∙ ap raised calls_are))
 
 -- A run that stopped has the cause of its answer.
 pub stopped_cause : (stop : Stop) (r r2 : RunState) (end : RunEnd) (o : Across) (site3 : SiteState) → WentUpTo stop r r2 o
@@ -51,27 +48,32 @@ stopped_cause stop r r2 end o site3 h objects closes =
       | Starved is still untouched unmade unread unsaid ↦
           saves_cause NoRoom r2 unchanged o.source o.source' o.site o.site' site3 opens
           (ap (λ (s : SourceState). s.losses) untouched ∙ reads) (ap (λ (d : SiteState). d.faults) unmade ∙ calls) end
-          (subst C is closes) (λ x. x) (λ call x. x)
+          (subst C is closes) (λ o l c. record { opens = o; reads = l; calls = c; also = tt })
+          (λ call o l c. record { opens = o; reads = l; calls = c; also = λ before none. cc })
       | Lost is still loses unmade before small times unsaid ↦
           saves_cause InputLost r2 raised o.source o.source' o.site o.site' site3 opens
           (loses.rose ∙ ap raised reads) (ap (λ (d : SiteState). d.faults) unmade ∙ calls) end
-          (subst C is closes) (λ x. x) (λ call x. x)
+          (subst C is closes) (λ o l c. record { opens = o; reads = l; calls = c; also = tt })
+          (λ call o l c. record { opens = o; reads = l; calls = c; also = λ before none. cc })
       | Unwritten is still event from named breaks unsaid ↦
           let closed : C (Site _) = subst C is closes in
           subst (λ (e : RunEnd). Causes (answer_of e) o.source o.source' o.site site3) (sym closed.0) (record {
-            faults = opens;
-            losses_ = from.read.losses ∙ reads;
-            site_faults = ap (λ (d : SiteState). d.faults) closed.1 ∙ breaks.rose ∙ ap raised calls;
+            opens = opens;
+            reads = from.read.losses ∙ reads;
+            calls = ap (λ (d : SiteState). d.faults) closed.1 ∙ breaks.rose ∙ ap raised calls;
+            also = tt;
           })
       | LimitedTurn limit is event from steps met makes says ↦
           saves_cause (Limited limit) r2 unchanged o.source o.source' o.site o.site' site3 opens
-          (from.read.losses ∙ reads) (makes.faults ∙ calls) end (subst C is closes) (λ x. x) (λ call x. x)
+          (from.read.losses ∙ reads) (makes.faults ∙ calls) end (subst C is closes) (λ o l c. record { opens = o; reads = l; calls = c; also = tt })
+          (λ call o l c. record { opens = o; reads = l; calls = c; also = λ before none. cc })
       | UnsavedTurn call is event from steps due named broke rose says ↦
           let closed : C (Site call) = subst C is closes in
           subst (λ (e : RunEnd). Causes (answer_of e) o.source o.source' o.site site3) (sym closed.0) (record {
-            faults = opens;
-            losses_ = from.read.losses ∙ reads;
-            site_faults = ap (λ (d : SiteState). d.faults) closed.1 ∙ rose ∙ ap raised calls;
+            opens = opens;
+            reads = from.read.losses ∙ reads;
+            calls = ap (λ (d : SiteState). d.faults) closed.1 ∙ rose ∙ ap raised calls;
+            also = tt;
           })
     ]
 

@@ -17,7 +17,7 @@ use Rattle.rescue_rules.specs.declared.stop.Stop.TheVariants.{Site}
 use Rattle.copy_passes.proofs.TurnLemmas.{between}
 use Rattle.task_files.specs.declared.ending.Ending.{Ending}
 use Rattle.task_files.specs.declared.ending.Ending.TheVariants.{MapRefused, SiteFault}
-use Rattle.task_files.specs.Answers.{Rises, Causes}
+use Rattle.task_files.specs.Answers.{Causes}
 use Rattle.task_files.specs.Outside.{HasGainedReads}
 use Rattle.task_files.specs.Steps.{DidRun}
 
@@ -56,20 +56,6 @@ module _ (reference : ℕ) (tests : List Status) (old new : SourceState)
     runs = ran.runs;
   }
 
--- An answer has the same cause.
-module _ (reference : ℕ) (tests : List Status) (a b : SourceState) (d d' : SiteState) where
-  rises_seen : (opens losses calls : ℕ → ℕ)
-      → Rises opens losses calls (state_seen reference tests a) (state_seen reference tests b) d d'
-      → Rises opens losses calls a b d d'
-  rises_seen opens losses calls rises =
-      record { faults = rises.faults; losses_ = rises.losses_; site_faults = rises.site_faults }
-
-  causes_seen : (e : Ending) → Causes e (state_seen reference tests a) (state_seen reference tests b) d d'
-      → Causes e a b d d'
-  causes_seen (MapRefused which error) cause = (cause.0, cause.1, rises_seen _ _ _ cause.2)
-  causes_seen (SiteFault call (Some (Site before))) cause = cause
-  causes_seen e cause = rises_seen _ _ _ cause
-
 -- What a run did to a source in test mode that was made of an input in this state, and leaves it in that one:
 module _ (reference reference' : ℕ) (tests tests' : List Status) (old new test : SourceState)
     (made : test ≡ state_seen reference tests old) (kept : SourceKeeps test (state_seen reference' tests' new)) where
@@ -92,4 +78,6 @@ module _ (reference reference' : ℕ) (tests tests' : List Status) (old new test
   pub causes_below : (e : Ending) (site site' : SiteState) → Causes e test (state_seen reference' tests' new) site site'
       → Causes e old new site site'
   causes_below e site site' cause =
-      causes_seen reference tests old new site site' e (below (λ a b. Causes e a b site site') cause)
+      let c : Causes e (state_seen reference tests old) (state_seen reference tests new) site site' =
+      below (λ a b. Causes e a b site site') cause in
+      record { opens = c.opens; reads = c.reads; calls = c.calls; also = c.also }

@@ -10,11 +10,15 @@ use Rattle.std.proofs.lemmas.List.Elements.{All-nil, All-cons}
 use Rattle.std.proofs.lemmas.Option.{slice_get-get_or}
 use Rattle.faulty_source.specs.declared.source.Got.{Got}
 use Rattle.faulty_source.specs.Got.{count_of, is_end}
-use Rattle.faulty_source.specs.Journal.{Reading, IsFrom}
+use Rattle.faulty_source.specs.Journal.{Reading}
 use Rattle.faulty_source.specs.SourceState.{SourceState}
-use Rattle.task_files.specs.declared.ending.Ending.TheVariants.{PatternUnread}
+use Rattle.faulty_source.specs.Journal.{IsFrom}
+use Rattle.crash_site.specs.SiteState.{SiteState}
+use Rattle.task_files.specs.declared.ending.Ending.{Ending}
+use Rattle.task_files.specs.declared.ending.Ending.TheVariants.{EmptyPattern, PatternUnread, NoMemory}
+use Rattle.task_files.specs.Answers.{Causes}
 use Rattle.task_files.specs.Outside.{HasGainedReads}
-use Rattle.task_sweeps.specs.Pattern.{IsPatternRead, IsRepeated, PatternRead, ReadsPattern, TakesPattern}
+use Rattle.task_sweeps.specs.Pattern.{IsPatternRead, IsRepeated, PatternRead, PatternCause, PatternTaken, ReadsPattern, TakesPattern}
 
 -- a list is filled up to a place by the front of another
 pub record IsFilledTo (ys xs : List ℕ) (front i : ℕ) : Type 0 where
@@ -161,3 +165,24 @@ taken_read cluster end size count new rest s s' some same all r =
       gained = r.gained;
       comes = inr (inr (some, subst (λ (b : List ℕ). PatternRead cluster end r.reads (Ok b)) (sym whole) read));
     }
+
+-- why a pattern wasn't taken is counted, and nothing else
+abbrev CountsAs : (T : Type 0) → Ending → (s s' : SourceState) → SiteState → Type 0
+CountsAs T e s s' d = PatternCause {T = T} (Err e) s s' → Causes e s s' d d
+
+pub pattern_causes : (T : Type 0) (cluster end : ℕ) (reads : List Reading) (e : Ending) (s s' : SourceState) (d : SiteState)
+    → PatternTaken cluster end reads (Err e) → CountsAs T e s s' d
+pattern_causes T cluster end reads e s s' d (inl (zero, is, none)) =
+    let same : e ≡ EmptyPattern = cc in
+    subst (λ (v : Ending). CountsAs T v s s' d) (sym same)
+    (λ c. record { opens = c.faults; reads = c.losses; calls = refl; also = tt })
+pattern_causes T cluster end reads e s s' d (inr (inl (some, is, none))) =
+    let same : e ≡ NoMemory = cc in
+    subst (λ (v : Ending). CountsAs T v s s' d) (sym same)
+    (λ c. record { opens = c.faults; reads = c.losses; calls = refl; also = tt })
+pattern_causes T cluster end reads e s s' d (inr (inr (some, inl (is, none)))) =
+    subst (λ (v : Ending). CountsAs T v s s' d) (sym is)
+    (λ c. record { opens = c.faults; reads = c.losses; calls = refl; also = tt })
+pattern_causes T cluster end reads e s s' d (inr (inr (some, inr (r, one, pattern, less, is)))) =
+    subst (λ (v : Ending). CountsAs T v s s' d) (sym is)
+    (λ c. record { opens = c.faults; reads = c.losses; calls = refl; also = tt })

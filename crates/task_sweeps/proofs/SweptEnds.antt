@@ -14,8 +14,8 @@ use Rattle.sweep_rules.specs.Sweep.{Sweeper, Sweep, Swept, after_pieces}
 use Rattle.sweep_rules.specs.SweepWork.{SweepEndsBy}
 use Rattle.fill_generate.specs.Sweeping.{EndsSweep, Saved, Unsaved, Cut, Broken, drafting_after}
 use Rattle.task_files.specs.declared.ending.Ending.{Ending}
-use Rattle.task_files.specs.declared.ending.Ending.TheVariants.{MapRefused, SiteFault, NoMemory}
-use Rattle.task_files.specs.Answers.{Causes, Rises, drafting_left}
+use Rattle.task_files.specs.declared.ending.Ending.TheVariants.{NoMemory}
+use Rattle.task_files.specs.Answers.{Causes, drafting_left}
 use Rattle.task_files.specs.Work.{answer_of}
 use Rattle.task_sweeps.specs.SweepSteps.{SweepCause}
 use Rattle.task_files.proofs.CauseLemmas.{causes_after}
@@ -23,21 +23,22 @@ use Rattle.task_files.proofs.CauseLemmas.{causes_after}
 -- its last calls returned, or one of them failed
 saved_cause : (s : Setting) (w : Sweeper) (m : Sweep) (stop : Option Stop) (source : SourceState) (site site' : SiteState)
     → SweepEndsBy stop s w m → site'.faults ≡ site.faults → Causes (answer_of (end_of stop)) source source site site'
-saved_cause s w m None source site site' by same = record { faults = refl; losses_ = refl; site_faults = same }
+saved_cause s w m None source site site' by same = record { opens = refl; reads = refl; calls = same; also = tt }
 saved_cause s w m (Some InputLost) source site site' by same = absurd by
 saved_cause s w m (Some (Site call)) source site site' by same = absurd by
 saved_cause s w m (Some (Limited limit)) source site site' by same = absurd by
-saved_cause s w m (Some NoRoom) source site site' by same = record { faults = refl; losses_ = refl; site_faults = same }
+saved_cause s w m (Some NoRoom) source site site' by same = record { opens = refl; reads = refl; calls = same; also = tt }
 
 unsaved_cause : (s : Setting) (w : Sweeper) (m : Sweep) (stop : Option Stop) (call : SiteCall) (source : SourceState)
     (site site' : SiteState) → SweepEndsBy stop s w m → site'.faults ≡ raised site.faults
     → Causes (answer_of (SaveFailed call stop)) source source site site'
-unsaved_cause s w m None call source site site' by rose = record { faults = refl; losses_ = refl; site_faults = rose }
+unsaved_cause s w m None call source site site' by rose =
+    record { opens = refl; reads = refl; calls = rose; also = tt }
 unsaved_cause s w m (Some InputLost) call source site site' by rose = absurd by
 unsaved_cause s w m (Some (Site before)) call source site site' by rose = absurd by
 unsaved_cause s w m (Some (Limited limit)) call source site site' by rose = absurd by
 unsaved_cause s w m (Some NoRoom) call source site site' by rose =
-    record { faults = refl; losses_ = refl; site_faults = rose }
+    record { opens = refl; reads = refl; calls = rose; also = λ before none. cc }
 
 -- A sweep has the cause of its answer,
 pub sweep_cause : (s : Setting) (w : Sweeper) (m : Sweep) (es : List Swept) (end : RunEnd) (site site' : SiteState) (e : Ending)
@@ -50,35 +51,19 @@ sweep_cause s w m es end site site' e (Unsaved stop call by is breaks) answered 
     (unsaved_cause s w (after_pieces w m es) stop call source site site' by breaks.rose)
 sweep_cause s w m es end site site' e (Cut p q piece is breaks) answered = λ source.
     subst (λ (v : Ending). Causes v source source site site') (ap answer_of (sym is) ∙ sym answered)
-    (record { faults = refl; losses_ = refl; site_faults = breaks.rose })
+    (record { opens = refl; reads = refl; calls = breaks.rose; also = tt })
 sweep_cause s w m es end site site' e (Broken before last call split is breaks) answered = λ source.
     subst (λ (v : Ending). Causes v source source site site') (ap answer_of (sym is) ∙ sym answered)
-    (record { faults = refl; losses_ = refl; site_faults = breaks.rose })
+    (record { opens = refl; reads = refl; calls = breaks.rose; also = tt })
 
 -- after steps that counted nothing,
-input_after : (opens losses calls : ℕ → ℕ) (s s' : SourceState) (d d' : SiteState) → s'.faults ≡ s.faults
-    → s'.losses ≡ s.losses → Rises opens losses calls s' s' d d' → Rises opens losses calls s s' d d'
-input_after opens losses calls s s' d d' faults lost r = record {
-  faults = r.faults ∙ ap opens faults;
-  losses_ = r.losses_ ∙ ap losses lost;
-  site_faults = r.site_faults;
-}
-
-causes_input : (e : Ending) (s s' : SourceState) (d d' : SiteState) → s'.faults ≡ s.faults → s'.losses ≡ s.losses
-    → Causes e s' s' d d' → Causes e s s' d d'
-causes_input (MapRefused which error) s s' d d' faults lost c =
-    (c.0, c.1, input_after _ _ _ s s' d d' faults lost c.2)
-causes_input (SiteFault call (Some (Site before))) s s' d d' faults lost c = absurd c
-causes_input e s s' d d' faults lost c = input_after _ _ _ s s' d d' faults lost c
-
 pub cause_after : (e : Ending) (s s' : SourceState) (d d1 d' : SiteState) → s'.faults ≡ s.faults → s'.losses ≡ s.losses
     → d1.faults ≡ d.faults → SweepCause e d1 d' → Causes e s s' d d'
-cause_after e s s' d d1 d' faults lost same cause =
-    causes_input e s s' d d' faults lost (causes_after e s' s' d d1 d' same (cause s'))
+cause_after e s s' d d1 d' faults lost same cause = causes_after e s s' s' d d1 d' faults lost same (cause s')
 
 -- also where memory ran out before it began,
 pub none_cause : (site : SiteState) → SweepCause NoMemory site site
-none_cause site = λ source. record { faults = refl; losses_ = refl; site_faults = refl }
+none_cause site = λ source. record { opens = refl; reads = refl; calls = refl; also = tt }
 
 -- and leaves a draft begun where its answer says so.
 pub draft_as : (end : RunEnd) → drafting_after end ≡ drafting_left (answer_of end)

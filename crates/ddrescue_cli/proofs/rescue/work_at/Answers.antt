@@ -1,13 +1,13 @@
 use Rattle.ddrescue_words.specs.Asking.{told_by}
 use Rattle.ddrescue_cli.specs.declared.aim.Aim.TheVariants.{Rescue as ToRescue, Fill as ToFill, Generate as ToGenerate}
-use Rattle.ddrescue_cli.proofs.SampleLemmas.{sample_kept}
+use Rattle.ddrescue_cli.proofs.MadeLemmas.{sample_said}
 use Rattle.ddrescue_cli.proofs.TaskLemmas.{asked_task, never_sampled}
 use Rattle.ddrescue_cli.proofs.rescue.work_at.Goals as goal
 
-pub returns-in-Sample-clause-promise : goal.returns-in-Sample-clause-promise
-returns-in-Sample-clause-promise g c = λ now heard says.
-    sample_kept _ _ _ _ _ _ _ _ c.in-Sample.kib c.in-Sample.quiet _ heard
-    (asked_task _ _ _ c.in-Sample.is c.requires.asked) c.tell_sample.ensures c.requires.no_draft says
+pub returns-in-Sample-clause-said : goal.returns-in-Sample-clause-said
+returns-in-Sample-clause-said g c =
+    sample_said c.args.words.now c.in-Sample.kib c.in-Sample.quiet _ _ _ _
+    (asked_task _ _ _ c.in-Sample.is c.requires.asked) c.tell_sample.ensures c.requires.no_draft
 
 pub returns-in-Rescue-clause-apart : goal.returns-in-Rescue-clause-apart
 returns-in-Rescue-clause-apart g c = λ kib quiet asks.

@@ -3,7 +3,7 @@ use Rattle.std.proofs.Common.{refl, sym, ◌∙◌}
 use Rattle.std.proofs.lemmas.Result.{err_from_is_err_and}
 use Rattle.faulty_source.proofs.Keeping.{keeps_more}
 use Rattle.ddrescue_words.specs.Asking.{told_by}
-use Rattle.task_files.proofs.CauseLemmas.{load_leaves}
+use Rattle.task_files.proofs.CauseLemmas.{causes_after, load_causes, load_leaves, output_causes}
 use Rattle.task_files.proofs.OpenedLemmas.{not_opened, input_fails, output_fails, load_fails, place_fails, run_goes}
 use Rattle.task_rescue.proofs.rescue.open_and_run.Goals as goal
 
@@ -41,6 +41,22 @@ returns-in_err-start-clause-opened g c =
       keeps = c.open_output.ensures.keeps;
       loads = c.in_err-start.ensures.loaded;
     }))
+
+pub returns-in_err-open_output-clause-cause : goal.returns-in_err-open_output-clause-cause
+returns-in_err-open_output-clause-cause g c =
+    let p = err_from_is_err_and c.from_residual.result c.from_residual.ensures.1 in
+    rw (p.1, p.2) (causes_after _ (g.S.Source.state c.args.source.now) (g.S.Source.state c.open_input.new.self)
+    (g.S.Source.state c.open_input.new.self) (g.D.Site.state c.args.site.now) (g.D.Site.state c.args.site.now)
+    (g.D.Site.state c.open_output.new.site) c.in-Ok.ensures.call.kept c.open_input.ensures.call.losses refl
+    (output_causes _ _ _ _ c.in_err-open_output.ensures.cause))
+
+pub returns-in_err-start-clause-cause : goal.returns-in_err-start-clause-cause
+returns-in_err-start-clause-cause g c =
+    let p = err_from_is_err_and c.from_residual-in_err-start.result c.from_residual-in_err-start.ensures.1 in
+    rw (p.1, p.2) (causes_after _ (g.S.Source.state c.args.source.now) (g.S.Source.state c.open_input.new.self)
+    (g.S.Source.state c.open_input.new.self) (g.D.Site.state c.args.site.now) (g.D.Site.state c.open_output.new.site)
+    (g.D.Site.state c.load.new.site) c.in-Ok.ensures.call.kept c.open_input.ensures.call.losses
+    c.in_ok-open_output.ensures.kept (load_causes _ _ _ _ c.in_err-start.ensures.cause))
 
 pub returns-in_err-start-clause-draft : goal.returns-in_err-start-clause-draft
 returns-in_err-start-clause-draft g c =

@@ -1,4 +1,4 @@
-use Rattle.std.proofs.Common.{sym, ◌∙◌}
+use Rattle.std.proofs.Common.{refl, sym, ◌∙◌}
 use Rattle.std.proofs.lemmas.Result.{err_from_is_err_and}
 use Rattle.faulty_source.proofs.Keeping.{keeps_self}
 use Rattle.save_resume.proofs.FillLemmas.{keeps_more as site_keeps_more}
@@ -41,9 +41,9 @@ returns-in_err-test_map-clause-worked g c =
 pub returns-in_err-test_map-clause-cause : goal.returns-in_err-test_map-clause-cause
 returns-in_err-test_map-clause-cause g c =
     let p = err_from_is_err_and c.from_residual-in_err-test_map.result c.from_residual-in_err-test_map.ensures.1 in
-    rw (p.1, p.2) (causes_after _ (g.S.Source.state c.args.source.now) (g.S.Source.state c.args.source.now)
+    rw (p.1, p.2) (causes_after _ (g.S.Source.state c.args.source.now) (g.S.Source.state c.args.source.now) (g.S.Source.state c.args.source.now)
     (g.D.Site.state c.args.site.now) (g.D.Site.state c.read_named.new.site) (g.D.Site.state c.read_named-2.new.site)
-    c.in_ok-domain_map.ensures.kept
+    refl refl c.in_ok-domain_map.ensures.kept
     (map_causes TestMap _ (g.S.Source.state c.args.source.now) (g.D.Site.state c.read_named.new.site)
     (g.D.Site.state c.read_named-2.new.site) (λ is. cc) c.in_err-test_map.ensures.cause))
 
@@ -72,12 +72,14 @@ returns-clause-worked g c =
 
 pub returns-clause-cause : goal.returns-clause-cause
 returns-clause-cause g c =
-    causes_after _ (g.S.Source.state c.args.source.now) (g.S.Source.state c.open_and_run.new.source)
+    causes_after _ (g.S.Source.state c.args.source.now) (g.S.Source.state c.args.source.now)
+    (g.S.Source.state c.open_and_run.new.source)
     (g.D.Site.state c.args.site.now) (g.D.Site.state c.read_named.new.site) (g.D.Site.state c.open_and_run.new.site)
-    c.in_ok-domain_map.ensures.kept
-    (causes_after _ (g.S.Source.state c.args.source.now) (g.S.Source.state c.open_and_run.new.source)
+    refl refl c.in_ok-domain_map.ensures.kept
+    (causes_after _ (g.S.Source.state c.args.source.now) (g.S.Source.state c.args.source.now)
+    (g.S.Source.state c.open_and_run.new.source)
     (g.D.Site.state c.read_named.new.site) (g.D.Site.state c.read_named-2.new.site)
-    (g.D.Site.state c.open_and_run.new.site) c.in_ok-test_map.ensures.kept c.open_and_run.ensures.cause)
+    (g.D.Site.state c.open_and_run.new.site) refl refl c.in_ok-test_map.ensures.kept c.open_and_run.ensures.cause)
 
 pub returns-clause-site : goal.returns-clause-site
 returns-clause-site g c =

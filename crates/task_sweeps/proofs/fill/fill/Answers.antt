@@ -3,8 +3,9 @@ use Rattle.std.proofs.lemmas.Result.{err_from_is_err_and}
 use Rattle.faulty_source.proofs.Keeping.{keeps_self, keeps_more}
 use Rattle.ddrescue_words.specs.Asking.{told_by}
 use Rattle.task_files.specs.declared.ending.Which.TheVariants.{DomainMap}
-use Rattle.task_files.proofs.CauseLemmas.{map_causes, map_drafts, load_leaves}
+use Rattle.task_files.proofs.CauseLemmas.{causes_after, load_causes, load_leaves, map_causes, map_drafts, output_causes}
 use Rattle.task_files.proofs.OpenedLemmas.{not_opened}
+use Rattle.task_sweeps.proofs.PatternLemmas.{pattern_causes}
 use Rattle.task_sweeps.proofs.SweptEnds.{cause_after}
 use Rattle.task_sweeps.proofs.FilledLemmas.{takes_as, takes_into, fill_unread, fill_unopened, fill_unpatterned, fill_output, fill_load, fill_unplaced, fill_goes}
 use Rattle.task_sweeps.proofs.fill.fill.Goals as goal
@@ -102,6 +103,34 @@ returns-in_err-start-clause-worked g c =
       keeps = c.open_output.ensures.keeps;
       loads = c.in_err-start.ensures.loaded;
     }))
+
+pub returns-in_err-buffer-clause-cause : goal.returns-in_err-buffer-clause-cause
+returns-in_err-buffer-clause-cause g c =
+    let p = err_from_is_err_and c.from_residual-in_err-buffer.result c.from_residual-in_err-buffer.ensures.1 in
+    rw (p.1, p.2) (causes_after _ (g.S.Source.state c.args.source.now) (g.S.Source.state c.open_input.new.self)
+    (g.S.Source.state c.read_pattern.new.source) (g.D.Site.state c.args.site.now) (g.D.Site.state c.read_named.new.site)
+    (g.D.Site.state c.read_named.new.site) c.in-Ok.ensures.call.kept c.open_input.ensures.call.losses
+    c.in_ok-domain_map.ensures.kept
+    (pattern_causes _ _ _ _ _ _ _ _ c.in_err-buffer.ensures.takes.comes c.in_err-buffer.ensures.cause))
+
+pub returns-in_err-open_output-clause-cause : goal.returns-in_err-open_output-clause-cause
+returns-in_err-open_output-clause-cause g c =
+    let p = err_from_is_err_and c.from_residual-in_err-open_output.result c.from_residual-in_err-open_output.ensures.1 in
+    rw (p.1, p.2) (causes_after _ (g.S.Source.state c.args.source.now) (g.S.Source.state c.read_pattern.new.source)
+    (g.S.Source.state c.read_pattern.new.source) (g.D.Site.state c.args.site.now) (g.D.Site.state c.read_named.new.site)
+    (g.D.Site.state c.open_output.new.site) (c.read_pattern.ensures.source.faults ∙ c.in-Ok.ensures.call.kept)
+    (c.in_ok-buffer.ensures.cause.losses ∙ c.open_input.ensures.call.losses) c.in_ok-domain_map.ensures.kept
+    (output_causes _ _ _ _ c.in_err-open_output.ensures.cause))
+
+pub returns-in_err-start-clause-cause : goal.returns-in_err-start-clause-cause
+returns-in_err-start-clause-cause g c =
+    let p = err_from_is_err_and c.from_residual-in_err-start.result c.from_residual-in_err-start.ensures.1 in
+    rw (p.1, p.2) (causes_after _ (g.S.Source.state c.args.source.now) (g.S.Source.state c.read_pattern.new.source)
+    (g.S.Source.state c.read_pattern.new.source) (g.D.Site.state c.args.site.now) (g.D.Site.state c.open_output.new.site)
+    (g.D.Site.state c.load.new.site) (c.read_pattern.ensures.source.faults ∙ c.in-Ok.ensures.call.kept)
+    (c.in_ok-buffer.ensures.cause.losses ∙ c.open_input.ensures.call.losses)
+    (c.in_ok-open_output.ensures.kept ∙ c.in_ok-domain_map.ensures.kept)
+    (load_causes _ _ _ _ c.in_err-start.ensures.cause))
 
 pub returns-in_err-start-clause-draft : goal.returns-in_err-start-clause-draft
 returns-in_err-start-clause-draft g c =

@@ -1,14 +1,15 @@
 //! The message on an answer, on the console.
 ghost use Rattle.std.specs.Prelude.{◌≡◌, ◌+◌, ◌≤◌, ◌++◌};
 ghost use Rattle.arrayvec.specs.ArrayVec.{array_vec_len};
-ghost use Rattle.ddrescue_cli.specs.Messages.{which_text, map_error_text, after_text, limit_text, text_of_ending, message};
+ghost use Rattle.task_files.specs.Answers.{which_text, map_error_text, after_text, limit_text, is_silent, text_of_ending, message};
 
+use crate::checked::PROGRAM;
+use crate::ending::{Ending, Which};
 use fault_texts::faults::{add_map_error, add_site_fault, add_usage};
 use fault_texts::message::{Message, add, add_number, begin, end};
 use mapfile_text::read::MapError;
+use program_promise::answer::Answer;
 use rescue_rules::stop::{Limit, Stop};
-use task_files::checked::PROGRAM;
-use task_files::ending::{Ending, Which};
 
 /// Adds which map it is.
 fn add_which(message: &mut Message, which: Which)
@@ -93,12 +94,19 @@ fn add_ending(message: &mut Message, ending: Ending)
     }
 }
 
-/// The message of an answer, with the program's name and a newline.
-pub(crate) fn message_of(ending: Ending) -> Message
-    ensures { result.items ≡ message ending }
-{
-    let mut message = begin(PROGRAM);
-    add_ending(&mut message, ending);
-    end(&mut message);
-    message
+impl Answer for Ending {
+    ghost silent = { is_silent };
+
+    ghost said = { message };
+
+    fn is_silent(self) -> bool {
+        matches!(self, Ending::Done)
+    }
+
+    fn message(self) -> Message {
+        let mut message = begin(PROGRAM);
+        add_ending(&mut message, self);
+        end(&mut message);
+        message
+    }
 }

@@ -1,0 +1,36 @@
+-- Which faults the words of `ddrescue` may have, and which answers a task may have by its words.
+use Rattle.std.specs.Prelude.{◌≡◌, ◌≢◌, ◌⊎◌, ⊤, Option, Some, None}
+use Rattle.option_words.specs.declared.fault.WordFault.TheVariants.{NoMemory as WordNoMemory}
+use Rattle.option_words.specs.declared.fault.UsageFault.{UsageFault}
+use Rattle.option_words.specs.declared.fault.UsageFault.TheVariants.{Word, BadValue, Conflict, Modes, Operands, PlaceTooLarge}
+use Rattle.ddrescue_words.specs.Command.{Command, Task, Rescue, Fill, Generate, Sample}
+use Rattle.task_files.specs.declared.ending.Operand.{Operand}
+use Rattle.task_files.specs.declared.ending.Ending.{Ending}
+use Rattle.task_files.specs.declared.ending.Ending.TheVariants.{Done, SameName, NoMemory}
+use Rattle.task_files.specs.Names.{first_same}
+use Rattle.task_files.specs.Asked.{names_by}
+
+-- Two modes are a conflict. Want of memory is no fault of words, and a place is looked at later.
+abbrev pub IsTaskFault : UsageFault → Type 0
+IsTaskFault (Word fault) = fault ≢ WordNoMemory
+IsTaskFault (BadValue n) = ⊤
+IsTaskFault (Conflict n) = ⊤
+IsTaskFault (Modes given) = ⊥
+IsTaskFault (Operands given) = ⊤
+IsTaskFault PlaceTooLarge = ⊥
+
+-- the first two files of a command that have one name, in the order infile, outfile, mapfile, draft
+abbrev pub same_of : Command → Option (Operand × Operand)
+same_of c = first_same c.infile c.outfile (names_by c)
+
+-- Two files that have one name are answered, the first such pair, unless memory runs out before; and no others are.
+abbrev pub FitsNames : Option (Operand × Operand) → Ending → Type 0
+FitsNames None e = (first second : Operand) → e ≢ SameName first second
+FitsNames (Some pair) e = (e ≡ SameName pair.0 pair.1) ⊎ (e ≡ NoMemory)
+
+-- A sample is done, or there is no memory.
+abbrev pub FitsTask : Task → Ending → Type 0
+FitsTask (Rescue c) e = FitsNames (same_of c) e
+FitsTask (Fill types c) e = FitsNames (same_of c) e
+FitsTask (Generate c) e = FitsNames (same_of c) e
+FitsTask (Sample kib quiet) e = (e ≡ Done) ⊎ (e ≡ NoMemory)
