@@ -51,10 +51,10 @@ TaskDone task t =
     DoneFor rescue_program task (line_by rescue_program t.words) t.answer t.before
     (with_console t.after t.before.console)
 
--- what is said before the message, of a call that is heard then or not
+-- what a call says before its message, whether it is heard then or not
 abbrev pub TaskSaid : (words : List (List ℕ)) → Ending → (heard : Bool) → (old new : WorldState) → Type 0
 TaskSaid words e heard old new = IsSaid rescue_program (λ o. o.lines) words e heard old new
 
--- What is promised of a call: the words ask for a task, and what is said besides of its answer is its lines.
+-- What is promised of a call: the words ask for a task, and besides the message of its answer only its lines are put.
 abbrev pub Ddrescue : Told → Type 0
 Ddrescue t = SpokenPromise rescue_program (λ o. o.lines) t

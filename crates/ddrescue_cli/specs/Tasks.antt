@@ -25,7 +25,7 @@ use Rattle.ddrescue_cli.specs.Told.{calls_of}
 use Rattle.ddrescue_cli.specs.ToldParts.{across}
 
 -- What was outside of a task: the files that its steps found, the input's length, what the maps say, how far the map
--- reaches that the mapfile stands for, and the lines that it says; of a filling also the buffer that its pattern fills,
+-- reaches that the mapfile stands for, and the lines that it says. Of a filling also the buffer that its pattern fills,
 -- and of both sweeps their pieces and how they ended.
 pub record TaskOutside : Type 0 where
   pub found : Found
@@ -90,8 +90,8 @@ TaskIsSilent (Fill types c) o e did = did.gain.times ≡ [] → (o.lines ≡ [])
 TaskIsSilent (Generate c) o e did = did.gain.times ≡ [] → (o.lines ≡ []) × (o.pieces ≡ [])
 TaskIsSilent (Sample kib quiet) o e did = e ≡ NoMemory → o.lines ≡ []
 
--- At whatever moment it is stopped: what is found of a rescue with a mapfile could be found before, until the barrier
--- has returned; from then on the mapfile found is the one it began with or one that it saved, no older than the last
+-- At whatever moment it is stopped: until the barrier has returned, what is found of a rescue with a mapfile could be
+-- found before. From then on the mapfile found is the one it began with or one that it saved, no older than the last
 -- save that had returned, and the output holds what that mapfile promises. Of a filling the mapfile found is, from the
 -- barrier on, the one it began with or one that it saved, its map stands, and what came before that save is filled. Each
 -- piece of a generating gave what the output held when the call began; and from the barrier on, what the mapfile found

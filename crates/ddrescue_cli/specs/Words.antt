@@ -10,7 +10,7 @@ use Rattle.task_files.specs.declared.ending.Ending.TheVariants.{Done, SameName, 
 use Rattle.task_files.specs.Names.{first_same}
 use Rattle.task_files.specs.Asked.{names_by}
 
--- Two modes are a conflict. Want of memory is no fault of words, and a place is looked at later.
+-- Two modes are a conflict. Want of memory is no fault of words, and a place is checked later.
 abbrev pub IsTaskFault : UsageFault → Type 0
 IsTaskFault (Word fault) = fault ≢ WordNoMemory
 IsTaskFault (BadValue n) = ⊤

@@ -76,7 +76,7 @@ HoldsAtEnd =
 abbrev pub machine_reached : Setting → Gain → List Status → Option MapState → Machine
 machine_reached s g statuses state = state_after s (begins s statuses state g) (events_in g)
 
--- What a rescue leaves that went on to its end, over the map that its mapfile stood for, or no mapfile:
+-- What a rescue leaves that went on to its end, over the map of its mapfile, or without one:
 pub record LeavesRescued (t : Told) (s : Setting) (g : Gain) : Type 0 where
   pub statuses : List Status
   pub state : Option MapState
@@ -100,7 +100,7 @@ DoneIsSaved = (t : Told) (c : Command) (d : Ddrescue t) (asks : Asks t.words c) 
     → t.answer ≡ Done → LeavesRescued t (setting_promised d asks) (done_by d asks)
 
 -- What the reads gave is the input's own, where the input tells. So what a saved map calls finished, and the reads
--- gave, stands in the output as it stands in the input.
+-- gave, is in the output as it is in the input.
 abbrev pub GivenIsInput : Type 0
 GivenIsInput = (t : Told) (c : Command) (x b : ℕ) (d : Ddrescue t) (asks : Asks t.words c) → IsTrue t.before.source.tells
     → given c.options.sector (done_by d asks).reads x ≡ Some b → slice_get t.before.source.bytes x ≡ Some b
@@ -146,7 +146,7 @@ SampleIsOneLine = (t t' : Told) (kib : ℕ) (quiet quiet' : Bool) (d : Ddrescue 
     → (d.does.asked_for (Sample kib quiet) asks).outside.lines
     ≡ (d'.does.asked_for (Sample kib quiet') asks').outside.lines
 
--- an answer that a command, an input's length and the files that were found bring, whatever the calls and memory do
+-- an answer that follows from a command, an input's length and the files found, whatever the calls and memory do
 pub record IsVerdict (e : Ending) : Type 0 where
   pub opened : e ≢ SourceFault
   pub kept : e ≢ SourceLost
@@ -154,7 +154,7 @@ pub record IsVerdict (e : Ending) : Type 0 where
   pub room : e ≢ NoMemory
   pub call : (call : SiteCall) (earlier : Option Stop) → e ≢ SiteFault call earlier
 
--- They bring one such answer at most.
+-- At most one such answer follows from a command, an input's length and the files found.
 abbrev pub HasOneVerdict : Type 0
 HasOneVerdict = (c : Command) (s : Setting) (found : Found) (lines lines' : List (List ℕ)) (e e' : Ending)
     (d d' : Deeds) → Works rescue_faults (rescue_rows c found s.end) (Rescues s found.mapfile lines) e d

@@ -119,8 +119,8 @@ GenerateHasOneVerdict = (c : Command) (found : Found) (input_end : ℕ) (s s' : 
     → Generates c found input_end s pieces end lines e d → Generates c found input_end s' pieces' end' lines' e' d'
     → IsVerdict e → IsVerdict e' → e ≡ e'
 
--- What a sweep leaves that went on to its end, over the map that its mapfile stood for: all its pieces in order, and a
--- mapfile that says that it is finished.
+-- What a sweep leaves that went on to its end, over the map of its mapfile: all its pieces in order, and a mapfile that
+-- says that it is finished.
 pub record IsSweptThrough (t : Told) (s : Setting) (w : Sweeper) (pieces : List Swept) (statuses : List Status)
     (state : Option MapState) (time : ℕ) : Type 0 where
   pub stands : Stands (files_of t s.names.map) s.end statuses state

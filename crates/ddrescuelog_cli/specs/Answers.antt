@@ -55,11 +55,11 @@ row_of NoMemory = starved_row
 abbrev pub status_of_ending : LogEnding → ℕ
 status_of_ending e = (row_of e).status
 
--- nothing is said of an answer, since it is what was asked for
+-- no message is put for this answer, since it is what was asked for
 abbrev pub is_silent : LogEnding → Bool
 is_silent e = is_silent_kind (row_of e).kind
 
--- what is said of an answer, and the message on standard error
+-- the text of an answer, and its message on standard error
 abbrev pub text_of_ending : LogEnding → List ℕ
 text_of_ending e = (row_of e).text
 
@@ -97,7 +97,7 @@ MayCall DraftPublish c = creates c.mode ≡ true
 MayCall MapSettle c = (creates c.mode ≡ true) ⊎ (removes_map c.mode ≡ true)
 MayCall MapRemove c = removes_map c.mode ≡ true
 
--- words that ask for something are refused for nothing but a place
+-- words that ask for something are refused only for a place
 abbrev pub FitsUsage : UsageFault → Command → Type 0
 FitsUsage (Word fault) c = ⊥
 FitsUsage (BadValue n) c = ⊥

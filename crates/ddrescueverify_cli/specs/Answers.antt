@@ -58,11 +58,11 @@ drafting_left NoMemory = false
 abbrev pub status_of_ending : VerifyEnding → ℕ
 status_of_ending e = (row_of e).status
 
--- nothing is said of an answer on standard error: it is what was asked for, and standard output says it
+-- no message is put on standard error for this answer: it is what was asked for, and standard output says it
 abbrev pub is_silent : VerifyEnding → Bool
 is_silent e = is_silent_kind (row_of e).kind
 
--- what is said of an answer, and the message on standard error
+-- the text of an answer, and its message on standard error
 abbrev pub text_of_ending : VerifyEnding → List ℕ
 text_of_ending e = (row_of e).text
 

@@ -18,8 +18,8 @@ module _ {C E O : Type 0} (p : Program C E O) where
     pub asks : AskFor p.grammar words command
     pub fits : p.Fits command e
 
-  -- What an answer says of the words, by its kind: they are refused exactly if they bring a refusal, except that memory
-  -- may run out first.
+  -- What an answer says of the words, by its kind: they are refused exactly if the grammar refuses them, except that
+  -- memory may run out first.
   abbrev pub SaysOfWords : Kind → E → (words : List (List ℕ)) → Type 0
   SaysOfWords Asked e words = AreAccepted words e
   SaysOfWords Brought e words = AreAccepted words e
@@ -28,7 +28,7 @@ module _ {C E O : Type 0} (p : Program C E O) where
   SaysOfWords Starved e words = ⊤
 
   -- What was done for a command: there is an outside, and deeds there, which agree with what the objects tell; the
-  -- answer is what the work brings, and so is what it left.
+  -- answer and what is left are those of the work.
   pub record DoneFor (c : C) (line : List ℕ) (e : E) (old new : WorldState) : Type 0 where
     pub outside : O
     pub did : Deeds
@@ -54,7 +54,7 @@ module _ {C E O : Type 0} (p : Program C E O) where
     pub nothing : ((c : C) → AskFor p.grammar words c → ⊥) → new ≡ old
     pub keeps : p.Keeps e old new
 
-  -- The same before anything is said of the answer; `quiet` says whether nothing is to be said.
+  -- The same before any message of the answer; `quiet` says whether nothing is to be said.
   pub record IsDone (words : List (List ℕ)) (e : E) (quiet : Bool) (old new : WorldState) : Type 0 where
     pub does : Does words e old new
     -- Nothing is to be said only if the words ask for that. Something is to be said though they ask for that only if
@@ -62,9 +62,9 @@ module _ {C E O : Type 0} (p : Program C E O) where
     pub silent : quiet ≡ true → AskSilence p.grammar words
     pub loud : quiet ≡ false → AskSilence p.grammar words → (e ≡ p.faults.memory) × (new ≡ old)
 
-  -- What is said on standard error when the work is done, and the world is `between`: nothing of an answer that was
-  -- asked for, and nothing if the words ask for that. Else the message of the answer, as one put; or a beginning of it,
-  -- if the console failed.
+  -- What a program says on standard error when the work is done, and the world is `between`: nothing of an answer that
+  -- was asked for, and nothing if the words ask for that. Else the message of the answer, as one put; or a beginning of
+  -- it, if the console failed.
   pub data Says (t : Told E) (between : WorldState) : Type 0 where
     Nothing : (is_silent_of p t.answer ≡ true) ⊎ AskSilence p.grammar t.words → t.after ≡ between → Says t between
     Message : is_silent_of p t.answer ≡ false
@@ -86,5 +86,5 @@ module _ {C E O : Type 0} (p : Program C E O) where
     pub asked_for : (c : C) → AskFor p.grammar t.words c → DoneFor c (line_by p t.words) t.answer t.before between
     pub nothing : ((c : C) → AskFor p.grammar t.words c → ⊥) → between ≡ t.before
     pub keeps : p.Keeps t.answer t.before between
-    -- Then comes what is said.
+    -- Then comes the message, if there is one.
     pub says : Says t between

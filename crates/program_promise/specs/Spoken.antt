@@ -9,7 +9,7 @@ use Rattle.program_promise.specs.World.{WorldState, Told, with_console}
 use Rattle.program_promise.specs.Program.{Program, is_silent_of, message_by}
 use Rattle.program_promise.specs.Promise.{Does, IsDone}
 
--- a message as a piece for standard error, unless nothing is said
+-- a message as a piece for standard error; none if the answer is silent
 abbrev pub unless_silent : (silent : Bool) → (message : List ℕ) → List SpokenPiece
 unless_silent silent message = if silent then [] else record { channel = Err; text = message } ∷ []
 
@@ -18,7 +18,7 @@ module _ {C E O : Type 0} (p : Program C E O) where
   abbrev pub pieces_by : E → List SpokenPiece
   pieces_by e = unless_silent (is_silent_of p e) (message_by p e)
 
-  -- What is said in a call whose work says these lines: nothing if the words ask for that; else the lines, each by one put,
+  -- What a call says whose work says these lines: nothing if the words ask for that; else the lines, each by one put,
   -- and then the message of the answer, up to the first put that fails. If the words ask that nothing be said, a message
   -- comes only if memory ran out before they were read, and then nothing was touched.
   pub data Utters (lines : List (List ℕ)) (words : List (List ℕ)) (e : E) (old new : WorldState) : Type 0 where
@@ -27,16 +27,15 @@ module _ {C E O : Type 0} (p : Program C E O) where
         → (e ≡ p.faults.memory) × (lines ≡ []) × (with_console new old.console ≡ old))
         → Speaks (out_pieces lines ++ pieces_by e) old.console new.console → Utters lines words e old new
 
-  -- These lines were said before the message, of a call of which nothing is to be said or not, and which is heard then or
-  -- not.
+  -- A call says these lines before its message, or none if `quiet` is set; `heard` says whether it is heard after them.
   pub record SaysFirst (lines : List (List ℕ)) (words : List (List ℕ)) (quiet heard : Bool) (old new : ConsoleState)
       : Type 0 where
     pub speaks : SpeaksOn (out_pieces lines) (not quiet) heard old new
     pub loud : quiet ≡ false → AskSilence p.grammar words → lines ≡ []
 
 module _ {C E O : Type 0} (p : Program C E O) (lines : O → List (List ℕ)) where
-  -- What a program promises of a call, by all that is told of it: what is done to all objects but the console, and what
-  -- is said there.
+  -- What a program promises of a call, by all that is told of it: what it does to all objects except the console, and
+  -- what it says there.
   pub record SpokenPromise (t : Told E) : Type 0 where
     pub does : Does p t.words t.answer t.before (with_console t.after t.before.console)
     pub says : (c : C) (asks : AskFor p.grammar t.words c)

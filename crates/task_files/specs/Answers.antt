@@ -1,4 +1,4 @@
--- The row of each answer, from which follow its exit status, what is said of it and of the words, and which count rose.
+-- The row of each answer: from it follow its exit status, its message, what it says of the words, and which count rose.
 -- No row stands for several answers.
 use Rattle.std.specs.Prelude.{◌≡◌, ◌≢◌, ⊤, ℕ, Bool, false, List, [], ◌++◌, Option, Some, None, IfSome, codes}
 use Rattle.mapfile_text.specs.declared.read.MapError.{MapError}
@@ -109,11 +109,11 @@ row_of NoMemory = starved_row
 abbrev pub status_of_ending : Ending → ℕ
 status_of_ending e = (row_of e).status
 
--- nothing is said of an answer: it is what was asked for
+-- no message is put for this answer: it is what was asked for
 abbrev pub is_silent : Ending → Bool
 is_silent e = is_silent_kind (row_of e).kind
 
--- what is said of an answer, and the message on standard error
+-- the text of an answer, and its message on standard error
 abbrev pub text_of_ending : Ending → List ℕ
 text_of_ending e = (row_of e).text
 
