@@ -12,7 +12,6 @@ abbrev pub handed : SourceState → SiteState → ClockState → ConsoleState �
 handed source site clock console =
     record { source = source; site = site; clock = clock; feed_ = no_feed; console = console }
 
--- the words, the answer, and what all objects tell before the call and after it
 abbrev pub Told : Type 0
 Told = ToldOf Ending
 

@@ -1,8 +1,7 @@
 -- The reads of an input, and how much of each is kept.
 use Rattle.std.specs.Prelude.{◌≡◌, ℕ, ◌+◌, ◌-◌, ◌*◌, ◌/◌, Bool, List, length, slice_range, nat_eq, nat_le, nat_lt, ◌&&◌, ◌||◌, not, if◌then◌else◌}
 
--- one read that was answered: where it began, how many bytes were asked for, the bytes that were given, and whether the
--- input ended after them
+-- one read that was answered: its place, how many bytes it asked for, the bytes given, and whether the input then ended
 pub record Reading : Type 0 where
   pub pos : ℕ
   pub asked : ℕ
@@ -25,8 +24,7 @@ floor b x = x / b * b
 abbrev pub is_failed : Reading → Bool
 is_failed r = not (is_whole r || r.ended)
 
--- How many bytes of a read are kept: all of a whole one and of one that met the end, else those up to the last boundary
--- of a sector that it reached.
+-- how many bytes of a read are kept: all if it is whole or met the end, else those up to the last sector boundary in it
 abbrev pub kept : ℕ → Reading → ℕ
 kept sector r =
     if is_whole r then r.asked else if r.ended then length r.given else floor sector (r.pos + length r.given) - r.pos

@@ -19,8 +19,7 @@ pub record Target : Type 0 where
 abbrev pub HasPlace : Target → (x y : ℕ) → Type 0
 HasPlace t x y = y + t.from ≡ x + t.to
 
--- What a rescue did on its target: what came before it, and its calls; the bytes of its input; the size of a sector;
--- and its reads.
+-- what a rescue did on its target: what came before, its calls, the bytes of its input, the size of a sector, its reads
 pub record Run : Type 0 where
   pub target : Target
   pub past : Before
@@ -36,8 +35,7 @@ reads_until sector writes [] = []
 reads_until sector zero (r ∷ rs) = []
 reads_until sector (suc n) (r ∷ rs) = r ∷ reads_until sector (if nat_eq (kept sector r) 0 then suc n else n) rs
 
--- this run with only the reads that had begun to be written by then: the first k calls have returned, the next is in
--- progress
+-- this run with only the reads begun to be written by then: the first k calls have returned, the next is in progress
 abbrev pub by_then : Run → (k : ℕ) → Run
 by_then r k = record r { reads = reads_until r.sector (count_by is_write (take (k + 1) r.calls)) r.reads }
 
@@ -67,8 +65,7 @@ pub record IsHeld (r : Run) (k : ℕ) (files : List ℕ → Option File) : Type 
 
 -- What a stop leaves is safe, when the first k calls have returned and the next is in progress:
 pub record IsSafe (r : Run) (k : ℕ) (files : List ℕ → Option File) : Type 0 where
-  -- Until the barrier has returned, all files are as they could be found before, except that an absent output may be
-  -- there, empty.
+  -- Until the barrier has returned, all files are as they could be found before, or an absent output is there, empty.
   pub until_barrier : has_barrier (take k r.calls) ≡ false → CouldBefore r.past r.target.outfile files
   -- From then on the mapfile claims only what the output holds.
   pub past_barrier : has_barrier (take k r.calls) ≡ true → IsHeld r k files
