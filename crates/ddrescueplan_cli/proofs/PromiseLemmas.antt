@@ -139,4 +139,4 @@ one_end file e e' d d' r r' v v' = done_is e r.end r.answer v ∙ sym (done_is e
 
 pub has_one_verdict : HasOneVerdict
 has_one_verdict c file e e' d d' w w' v v' =
-    plan_keeps_promises.verdict c file e e' d d' (refused_once file, tt) (one_end file) w w' v v'
+    plan_keeps_promises.verdict c [] file e e' d d' (refused_once file, tt) (one_end file) w w' v v'

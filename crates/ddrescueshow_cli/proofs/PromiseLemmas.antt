@@ -141,7 +141,7 @@ done_is e d (inr broke, idle) v = absurd (subst IsVerdict broke v)
 
 pub has_one_verdict : HasOneVerdict
 has_one_verdict c found e e' d d' w w' v v' =
-    show_keeps_promises.verdict c found e e' d d' (
+    show_keeps_promises.verdict c [] found e e' d d' (
       refused_once RunMap Tight (Some c.mapfile) found.mapfile,
       (refused_once DomainMap (map_mode c.options.loose) c.domain_map found.domain, tt),
     )

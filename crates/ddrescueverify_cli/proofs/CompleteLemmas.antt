@@ -94,7 +94,7 @@ refused_once c found end =
 
 pub has_one_verdict : HasOneVerdict
 has_one_verdict c o e e' d d' w w' v v' =
-    verify_keeps_promises.verdict c o e e' d d' (refused_once c o.found o.end)
+    verify_keeps_promises.verdict c o.line o e e' d d' (refused_once c o.found o.end)
     (λ x x' did did' r r' u u'.
     verdict_is c o.line o.found o.end o.looks x did r u ∙ sym (verdict_is c o.line o.found o.end o.looks x' did' r' u'))
     w w' v v'
