@@ -183,11 +183,12 @@ module _ (c : Command) (line : List ℕ) (e : Ending) (old new : WorldState) (di
         leaves = record {
           silent = w.silent;
           stops = λ tells.
-              let is : o.found ≡ found_in c (files_in old.site) = w.is_outside.agrees.found tells in
-              (w.given tells,
-              generates_safely o w.pieces w.end has w.is_outside.fit
-              (subst (λ (found : Found). AreGiven (setting_of c line o.end o.maps) (bytes_of found.output) w.pieces) is
-              (w.given tells))
-              (subst (GeneratesIn o w.pieces w.end) is w.works) w.short);
+              let is : o.found ≡ found_in c (files_in old.site) = w.is_outside.agrees.found tells in (
+                w.given tells,
+                generates_safely o w.pieces w.end has w.is_outside.fit
+                    (subst (λ (found : Found). AreGiven (setting_of c line o.end o.maps) (bytes_of found.output) w.pieces) is
+                    (w.given tells))
+                    (subst (GeneratesIn o w.pieces w.end) is w.works) w.short,
+              );
         };
       }
