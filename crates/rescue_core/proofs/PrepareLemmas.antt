@@ -80,6 +80,11 @@ pub prepared_parted : (again retrim : Bool) (s : Status)
     → replaced BadSector (prepared_status again retrim BadSector)
     (replaced NonScraped (prepared_status again retrim NonScraped)
     (replaced NonTrimmed (prepared_status again retrim NonTrimmed) s)) ≡ prepared_status again retrim s
+prepared_parted false false NonTried = refl
+prepared_parted false false NonTrimmed = refl
+prepared_parted false false NonScraped = refl
+prepared_parted false false BadSector = refl
+prepared_parted false false Finished = refl
 prepared_parted false true NonTried = refl
 prepared_parted false true NonTrimmed = refl
 prepared_parted false true NonScraped = refl
@@ -95,7 +100,6 @@ prepared_parted true true NonTrimmed = refl
 prepared_parted true true NonScraped = refl
 prepared_parted true true BadSector = refl
 prepared_parted true true Finished = refl
-prepared_parted false false _ = refl
 
 module _ (domain : ℕ → Bool) (again retrim : Bool) (trimmed scraped bad : Status)
     (a : trimmed ≡ prepared_status again retrim NonTrimmed) (b : scraped ≡ prepared_status again retrim NonScraped)
