@@ -103,7 +103,7 @@ module _ (c : Command) (domain : Option Tiled) (s0 s1 : SourceState) (old mid la
         fit = b.gains.fit;
       }
 
-  -- the steps in front of what was done after it
+  -- the steps before what was done after it
   pub named_then : first_same c.infile c.outfile (names_by c) ≡ None → (more : List (WorkStep Ending))
       (run : Ending → Deeds → Type 0) (e : Ending) → Works rescue_faults more run e b.did
       → Works rescue_faults (named_rows c outside_after.found ++ more) run e outside_after.did

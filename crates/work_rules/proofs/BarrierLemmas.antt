@@ -1,4 +1,4 @@
--- The barrier in front of a load, and the reads after it.
+-- The barrier before a load, and the reads after it.
 use Rattle.std.proofs.Common.{◌≡◌, List, Option, inl, inr, subst}
 use Rattle.crash_site.specs.declared.site.SiteCall.{SiteCall}
 use Rattle.crash_site.specs.declared.site.SiteCall.TheVariants.{ImageSync, MapSettle, MapRead}
