@@ -69,8 +69,8 @@ impl Entries {
         }
     }
 
-    /// The index of the last that begins before a position, where the first one does. It looks at one, and then among
-    /// half as many, till one is left.
+    /// The index of the last entry that begins before a position, as the first one must. A search by halves, which
+    /// looks at one entry in each.
     pub fn last_before<L: Ledger>(&self, at: u64, steps: &mut Steps<L>) -> usize
         requires sorted { IsNonDecreasingBy (λ (e : PageEntry). e.pos) self.now.items }
         requires some { 0 < length self.now.items }

@@ -104,8 +104,8 @@ fn first_from<L: Ledger>(
     tiles.blocks()
 }
 
-/// The first position at or after `from` that has a status, and the end of its block. It looks at the last block first,
-/// where a run that goes up the first time stands.
+/// The first position at or after `from` that has a status, and the end of its block. It looks at the last block first:
+/// a run that goes up the first time finds it there.
 #[inline(always)]
 pub fn first_with<L: Ledger>(
     tiles: &PlainTiles,

@@ -61,7 +61,7 @@ fn release(entries: &mut Entries, free: &mut Vec<usize>, first: usize, past: usi
 }
 
 /// Files blocks in as few pages as hold them, before the entry with an index. Each of the pages has at least 32 blocks,
-/// if there are that many.
+/// if there are that many. So a page that would have too many blocks is split.
 fn deal(
     pages: &mut Vec<Page>,
     entries: &mut Entries,

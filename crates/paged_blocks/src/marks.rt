@@ -15,8 +15,9 @@ use crate::piece::MarkedBlocks;
 use block_list::block::Block;
 use block_list::near::Near;
 
-/// A block that was joined with a neighbor of its status, and what is left of a neighbor of another where it isn't left
-/// whole. The blocks that stay end or begin at an index in the page of an entry.
+/// One end of a mark: the marked block, joined with its neighbor there if that has the same status. Of a neighbor of
+/// another status that the mark cuts, `rest` is what is left. The blocks that stay end or begin at an index in the page
+/// of an entry.
 #[derive(Clone, Copy, Debug)]
 pub struct Joined {
     pub entry: usize,

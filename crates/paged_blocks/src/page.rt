@@ -103,7 +103,7 @@ impl Page {
         }
     }
 
-    /// How many blocks begin before a position, where the first one does.
+    /// How many blocks begin before a position, as the first one must.
     pub fn before<L: Ledger>(&self, at: u64, steps: &mut Steps<L>) -> usize
         requires sorted { IsNonDecreasingBy (λ (b : Block). b.pos) self.now }
         requires some { 0 < length self.now }

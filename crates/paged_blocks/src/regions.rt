@@ -101,7 +101,7 @@ fn with_former(pages: &[Page], entries: &Entries, region: Region) -> Region
     }
 }
 
-/// The pages that an edit fills anew: those that it touches, and a neighbor where they would have too few blocks.
+/// The pages that an edit fills anew: those that it touches, and a neighbor if they would have too few blocks.
 pub fn region_of(pages: &[Page], entries: &Entries, edit: &Edit) -> Region
     requires paging { IsPaging pages.now entries.now.items }
     requires half { AreHalfFull entries.now.items }

@@ -19,8 +19,8 @@ pub fn blocks(pages: &[Page], entries: &Entries) -> usize
     blocks
 }
 
-/// Makes pages, and room for their entries, for n more blocks: a page for each, or where that is less, as many as hold
-/// all where each is only half full. Where enough are free it looks at no page.
+/// Makes pages, and room for their entries, for n more blocks: a page for each, or if that is less, as many as hold all
+/// blocks if each is only half full. If enough pages are free it looks at none.
 pub fn reserve(
     pages: &mut Vec<Page>,
     entries: &mut Entries,

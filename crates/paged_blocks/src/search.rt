@@ -16,8 +16,8 @@ pub trait Positioned {
         ensures { result ≡ begin self.now };
 }
 
-/// The index of the last that begins before a position, where the first one does. It looks at one, and
-/// then among half as many, till one is left.
+/// The index of the last item that begins before a position, as the first one must. A search by halves, which looks at
+/// one item in each.
 pub fn last_before<X: Positioned, L: Ledger>(xs: &[X], at: u64, steps: &mut Steps<L>) -> usize
     requires sorted { IsNonDecreasingBy X.begin xs.now }
     requires some { 0 < length xs.now }

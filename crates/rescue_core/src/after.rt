@@ -22,7 +22,7 @@ use rescue_rules::phase::Phase;
 use rescue_rules::report::Counts;
 use transfer_token::token::Request;
 
-/// Marks what was kept, goes on to where the run stands then and to what it has come to, and tells what is due.
+/// Marks what was kept and missed, moves cursor and skip on, and counts the read; tells what is due then.
 // A plain read of copying has its own copy of `go_on`, in which most of what it asks is known (bench/turns).
 #[inline(always)]
 pub(crate) fn go_on_by_kind<T: Tiles>(

@@ -214,7 +214,7 @@ pub(crate) fn leads_up(settings: &Settings, phase: Phase, progress: &Progress) -
     }
 }
 
-/// The next request of trimming upwards, before a range, where nothing is left to trim before the cursor.
+/// The next request of trimming upwards at the front of an area. Nothing is left to trim before the cursor.
 pub(crate) fn next_lead<T: Tiles>(
     settings: &Settings,
     live: Live<'_>,

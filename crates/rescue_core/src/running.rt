@@ -260,7 +260,7 @@ impl<T: Tiles> Running<T> {
         Ok(turn)
     }
 
-    /// A turn up to its marks, and what it has come to after them.
+    /// The part of a turn up to its marks, and what is due after them.
     #[inline(always)]
     fn advance<S: Source, D: Site, K: Clock>(
         &mut self,
@@ -362,8 +362,8 @@ impl<T: Tiles> Running<T> {
         }
     }
 
-    /// Saves the map at the run's end, which is finished where it has no stop; without a mapfile it syncs the output.
-    /// Then it says the last line.
+    /// Saves the map at the run's end, or syncs the output if there is no mapfile. Then it says the last line. A run
+    /// without a stop is finished.
     pub fn close<D: Site, C: Console>(
         self,
         stop: Option<Stop>,

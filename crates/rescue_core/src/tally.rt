@@ -57,7 +57,7 @@ pub(crate) struct Due {
     pub saves: bool,
 }
 
-/// Counts what a run has come to after a read at this time, which met the input's end there if it did.
+/// Counts a read that ended at this time, and keeps the input's end, if the read met it; tells what is due.
 #[inline(always)]
 pub(crate) fn tally_after(
     tally: &mut Tally,

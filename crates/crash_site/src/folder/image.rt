@@ -14,7 +14,7 @@ use real_files::read_ahead::ReadAhead;
 use std::fs::{self, File, OpenOptions};
 use std::io::{self, Write};
 
-/// An open image, and the folder in which it lies, where that could be opened.
+/// An open image, and the folder in which it lies, if that could be opened.
 #[derive(Drop)]
 pub(super) struct OpenImage {
     pub file: File,
@@ -40,7 +40,7 @@ impl OpenImage {
     }
 }
 
-/// Opens a file as the image, and its folder. None where the file is absent and isn't to be made. A missing folder is
+/// Opens a file as the image, and its folder. None if the file is absent and isn't to be made. A missing folder is
 /// an error.
 pub(super) fn open_image(
     rt: &HostRuntime,

@@ -24,13 +24,13 @@ fn open_folder(rt: &HostRuntime, name: &str) -> io::Result<File> {
     File::open(rt, folder_of(real.as_str()))
 }
 
-/// The folder of a file. One that can't be read can't be synced: that is an error where the file was made here, since
-/// its entry would not be durable.
+/// The folder of a file. One that can't be read can't be synced: that is an error if the file was made here, since its
+/// entry would not be durable.
 pub(super) fn folder_for(rt: &HostRuntime, name: &str, made: bool) -> io::Result<Option<File>> {
     if_allowed(open_folder(rt, name), made)
 }
 
-/// Makes a folder's entries durable, where its file system has that.
+/// Syncs a folder, which makes its entries durable, if its file system can.
 pub(super) fn sync_entries<F: OpenFile>(folder: &F) -> io::Result<()> {
     folder_synced(folder.sync_all())
 }
@@ -44,7 +44,7 @@ pub(super) fn sync_both<F: OpenFile, G: OpenFile>(file: &F, folder: Option<&G>) 
     }
 }
 
-/// Opens a file with these rights, or where they aren't there to write it alone.
+/// Opens a file with these rights, or, if they aren't granted, only to write it.
 pub(super) fn open_with(rt: &HostRuntime, rights: &OpenOptions, name: &str) -> io::Result<File> {
     match rights.open(rt, name) {
         Err(error) if error.kind() == ErrorKind::PermissionDenied => {
@@ -54,7 +54,7 @@ pub(super) fn open_with(rt: &HostRuntime, rights: &OpenOptions, name: &str) -> i
     }
 }
 
-/// Makes a file where nothing stands.
+/// Makes a new file. If the name has one already, it fails.
 pub(super) fn make_new(rt: &HostRuntime, name: &str) -> io::Result<File> {
     OpenOptions::new()
         .write(true)

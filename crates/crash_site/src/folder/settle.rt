@@ -1,4 +1,4 @@
-//! The sync of a folder that makes a rename or a removal durable.
+//! The settle: the sync of a mapfile's folder, which makes a rename or a removal durable.
 use crate::folder::apart::Apart;
 use crate::folder::held::{HeldMap, check_free, hold_map};
 use crate::folder::mapfile::find_map;
