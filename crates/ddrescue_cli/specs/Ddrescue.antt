@@ -1,5 +1,5 @@
--- `ddrescue` as a program, and its promise. What an object tells is its own: the forms in memory tell all, those for real
--- files their counts and what is open.
+-- `ddrescue` as a program, and its promise. What an object tells is its own: the forms in memory tell all, those for
+-- real files their counts and what is open.
 use Rattle.std.specs.Prelude.{◌≡◌, ℕ, Bool, false, List}
 use Rattle.faulty_source.specs.SourceChanges.{Keeps as SourceKeeps}
 use Rattle.crash_site.specs.SiteChanges.{Keeps as SiteKeeps}

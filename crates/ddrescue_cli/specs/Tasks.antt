@@ -82,8 +82,8 @@ TaskAgrees (Fill types c) o did old new = AgreesOver c (AreMapsOfSweep c) o did 
 TaskAgrees (Generate c) o did old new = AgreesOver c (AreMapsOfSweep c) o did old new
 TaskAgrees (Sample kib quiet) o did old new = (did ≡ only_calls []) × (new ≡ old)
 
--- Before its first reading of the clock a task over files says no line and does no piece; and a sample for which there is
--- no memory says none.
+-- Before its first reading of the clock a task over files says no line and does no piece; and a sample for which there
+-- is no memory says none.
 abbrev pub TaskIsSilent : Task → TaskOutside → Ending → Deeds → Type 0
 TaskIsSilent (Rescue c) o e did = did.gain.times ≡ [] → (o.lines ≡ []) × (o.pieces ≡ [])
 TaskIsSilent (Fill types c) o e did = did.gain.times ≡ [] → (o.lines ≡ []) × (o.pieces ≡ [])
@@ -93,9 +93,9 @@ TaskIsSilent (Sample kib quiet) o e did = e ≡ NoMemory → o.lines ≡ []
 -- At whatever moment it is stopped: until the barrier has returned, what is found of a rescue with a mapfile could be
 -- found before. From then on the mapfile found is the one it began with or one that it saved, no older than the last
 -- save that had returned, and the output holds what that mapfile promises. Of a filling the mapfile found is, from the
--- barrier on, the one it began with or one that it saved, its map stands, and what came before that save is filled. Each
--- piece of a generating gave what the output held when the call began; and from the barrier on, what the mapfile found
--- calls finished was so when it began or has a byte in the output, whose bytes stand.
+-- barrier on, the one it began with or one that it saved, its map stands, and what came before that save is filled.
+-- Each piece of a generating gave what the output held when the call began; and from the barrier on, what the mapfile
+-- found calls finished was so when it began or has a byte in the output, whose bytes stand.
 abbrev pub TaskStops : Task → (line : List ℕ) → TaskOutside → Deeds → SiteState → Type 0
 TaskStops (Rescue c) line o did site =
     (asked_by c line o).has_mapfile ≡ true → RescueStopsBy (calls_of site) (asked_by c line o) did.gain

@@ -67,7 +67,8 @@ FaultsAreOfSteps = (t : Told) (c : Command) (d : Ddrescue t) (call : SiteCall) (
 abbrev pub HoldsAtEnd : Type 0
 HoldsAtEnd =
     (t : Told) (c : Command) (began : List Status) (state : Option MapState) (d : Ddrescue t) (asks : Asks t.words c)
-    → IsTrue t.before.site.tells → (setting_promised d asks).has_mapfile ≡ true → has_barrier (done_by d asks).calls ≡ true
+    → IsTrue t.before.site.tells → (setting_promised d asks).has_mapfile ≡ true
+    → has_barrier (done_by d asks).calls ≡ true
     → Stands (files_of t (setting_promised d asks).names.map) (setting_promised d asks).end began state
     → IsKept (calls_before t) (setting_promised d asks) (done_by d asks) began state (length (done_by d asks).calls)
     (files_in t.after.site)
@@ -89,7 +90,10 @@ pub record LeavesRescued (t : Told) (s : Setting) (g : Gain) : Type 0 where
   pub well : EndsWell s (begins s statuses state g) (events_in g)
   -- the mapfile, if there is one, is the map of all reads, and says that it is finished
   pub mapfile : s.has_mapfile ≡ true → files_in t.after.site s.names.map
-      ≡ Some (record { bytes = text_of s.line (finished_snapshot (machine_reached s g statuses state)); regular = true })
+      ≡ Some (record {
+        bytes = text_of s.line (finished_snapshot (machine_reached s g statuses state));
+        regular = true;
+      })
   -- and the output holds what that map promises
   pub held : Held s g.reads (bytes_of (files_of t s.outfile)) (machine_reached s g statuses state).map
       (bytes_of (files_in t.after.site s.outfile))
@@ -102,7 +106,8 @@ DoneIsSaved = (t : Told) (c : Command) (d : Ddrescue t) (asks : Asks t.words c) 
 -- What the reads gave is the input's own, where the input tells. So what a saved map calls finished, and the reads
 -- gave, is in the output as it is in the input.
 abbrev pub GivenIsInput : Type 0
-GivenIsInput = (t : Told) (c : Command) (x b : ℕ) (d : Ddrescue t) (asks : Asks t.words c) → IsTrue t.before.source.tells
+GivenIsInput = (t : Told) (c : Command) (x b : ℕ) (d : Ddrescue t) (asks : Asks t.words c)
+    → IsTrue t.before.source.tells
     → given c.options.sector (done_by d asks).reads x ≡ Some b → slice_get t.before.source.bytes x ≡ Some b
 
 -- no open of the input failed, no read was lost, and no call on the files failed; and the counts say so

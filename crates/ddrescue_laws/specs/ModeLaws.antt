@@ -46,7 +46,8 @@ abbrev pub filling_setting : (t : Told) {types : TypeSet} {c : Command} → Task
 filling_setting t {types} {c} p = fill_setting c (command_line program_name t.words) p.outside.top p.outside.maps
 
 -- the promise of a generating
-abbrev pub promised_generate : {t : Told} {c : Command} → Ddrescue t → AskTask t.words (Generate c) → TaskDone (Generate c) t
+abbrev pub promised_generate : {t : Told} {c : Command} → Ddrescue t → AskTask t.words (Generate c)
+    → TaskDone (Generate c) t
 promised_generate {t} {c} d asks = d.does.asked_for (Generate c) asks
 
 -- nothing of a filling is refused
@@ -54,8 +55,8 @@ pub record FillsUnrefused (c : Command) (o : TaskOutside) : Type 0 where
   pub pattern : RefuseNothing (fill_rows c o.found o.end)
   pub files : RefuseNothing (files_rows true c o.found o.top)
 
--- Where nothing failed, nothing is refused, the pattern came whole and memory doesn't run out, a filling is done, whoever
--- tells.
+-- Where nothing failed, nothing is refused, the pattern came whole and memory doesn't run out, a filling is done,
+-- whoever tells.
 abbrev pub FillIsDoneUnless : Type 0
 FillIsDoneUnless = (t : Told) (types : TypeSet) (c : Command) (d : Ddrescue t) (asks : AskTask t.words (Fill types c))
     → NothingFailed t → FillsUnrefused c (promised_fill d asks).outside → t.answer ≢ PatternUnread
@@ -85,7 +86,8 @@ UnbegunFillLeaves = (t : Told) (types : TypeSet) (c : Command) (d : Ddrescue t) 
 
 abbrev pub UnbegunGenerateLeaves : Type 0
 UnbegunGenerateLeaves = (t : Told) (c : Command) (d : Ddrescue t) (asks : AskTask t.words (Generate c))
-    → IsTrue t.before.site.tells → (promised_generate d asks).did.gain.times ≡ [] → AllStand (files_of t) (files_in t.after.site)
+    → IsTrue t.before.site.tells → (promised_generate d asks).did.gain.times ≡ []
+    → AllStand (files_of t) (files_in t.after.site)
 
 -- an answer that comes before a sweep: a refusal, a pattern that was lost, or a call of the opening that failed
 pub record IsBeforeSweep (e : Ending) : Type 0 where
@@ -104,8 +106,8 @@ abbrev pub RefusedGenerateLeaves : Type 0
 RefusedGenerateLeaves = (t : Told) (c : Command) (d : Ddrescue t) → AskTask t.words (Generate c)
     → IsTrue t.before.site.tells → IsBeforeSweep t.answer → AllStand (files_of t) (files_in t.after.site)
 
--- A filling whose pattern comes whole has one verdict at most, by its command, its pattern's length and the files that it
--- finds, and so has a generating.
+-- A filling whose pattern comes whole has one verdict at most, by its command, its pattern's length and the files that
+-- it finds, and so has a generating.
 abbrev pub FillHasOneVerdict : Type 0
 FillHasOneVerdict = (types : TypeSet) (c : Command) (found : Found) (input_end top : ℕ) (s s' : Setting)
     (buffer buffer' : List ℕ) (pieces pieces' : List Swept) (end end' : RunEnd) (lines lines' : List (List ℕ))
@@ -137,7 +139,8 @@ HasNoPiece s pieces y = All (λ e. (y < place s e.pos) ⊎ (place s e.pos + e.le
 
 -- What a filling leaves that is done: its map as it was, the pattern in each piece, and the old bytes elsewhere. If the
 -- source tells, the pattern is the infile's front.
-pub record LeavesFilled (t : Told) (s : Setting) (types : TypeSet) (buffer : List ℕ) (pieces : List Swept) : Type 0 where
+pub record LeavesFilled (t : Told) (s : Setting) (types : TypeSet) (buffer : List ℕ) (pieces : List Swept)
+    : Type 0 where
   pub statuses : List Status
   pub state : Option MapState
   pub time : ℕ
@@ -152,7 +155,8 @@ pub record LeavesFilled (t : Told) (s : Setting) (types : TypeSet) (buffer : Lis
 abbrev pub DoneIsFilled : Type 0
 DoneIsFilled = (t : Told) (types : TypeSet) (c : Command) (d : Ddrescue t) (asks : AskTask t.words (Fill types c))
     → IsTrue t.before.site.tells → t.answer ≡ Done
-    → LeavesFilled t (filling_setting t (promised_fill d asks)) types (promised_fill d asks).outside.buffer (promised_fill d asks).outside.pieces
+    → LeavesFilled t (filling_setting t (promised_fill d asks)) types (promised_fill d asks).outside.buffer
+    (promised_fill d asks).outside.pieces
 
 -- What a generating leaves that is done: a map of what the output held, and the output as it was.
 pub record LeavesGenerated (t : Told) (s : Setting) (pieces : List Swept) : Type 0 where
@@ -162,11 +166,13 @@ pub record LeavesGenerated (t : Told) (s : Setting) (pieces : List Swept) : Type
   pub through : IsSweptThrough t s (generator s) pieces statuses state time
   pub given : AreGiven s (bytes_of (files_of t s.outfile)) pieces
   -- what its map calls finished was so before, or has a byte in the output
-  pub held : (x : ℕ) → Has (after_pieces (generator s) (sweep_over (generator s) statuses state time) pieces).map Finished x
+  pub held : (x : ℕ)
+      → Has (after_pieces (generator s) (sweep_over (generator s) statuses state time) pieces).map Finished x
       → Has statuses Finished x ⊎ ((b : ℕ) × (slice_get (bytes_of (files_of t s.outfile)) (place s x) ≡ Some b))
   pub output : bytes_of (files_in t.after.site s.outfile) ≡ bytes_of (files_of t s.outfile)
 
 abbrev pub DoneIsGenerated : Type 0
 DoneIsGenerated = (t : Told) (c : Command) (d : Ddrescue t) (asks : AskTask t.words (Generate c))
     → IsTrue t.before.site.tells → t.answer ≡ Done
-    → LeavesGenerated t (asked_of c t (with_did (promised_generate d asks).outside (promised_generate d asks).did)) (promised_generate d asks).outside.pieces
+    → LeavesGenerated t (asked_of c t (with_did (promised_generate d asks).outside (promised_generate d asks).did))
+    (promised_generate d asks).outside.pieces

@@ -48,7 +48,8 @@ module _ {C E O : Type 0} (p : Program C E O) where
   -- On one outside there is one verdict at most, if each refusal has one answer and so has what is run.
   abbrev pub HasOneVerdict : Type 0
   HasOneVerdict = (c : C) (line : List ℕ) (o : O) (e e' : E) (d d' : Deeds) → RefuseOnce (p.rows c o)
-      → ((v v' : E) (x x' : Deeds) → p.Run c line o v x → p.Run c line o v' x' → IsVerdict p v → IsVerdict p v' → v ≡ v')
+      → ((v v' : E) (x x' : Deeds) → p.Run c line o v x → p.Run c line o v' x'
+      → IsVerdict p v → IsVerdict p v' → v ≡ v')
       → Works p.faults (p.rows c o) (p.Run c line o) e d
       → Works p.faults (p.rows c o) (p.Run c line o) e' d'
       → IsVerdict p e → IsVerdict p e' → e ≡ e'

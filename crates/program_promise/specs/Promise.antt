@@ -43,9 +43,9 @@ module _ {C E O : Type 0} (p : Program C E O) where
     pub also : (p.row e).also
     pub keeps : p.Keeps e old new
 
-  -- What was done for the words of a call. Words that ask for nothing are refused, whatever the objects tell; only memory
-  -- may run out before. Each answer has its cause, and whatever more its row says. If the words ask for something that is
-  -- done, and else nothing.
+  -- What was done for the words of a call. Words that ask for nothing are refused, whatever the objects tell; only
+  -- memory may run out before. Each answer has its cause, and whatever more its row says. If the words ask for
+  -- something that is done, and else nothing.
   pub record Does (words : List (List ℕ)) (e : E) (old new : WorldState) : Type 0 where
     pub words_are : SaysOfWords (kind_of p e) e words
     pub cause : Changed (changes_of (kind_of p e)) old new

@@ -1,5 +1,5 @@
--- What a program promises whose work says lines. These and the message of the answer are one chain of puts, which the first
--- one that fails ends. So no answer speaks of a put.
+-- What a program promises whose work says lines. These and the message of the answer are one chain of puts, which the
+-- first one that fails ends. So no answer speaks of a put.
 use Rattle.std.specs.Prelude.{◌≡◌, ℕ, Bool, false, not, List, [], ◌∷◌, ◌++◌, if◌then◌else◌}
 use Rattle.option_values.specs.Grammar.{AskFor, AskSilence}
 use Rattle.rescue_console.specs.declared.console.Channel.TheVariants.{Err}
@@ -19,8 +19,8 @@ module _ {C E O : Type 0} (p : Program C E O) where
   pieces_by e = unless_silent (is_silent_of p e) (message_by p e)
 
   -- What a call says whose work says these lines: nothing if the words ask for that; else the lines, each by one put,
-  -- and then the message of the answer, up to the first put that fails. If the words ask that nothing be said, a message
-  -- comes only if memory ran out before they were read, and then nothing was touched.
+  -- and then the message of the answer, up to the first put that fails. If the words ask that nothing be said, a
+  -- message comes only if memory ran out before they were read, and then nothing was touched.
   pub data Utters (lines : List (List ℕ)) (words : List (List ℕ)) (e : E) (old new : WorldState) : Type 0 where
     Nothing : AskSilence p.grammar words → new.console ≡ old.console → Utters lines words e old new
     Spoken : (AskSilence p.grammar words

@@ -83,8 +83,8 @@ failure_after (Some (Site call)) = AtCall
 failure_after (Some (Limited limit)) = AtCall
 failure_after (Some NoRoom) = AtCall
 
--- Want of memory isn't told as an error of a map, nor is a mapfile refused that says nothing. After a failed call on the
--- files there is no save whose call could fail.
+-- Want of memory isn't told as an error of a map, nor is a mapfile refused that says nothing. After a failed call on
+-- the files there is no save whose call could fail.
 abbrev pub row_of : Ending → AnswerRow
 row_of Done = asked_row 0
 row_of (Usage fault) = usage_row fault
@@ -98,7 +98,8 @@ row_of SourceLost = failed_row AtRead (codes "input lost")
 row_of EmptyPattern = brought_row 1 (codes "input is empty")
 row_of PatternUnread = brought_row 1 (codes "input cannot be read")
 row_of NoOutput = brought_row 1 (codes "output does not exist")
-row_of (SiteFault call earlier) = only_where (failed_row (failure_after earlier) (fault_text call ++ after_text earlier))
+row_of (SiteFault call earlier) = only_where
+    (failed_row (failure_after earlier) (fault_text call ++ after_text earlier))
     (IfSome earlier (λ stop. (before : SiteCall) → stop ≢ Site before))
 row_of (LimitMet limit) = brought_row 1 (limit_text limit)
 row_of NoMemory = starved_row
@@ -121,9 +122,9 @@ abbrev pub message : Ending → List ℕ
 message e = message_of program_name (text_of_ending e)
 
 -- A fault is answered exactly if its count rose, by one: of opens of the input that failed, of losses, or of calls on
--- the files that failed. No other count rose; so after an answer that is no fault all are as before. If a run had stopped
--- and a call of the save after the stop failed, the answer is that call's; after a loss the count of the losses rose,
--- too. A count at the end of its type stands.
+-- the files that failed. No other count rose; so after an answer that is no fault all are as before. If a run had
+-- stopped and a call of the save after the stop failed, the answer is that call's; after a loss the count of the losses
+-- rose, too. A count at the end of its type stands.
 pub record Causes (e : Ending) (source source' : SourceState) (site site' : SiteState) : Type 0 where
   pub opens : source'.faults ≡ (changes_of (row_of e).kind).opens source.faults
   pub reads : source'.losses ≡ (changes_of (row_of e).kind).reads source.losses

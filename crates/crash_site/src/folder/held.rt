@@ -60,8 +60,8 @@ pub(super) fn check_map_free(
     check_free(rt, name, found)
 }
 
-/// Locks the mapfile that is there, and keeps it so. What is no regular file, or can't be found or opened, isn't locked:
-/// the calls that follow refuse it.
+/// Locks the mapfile that is there, and keeps it so. What is no regular file, or can't be found or opened, isn't
+/// locked: the calls that follow refuse it.
 pub(super) fn hold_map(
     rt: &HostRuntime,
     apart: &Apart<'_>,

@@ -8,8 +8,8 @@ use std::fs::{self, File, OpenOptions};
 use std::io::{self, ErrorKind};
 
 /// Makes the entries of a mapfile's folder durable, and then the mapfile itself if it is there. A saved draft was
-/// synced before its rename, so that its name alone can still be lost. Locks the mapfile first; and if more saves are to
-/// come, asks whether it can be saved.
+/// synced before its rename, so that its name alone can still be lost. Locks the mapfile first; and if more saves are
+/// to come, asks whether it can be saved.
 pub(super) fn settle(
     rt: &HostRuntime,
     apart: &Apart<'_>,
