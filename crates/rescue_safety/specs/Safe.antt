@@ -28,7 +28,7 @@ pub record Run : Type 0 where
   pub sector : ℕ
   pub reads : List Reading
 
--- The reads up to the one whose bytes the last of that many writes has. A read of which something is kept takes one
+-- The reads up to the one that was written by the last of `writes` writes. A read of which something is kept takes one
 -- write, before the next read, and any other read takes none.
 abbrev pub reads_until : (sector writes : ℕ) → List Reading → List Reading
 reads_until sector writes [] = []
