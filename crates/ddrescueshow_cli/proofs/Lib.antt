@@ -1,5 +1,6 @@
 mod WalkLemmas
 mod DrawLemmas
+mod RunLemmas
 mod SizeLemmas
 mod LoadLemmas
 mod WorkedLemmas
@@ -9,3 +10,4 @@ mod CellLemmas
 mod MarkLemmas
 mod FigureLemmas
 mod StandLemmas
+mod SvgLemmas
