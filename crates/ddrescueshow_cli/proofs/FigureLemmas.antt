@@ -11,9 +11,9 @@ use Rattle.block_list.specs.Status.{same}
 use Rattle.rescue_domain.specs.Finished.{is_finished_at}
 use Rattle.map_algebra.specs.At.{status_at}
 use Rattle.map_algebra.specs.Compare.{IsDoneIn}
-use Rattle.map_algebra.specs.Summary.{has_status}
+use Rattle.map_algebra.specs.Summary.{has_status, summary_of}
 use Rattle.map_algebra.proofs.MapLemmas.{finished_at}
-use Rattle.ddrescueshow_cli.specs.Picture.{figures_of, share}
+use Rattle.ddrescueshow_cli.specs.Picture.{line_of, share}
 use Rattle.ddrescueshow_cli.specs.Laws.{AllIsFinishedAt100}
 
 abbrev one_if : Bool → ℕ
@@ -39,7 +39,7 @@ count_part d q (x ∷ xs) = omega (
 )
 
 pub rescued_part : (domain : ℕ → Bool) (statuses : List Status)
-    → (figures_of domain statuses).rescued ≤ (figures_of domain statuses).domain
+    → (line_of (summary_of domain statuses) 4).bytes ≤ (summary_of domain statuses).domain
 rescued_part domain statuses =
     count_part domain (λ x. same (status_at statuses x) Finished) (range_with_len 0 (length statuses))
 
@@ -109,8 +109,8 @@ counted_all d q (x ∷ xs) all = omega (
 
 pub all_finished_at_100 : AllIsFinishedAt100
 all_finished_at_100 domain statuses within =
-    let rescued : ℕ = (figures_of domain statuses).rescued in
-    let size : ℕ = (figures_of domain statuses).domain in
+    let rescued : ℕ = (line_of (summary_of domain statuses) 4).bytes in
+    let size : ℕ = (summary_of domain statuses).domain in
     let q : ℕ → Bool = λ x. same (status_at statuses x) Finished in (
       (λ e.
           let same_size : rescued ≡ size = whole_share rescued size (nat_eq size 0) refl (rescued_part domain statuses) e in

@@ -1,5 +1,5 @@
 -- A picture in SVG is short.
-use Rattle.std.proofs.Common.{◌≡◌, ◌⊎◌, ℕ, zero, suc, ◌+◌, ◌-◌, ◌*◌, ◌/◌, ◌%◌, ◌^◌, ◌<◌, ◌≤◌, min, max, nat_eq, nat_lt, Bool, true, false, cond, ◌&&◌, List, [], ◌∷◌, ◌++◌, length, map, replicate, Option, Some, None, refl, sym, ap, ◌∙◌, inl, inr, arith}
+use Rattle.std.proofs.Common.{◌≡◌, ◌⊎◌, ℕ, zero, suc, ◌+◌, ◌-◌, ◌*◌, ◌/◌, ◌%◌, ◌^◌, ◌<◌, ◌≤◌, min, max, nat_eq, nat_lt, Bool, true, false, cond, ◌&&◌, List, [], ◌∷◌, ◌++◌, length, map, replicate, codes, Option, Some, None, refl, sym, ap, ◌∙◌, inl, inr, arith}
 use Rattle.std.specs.Fmt.{decimal}
 use Rattle.std.specs.List.{count_by, flat_map, range_with_len}
 use Rattle.std.proofs.lemmas.Bool.Decides.{nat_tests}
@@ -8,20 +8,21 @@ use Rattle.std.proofs.lemmas.List.{length-append, length-replicate}
 use Rattle.std.proofs.lemmas.List.FromFn.{length-range_with_len, length-map-range_with_len}
 use Rattle.std.proofs.lemmas.List.Sums.{count_by-le-length}
 use Rattle.std.proofs.Math.Nat.{mul-le-mul_right, one-le-mul}
+use Rattle.block_list.specs.declared.areas.Count.{Count}
 use Rattle.block_list.specs.declared.status.Status.{Status}
 use Rattle.block_list.specs.declared.status.Status.TheVariants.{NonTried, NonTrimmed, NonScraped, BadSector, Finished}
 use Rattle.block_list.specs.Areas.{begins_area}
-use Rattle.map_algebra.specs.Summary.{has_status}
+use Rattle.map_algebra.specs.declared.summary.Summary.{Summary}
+use Rattle.map_algebra.specs.Summary.{has_status, summary_of}
 use Rattle.ddrescueshow_words.specs.Command.{AreInLimits}
 use Rattle.ddrescueshow_words.specs.declared.options.ShowOptions.{ShowOptions}
-use Rattle.ddrescueshow_cli.specs.declared.figures.Figures.{Figures}
 use Rattle.ddrescueshow_cli.specs.declared.form.Form.TheVariants.{Svg}
 use Rattle.ddrescueshow_cli.specs.declared.frame.Frame.{Frame}
 use Rattle.ddrescueshow_cli.specs.declared.runs.Run.{Run}
 use Rattle.ddrescueshow_cli.specs.Cells.{IsFrame, begin_of, cells_in, cells_of_row, end_shown, frame_of, rows_in, sectors_of}
 use Rattle.ddrescueshow_cli.specs.Runs.{marks_of, run_at, runs_of}
-use Rattle.ddrescueshow_cli.specs.Svg.{class_of, group_text, meaning_text, rect_text, svg_foot, svg_head, svg_height, svg_width}
-use Rattle.ddrescueshow_cli.specs.Picture.{cell_text, end_text, figures_of, figures_text, picture_text, row_text, share, share_text}
+use Rattle.ddrescueshow_cli.specs.Svg.{class_of, first_meanings, group_text, meaning_text, name_text, other_meanings, rect_text, svg_foot, svg_front, svg_head, svg_height, svg_width}
+use Rattle.ddrescueshow_cli.specs.Picture.{bad_text, cell_text, figures_text, line_of, picture_text, rescued_text, row_text, share, share_text}
 use Rattle.ddrescueshow_cli.specs.Work.{is_too_large}
 use Rattle.ddrescueshow_cli.specs.Laws.{AreCells, SvgIsShort}
 use Rattle.ddrescueshow_cli.proofs.CellLemmas.{is_frame, rows_fit}
@@ -29,10 +30,6 @@ use Rattle.ddrescueshow_cli.proofs.DrawLemmas.{rows_are}
 use Rattle.ddrescueshow_cli.proofs.FigureLemmas.{rescued_part, share_most}
 use Rattle.ddrescueshow_cli.proofs.RunLemmas.{runs_are_cells}
 use Rattle.ddrescueshow_cli.proofs.SizeLemmas.{begins_before, cell_short}
-
--- two texts are at most as long as both bounds
-both : {xs ys : List ℕ} (a b : ℕ) → length xs ≤ a → length ys ≤ b → length (xs ++ ys) ≤ a + b
-both {xs} {ys} a b p q = omega (arith, length-append xs ys, p, q)
 
 -- a number below 2^63 has at most 19 digits
 long : (n : ℕ) → n < 10 ^ 19 → length (decimal n) ≤ 19
@@ -53,12 +50,23 @@ five n few = length-decimal-le 5 n (omega arith) few (omega (arith, few))
 
 rect_short : (r : Run) → r.from ≤ 1000 → r.count ≤ 1000 → length (rect_text r) ≤ 54
 rect_short r from count =
-    both 19 35 (both 13 6 (omega arith) (both 1 5 (class_short r.shown) (omega arith)))
-    (both 5 30 (five (10 * r.from) (omega (arith, from)))
-    (both 9 21 (omega arith) (both 5 16 (five (10 * r.count) (omega (arith, count))) (omega arith))))
+    let x = five (10 * r.from) (omega (arith, from)) in
+    let width = five (10 * r.count) (omega (arith, count)) in
+    simp length-append (omega (arith, class_short r.shown, x, width))
 
 group_short : (y : ℕ) → y < 10 ^ 5 → length (group_text y) ≤ 34
-group_short y low = both 26 8 (omega arith) (both 5 3 (five y low) (omega arith))
+group_short y low = simp length-append (omega (arith, five y low))
+
+front_short : (row position : ℕ) → row ≤ 1000 → position < 10 ^ 19 → length (svg_front row position) ≤ 99
+front_short row position low few =
+    omega (
+      arith,
+      length-append (group_text (16 * row)) (codes "<text x='-8' y='12' text-anchor='end'>" ++ decimal position ++ codes "</text>\n"),
+      rest_short,
+      group_short (16 * row) (omega (arith, low)),
+    ) where
+      rest_short : length (codes "<text x='-8' y='12' text-anchor='end'>" ++ decimal position ++ codes "</text>\n") ≤ 65
+      rest_short = simp length-append (omega (arith, long position few))
 
 rects_short : (from : ℕ) (rs : List Run) (marks : List (Option Status)) → AreCells from rs marks
     → from + length marks ≤ 1000 → length (flat_map rect_text rs) ≤ 54 * length marks
@@ -81,13 +89,18 @@ module _ (f : Frame) (is : IsFrame f) (domain : ℕ → Bool) (statuses : List S
       let count : length marks ≡ cells_of_row f row
       = length-map-range_with_len _ (row * f.width) (cells_of_row f row) in
       let rects = rects_short 0 (runs_of marks) marks (runs_are_cells marks) (omega (arith, count, is.wide)) in
-      let front = both 34 65 (group_short (16 * row) (omega (arith, within, is.high)))
-      (both 38 27 (omega arith)
-      (both 19 8 (long (begin_of f (row * f.width)) (omega (arith, before, is.short))) (omega arith))) in
+      let front = front_short row (begin_of f (row * f.width)) (omega (arith, within, is.high))
+      (omega (arith, before, is.short)) in
+      let runs : List ℕ = flat_map rect_text (runs_of marks) in
       let most : 54 * length marks ≤ 54 * f.width = omega (arith, count) in
-      let rest = both (54 * length marks) 5 rects (omega arith) in
-      let all = both 99 (54 * length marks + 5) front rest in
-      omega (arith, all, most)
+      omega (
+        arith,
+        length-append (svg_front row (begin_of f (row * f.width))) (runs ++ codes "</g>\n"),
+        length-append runs (codes "</g>\n"),
+        front,
+        rects,
+        most,
+      )
 
   rows_short : (n : ℕ) → n ≤ rows_in f
       → length (flat_map (row_text Svg f domain statuses) (range_with_len 0 n)) ≤ n * (104 + 54 * f.width)
@@ -109,57 +122,90 @@ share_bound rescued size false is part = share_most rescued size part (grind (ar
 
 share_short : (n : ℕ) → n ≤ 10000 → length (share_text n) ≤ 6
 share_short n few =
-    both 3 3 (length-decimal-le 3 (n / 100) (omega arith) (omega (arith, few)) (omega (arith, few)))
-    (both 1 2 (omega arith)
-    (both 1 1 (length-decimal-le 1 (n / 10 % 10) (omega arith) (omega arith) (omega arith))
-    (length-decimal-le 1 (n % 10) (omega arith) (omega arith) (omega arith))))
+    let whole = length-decimal-le 3 (n / 100) (omega arith) (omega (arith, few)) (omega (arith, few)) in
+    let tenth = length-decimal-le 1 (n / 10 % 10) (omega arith) (omega arith) (omega arith) in
+    let last = length-decimal-le 1 (n % 10) (omega arith) (omega arith) (omega arith) in
+    simp length-append (omega (arith, whole, tenth, last))
 
 counted_few : (set : ℕ → Bool) (n : ℕ) → count_by set (range_with_len 0 n) ≤ n
 counted_few set n = omega (arith, count_by-le-length set (range_with_len 0 n), length-range_with_len 0 n)
 
-figures_short : (domain : ℕ → Bool) (statuses : List Status) → length statuses < 2 ^ 63
-    → length (figures_text (figures_of domain statuses)) ≤ 97
-figures_short domain statuses short =
-    let s : Figures = figures_of domain statuses in
-    let n : ℕ = length statuses in
-    both 43 54
-    (both 6 37 (share_short (share s.rescued s.domain)
-    (share_bound s.rescued s.domain (nat_eq s.domain 0) refl (rescued_part domain statuses)))
-    (both 6 31 (omega arith) (both 19 12 (long s.domain (omega (arith, counted_few domain n, short))) (omega arith))))
-    (both 19 35 (long s.bad.bytes (omega (arith, counted_few (has_status domain statuses BadSector) n, short)))
-    (both 10 25 (omega arith)
-    (both 19 6
-    (long s.bad.areas (omega (arith, counted_few (begins_area (has_status domain statuses BadSector)) n, short)))
-    (omega arith))))
+-- figures of at most 19 digits
+few_figures : (rescued size : ℕ) (bad : Count) → share rescued size ≤ 10000 → size < 10 ^ 19 → bad.bytes < 10 ^ 19
+    → bad.areas < 10 ^ 19 → length (rescued_text rescued size ++ bad_text bad) ≤ 97
+few_figures rescued size bad part few bytes areas =
+    omega (
+      arith,
+      length-append (rescued_text rescued size) (bad_text bad),
+      length-append (share_text (share rescued size)) (codes " % of " ++ decimal size ++ codes " B rescued, "),
+      last,
+      counts,
+      share_short (share rescued size) part,
+    ) where
+      last : length (codes " % of " ++ decimal size ++ codes " B rescued, ") ≤ 37
+      last = simp length-append (omega (arith, long size few))
+      counts : length (bad_text bad) ≤ 54
+      counts = simp length-append (omega (arith, long bad.bytes bytes, long bad.areas areas))
 
-head_short : (f : Frame) → IsFrame f → f.cell < 10 ^ 19 → (figures : List ℕ) → length figures ≤ 97
-    → length (svg_head f figures (cell_text f)) ≤ 1200
-head_short f is cell figures short =
-    let open_ = both 58 84 (omega arith) (both 5 79 (five (svg_width f) (omega (arith, is.wide)))
-    (both 1 78 (omega arith) (both 5 73 (five (svg_height f) (omega (arith, is.high))) (omega arith)))) in
-    let size = both 10 21 (omega arith) (both 19 2 (long f.cell cell) (omega arith)) in
-    both 248 952 (both 142 106 open_ (both 97 9 short (omega arith)))
-    (both 780 172 (omega arith)
-    (both 119 53 (both 14 105 (omega arith) (both 97 8 short (omega arith)))
-    (both 14 39 (omega arith) (both 31 8 size (omega arith)))))
+figures_short : (domain : ℕ → Bool) (statuses : List Status) → length statuses < 2 ^ 63
+    → length (figures_text (summary_of domain statuses)) ≤ 97
+figures_short domain statuses short =
+    let s : Summary = summary_of domain statuses in
+    let n : ℕ = length statuses in
+    let bad : ℕ → Bool = has_status domain statuses BadSector in
+    few_figures (line_of s 4).bytes s.domain (line_of s 3)
+    (share_bound (line_of s 4).bytes s.domain (nat_eq s.domain 0) refl (rescued_part domain statuses))
+    (omega (arith, counted_few domain n, short)) (omega (arith, counted_few bad n, short))
+    (omega (arith, counted_few (begins_area bad) n, short))
+
+head_short : (f : Frame) → IsFrame f → (figures cell : List ℕ) → length figures ≤ 97 → length cell ≤ 31
+    → length (svg_head f figures cell) ≤ 1200
+head_short f is figures cell short size =
+    let width = five (svg_width f) (omega (arith, is.wide)) in
+    let height = five (svg_height f) (omega (arith, is.high)) in
+    simp length-append (omega (arith, width, height, short, size))
+
+cell_short_text : (f : Frame) → f.cell < 10 ^ 19 → length (cell_text f) ≤ 31
+cell_short_text f few = simp length-append (omega (arith, long f.cell few))
 
 meaning_short : (y : ℕ) (shown : Option Status) (name : List ℕ) → y < 10 ^ 5 → length name ≤ 24
     → length (meaning_text y shown name) ≤ 144
 meaning_short y shown name low short =
-    both 34 110 (group_short y low)
-    (both 54 56 (rect_short (run_at 0 shown) (omega arith) (omega arith))
-    (both 20 36 (omega arith) (both 24 12 short (omega arith))))
+    let front = group_short y low in
+    let cell = rect_short (run_at 0 shown) (omega arith) (omega arith) in
+    let rest : length (name_text name) ≤ 56 = simp length-append (omega (arith, short)) in
+    omega (
+      arith,
+      length-append (group_text y) (rect_text (run_at 0 shown) ++ name_text name),
+      length-append (rect_text (run_at 0 shown)) (name_text name),
+      front,
+      cell,
+      rest,
+    )
+
+three_short : (a b c : List ℕ) → length a ≤ 144 → length b ≤ 144 → length c ≤ 144 → length (a ++ b ++ c) ≤ 432
+three_short a b c p q r = omega (arith, length-append a (b ++ c), length-append b c, p, q, r)
 
 foot_short : (f : Frame) → IsFrame f → length (svg_foot f) ≤ 910
 foot_short f is =
-    both 34 876 (group_short (16 * rows_in f) (omega (arith, is.high)))
-    (both 432 444
-    (both 144 288 (meaning_short 20 _ _ (omega arith) (omega arith))
-    (both 144 144 (meaning_short 40 _ _ (omega arith) (omega arith)) (meaning_short 60 _ _ (omega arith) (omega arith))))
-    (both 432 12
-    (both 144 288 (meaning_short 80 _ _ (omega arith) (omega arith))
-    (both 144 144 (meaning_short 100 _ _ (omega arith) (omega arith)) (meaning_short 120 _ _ (omega arith) (omega arith))))
-    (omega arith)))
+    let front = group_short (16 * rows_in f) (omega (arith, is.high)) in
+    let first : length first_meanings ≤ 432 = three_short _ _ _
+    (meaning_short 20 (Some Finished) (codes "finished") (omega arith) (omega arith))
+    (meaning_short 40 (Some NonTried) (codes "non-tried") (omega arith) (omega arith))
+    (meaning_short 60 (Some NonTrimmed) (codes "non-trimmed") (omega arith) (omega arith)) in
+    let others : length other_meanings ≤ 432 = three_short _ _ _
+    (meaning_short 80 (Some NonScraped) (codes "non-scraped") (omega arith) (omega arith))
+    (meaning_short 100 (Some BadSector) (codes "bad-sector") (omega arith) (omega arith))
+    (meaning_short 120 None (codes "blank: not in the domain") (omega arith) (omega arith)) in
+    omega (
+      arith,
+      length-append (group_text (16 * rows_in f)) (first_meanings ++ other_meanings ++ codes "</g>\n</svg>\n"),
+      length-append first_meanings (other_meanings ++ codes "</g>\n</svg>\n"),
+      length-append other_meanings (codes "</g>\n</svg>\n"),
+      front,
+      first,
+      others,
+    )
 
 -- ---- all of it
 
@@ -173,14 +219,26 @@ fits_in o domain statuses limits short few =
     let span : ℕ = end_shown o.input_position o.size end - o.input_position in
     let some = one-le-mul limits.width limits.rows in
     let cell = cell_short span o.sector (o.width * o.rows) _ limits.sector some refl in
-    let head = head_short f is (omega (arith, cell, is.short, limits.sector_max)) (figures_text (figures_of domain statuses))
-    (figures_short domain statuses short) in
+    let figures : List ℕ = figures_text (summary_of domain statuses) in
+    let size = cell_short_text f (omega (arith, cell, is.short, limits.sector_max)) in
+    let head = head_short f is figures (cell_text f) (figures_short domain statuses short) size in
     let rows = rows_short f is domain statuses (rows_in f) (omega arith) in
     let high : rows_in f * (104 + 54 * o.width) ≤ o.rows * (104 + 54 * o.width) = mul-le-mul_right (104 + 54 * o.width) (rows_fit o end limits) in
     let turned : o.rows * (104 + 54 * o.width) ≡ 104 * o.rows + 54 * (o.width * o.rows) = omega arith in
-    let all = both 1200 (rows_in f * (104 + 54 * o.width) + 910) head
-    (both (rows_in f * (104 + 54 * o.width)) 910 rows (foot_short f is)) in
-    omega (arith, all, high, turned, few, limits.rows_max)
+    let front : List ℕ = svg_head f figures (cell_text f) in
+    let body : List ℕ = flat_map (row_text Svg f domain statuses) (range_with_len 0 (rows_in f)) in
+    omega (
+      arith,
+      length-append front (body ++ svg_foot f),
+      length-append body (svg_foot f),
+      head,
+      rows,
+      foot_short f is,
+      high,
+      turned,
+      few,
+      limits.rows_max,
+    )
 
 pub svg_is_short : SvgIsShort
 svg_is_short o domain statuses limits svg fits short =

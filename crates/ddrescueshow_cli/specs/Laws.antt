@@ -6,6 +6,7 @@ use Rattle.block_list.specs.declared.status.Status.TheVariants.{NonTried, NonTri
 use Rattle.crash_site.specs.SiteState.{files_in}
 use Rattle.map_algebra.specs.At.{status_at}
 use Rattle.map_algebra.specs.Compare.{IsDoneIn}
+use Rattle.map_algebra.specs.Summary.{summary_of}
 use Rattle.program_promise.specs.Promise.{Told}
 use Rattle.program_promise.specs.Kinds.{IsVerdictKind}
 use Rattle.program_promise.specs.Laws.{KeepsPromises}
@@ -20,7 +21,7 @@ use Rattle.ddrescueshow_cli.specs.declared.runs.Run.{Run}
 use Rattle.ddrescueshow_cli.specs.Cells.{IsFrame, begin_of, cells_in, end_of, end_shown, frame_of, mark, rows_in}
 use Rattle.ddrescueshow_cli.specs.Answers.{row_of}
 use Rattle.ddrescueshow_cli.specs.Runs.{cell_symbol, marks_of, runs_of}
-use Rattle.ddrescueshow_cli.specs.Picture.{figures_of, picture_text, run_text, share}
+use Rattle.ddrescueshow_cli.specs.Picture.{line_of, picture_text, run_text, share}
 use Rattle.ddrescueshow_cli.specs.Work.{Found, ShowWorks, is_too_large}
 use Rattle.ddrescueshow_cli.specs.Ddrescueshow.{Ddrescueshow, show_program}
 
@@ -109,7 +110,7 @@ SvgIsShort = (o : ShowOptions) (domain : ℕ → Bool) (statuses : List Status) 
 abbrev pub AllIsFinishedAt100 : Type 0
 AllIsFinishedAt100 = (domain : ℕ → Bool) (statuses : List Status)
     → ((x : ℕ) → domain x ≡ true → x < length statuses)
-    → (share (figures_of domain statuses).rescued (figures_of domain statuses).domain ≡ 10000)
+    → (share (line_of (summary_of domain statuses) 4).bytes (summary_of domain statuses).domain ≡ 10000)
     ↔ IsDoneIn domain statuses
 
 -- ---- the calls
@@ -163,4 +164,4 @@ SmallPicture =
     × (flat_map (run_text Plain) (small_runs 1) ≡ codes "?")
     × (small_runs 0 ≡ record { from = 0; count = 2; shown = Some Finished }
     ∷ record { from = 2; count = 1; shown = Some BadSector } ∷ record { from = 3; count = 1; shown = Some Finished } ∷ [])
-    × ((figures_of (λ x. true) small_map).rescued ≡ 8) × (share 8 10 ≡ 8000)
+    × ((line_of (summary_of (λ x. true) small_map) 4).bytes ≡ 8) × (share 8 10 ≡ 8000)

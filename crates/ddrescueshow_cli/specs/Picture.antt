@@ -1,16 +1,15 @@
 -- The text of a picture, in each of its forms.
-use Rattle.std.specs.Prelude.{ℕ, ◌+◌, ◌-◌, ◌*◌, ◌/◌, ◌%◌, Bool, true, false, List, ◌∷◌, ◌++◌, length, replicate, nat_eq, Option, Some, None, codes, if◌then◌else◌}
+use Rattle.std.specs.Prelude.{ℕ, ◌+◌, ◌-◌, ◌*◌, ◌/◌, ◌%◌, Bool, true, false, List, ◌∷◌, ◌++◌, length, replicate, slice_index_or, nat_eq, Option, Some, None, codes, if◌then◌else◌}
 use Rattle.std.specs.Fmt.{decimal}
 use Rattle.std.specs.List.{flat_map, range_with_len}
 use Rattle.block_list.specs.declared.areas.Count.{Count}
 use Rattle.block_list.specs.declared.status.Status.{Status}
 use Rattle.block_list.specs.declared.status.Status.TheVariants.{NonTried, NonTrimmed, NonScraped, BadSector, Finished}
-use Rattle.block_list.specs.Areas.{count_below, count_of}
-use Rattle.map_algebra.specs.Summary.{has_status}
+use Rattle.map_algebra.specs.declared.summary.Summary.{Summary}
+use Rattle.map_algebra.specs.Summary.{summary_of}
 use Rattle.ddrescueshow_words.specs.declared.options.Coloring.{Coloring}
 use Rattle.ddrescueshow_words.specs.declared.options.Coloring.TheVariants.{Auto, Always, Never}
 use Rattle.ddrescueshow_words.specs.declared.options.ShowOptions.{ShowOptions}
-use Rattle.ddrescueshow_cli.specs.declared.figures.Figures.{Figures}
 use Rattle.ddrescueshow_cli.specs.declared.form.Form.{Form}
 use Rattle.ddrescueshow_cli.specs.declared.form.Form.TheVariants.{Plain, Colored, Svg}
 use Rattle.ddrescueshow_cli.specs.declared.frame.Frame.{Frame}
@@ -32,13 +31,9 @@ form_of o terminal = if o.svg then Svg else if is_colored o.coloring terminal th
 
 -- ---- how much there is
 
--- the figures of a domain: its positions, the finished ones, and the bad ones
-abbrev pub figures_of : (domain : ℕ → Bool) → List Status → Figures
-figures_of domain statuses = record {
-  domain = count_below domain (length statuses);
-  rescued = count_below (has_status domain statuses Finished) (length statuses);
-  bad = count_of (has_status domain statuses BadSector) (length statuses);
-}
+-- the count of a status in a summary, by its line
+abbrev pub line_of : Summary → (k : ℕ) → Count
+line_of s k = slice_index_or s.lines k (record { bytes = 0; areas = 0 })
 
 -- what of a size is rescued, in hundredths of a percent, rounded down; all of nothing is rescued
 abbrev pub share : (rescued size : ℕ) → ℕ
@@ -57,8 +52,8 @@ rescued_text rescued size =
 abbrev pub bad_text : Count → List ℕ
 bad_text bad = decimal bad.bytes ++ codes " B bad in " ++ decimal bad.areas ++ codes " areas"
 
-abbrev pub figures_text : Figures → List ℕ
-figures_text s = rescued_text s.rescued s.domain ++ bad_text s.bad
+abbrev pub figures_text : Summary → List ℕ
+figures_text s = rescued_text (line_of s 4).bytes s.domain ++ bad_text (line_of s 3)
 
 -- `a cell is 65536 B`
 abbrev pub cell_text : Frame → List ℕ
@@ -106,7 +101,7 @@ abbrev pub padded : (len : ℕ) → ℕ → List ℕ
 padded len n = replicate (len - length (decimal n)) 32 ++ decimal n ++ codes " "
 
 -- how it begins: the figures, and the size of a cell
-abbrev pub head_text : Form → Frame → Figures → List ℕ
+abbrev pub head_text : Form → Frame → Summary → List ℕ
 head_text Svg f s = svg_head f (figures_text s) (cell_text f)
 head_text Plain f s = (figures_text s ++ codes "\n") ++ cell_text f ++ codes "\n"
 head_text Colored f s = (figures_text s ++ codes "\n") ++ cell_text f ++ codes "\n"
@@ -144,5 +139,5 @@ foot_text Colored f = tried_colors ++ failed_colors
 
 abbrev pub picture_text : Form → Frame → (domain : ℕ → Bool) → List Status → List ℕ
 picture_text form f domain statuses =
-    head_text form f (figures_of domain statuses)
+    head_text form f (summary_of domain statuses)
     ++ flat_map (row_text form f domain statuses) (range_with_len 0 (rows_in f)) ++ foot_text form f

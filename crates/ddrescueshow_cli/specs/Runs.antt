@@ -12,6 +12,10 @@ abbrev pub cell_symbol : Option Status → ℕ
 cell_symbol None = 32
 cell_symbol (Some s) = symbol s
 
+-- two cells show the same
+abbrev pub same_shown : Option Status → Option Status → Bool
+same_shown m n = nat_eq (cell_symbol m) (cell_symbol n)
+
 -- what so many cells show from one on
 abbrev pub marks_from : Frame → (domain : ℕ → Bool) → List Status → (first count : ℕ) → List (Option Status)
 marks_from f domain statuses first count = map (mark f domain statuses) (range_with_len first count)
@@ -29,7 +33,7 @@ run_at from shown = record { from = from; count = 1; shown = shown }
 abbrev pub runs_on : Run → List (Option Status) → List Run
 runs_on r [] = r ∷ []
 runs_on r (m ∷ ms) =
-    if nat_eq (cell_symbol r.shown) (cell_symbol m) then runs_on (record r { count = r.count + 1 }) ms
+    if same_shown r.shown m then runs_on (record r { count = r.count + 1 }) ms
     else r ∷ runs_on (run_at (r.from + r.count) m) ms
 
 -- the runs of a row's cells

@@ -1,37 +1,11 @@
 //! How much there is.
 ghost use Rattle.std.specs.Prelude.{◌≡◌, ◌≤◌, ◌++◌, OnOk};
-ghost use Rattle.rescue_domain.specs.Parts.{covers};
-ghost use Rattle.map_algebra.specs.At.{IsWithinMap};
-ghost use Rattle.ddrescueshow_cli.specs.Picture.{bad_text, figures_of, figures_text, rescued_text, share, share_text};
+ghost use Rattle.ddrescueshow_cli.specs.Picture.{bad_text, figures_text, line_of, rescued_text, share, share_text};
 
 use crate::text::{add, add_number};
 use block_list::areas::Count;
-use block_list::status::Status;
-use block_list::tiles::{NoMemory, Tiles};
-use map_algebra::summary::count_status;
-use rescue_domain::domain::Domain;
-
-/// The figures of a domain: its positions, the finished ones, and the bad ones.
-#[derive(Clone, Copy, Debug, PartialEq, Eq)]
-pub struct Figures {
-    pub domain: u64,
-    pub rescued: u64,
-    pub bad: Count,
-}
-
-impl Figures {
-    /// Counts them.
-    pub(crate) fn of<T: Tiles>(tiles: &T, domain: &Domain) -> Figures
-        requires { IsWithinMap (covers domain.now) (T.statuses tiles.now) }
-        ensures { result ≡ figures_of (covers domain.now) (T.statuses tiles.now) }
-    {
-        Figures {
-            domain: domain.size(),
-            rescued: count_status(tiles, domain, Status::Finished).bytes,
-            bad: count_status(tiles, domain, Status::BadSector),
-        }
-    }
-}
+use block_list::tiles::NoMemory;
+use map_algebra::summary::Summary;
 
 /// What of a size is rescued, in hundredths of a percent.
 fn share(rescued: u64, size: u64) -> u64
@@ -73,10 +47,10 @@ fn add_bad(text: &mut Vec<u8>, bad: Count) -> Result<(), NoMemory>
 }
 
 /// Adds the figures.
-pub(crate) fn add_figures(text: &mut Vec<u8>, figures: &Figures) -> Result<(), NoMemory>
-    requires { figures.now.rescued ≤ figures.now.domain }
-    ensures { OnOk result (text.new.items ≡ text.old.items ++ figures_text figures.now) }
+pub(crate) fn add_figures(text: &mut Vec<u8>, summary: &Summary) -> Result<(), NoMemory>
+    requires { (line_of summary.now 4).bytes ≤ summary.now.domain }
+    ensures { OnOk result (text.new.items ≡ text.old.items ++ figures_text summary.now) }
 {
-    add_rescued(text, figures.rescued, figures.domain)?;
-    add_bad(text, figures.bad)
+    add_rescued(text, summary.lines[4].bytes, summary.domain)?;
+    add_bad(text, summary.lines[3])
 }

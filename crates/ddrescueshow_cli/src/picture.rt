@@ -4,9 +4,8 @@ ghost use Rattle.std.specs.List.{range_with_len};
 ghost use Rattle.rescue_domain.specs.Parts.{covers};
 ghost use Rattle.map_algebra.specs.At.{IsWithinMap};
 ghost use Rattle.ddrescueshow_cli.specs.Cells.{IsFrame, rows_in};
-ghost use Rattle.ddrescueshow_cli.specs.Picture.{end_text, foot_text, front_text, head_text, picture_text, row_text};
+ghost use Rattle.ddrescueshow_cli.specs.Picture.{end_text, foot_text, front_text, head_text, line_of, picture_text, row_text};
 
-use crate::figures::Figures;
 use crate::form::Form;
 use crate::frame::Frame;
 use crate::plain::{add_colors, add_legend, add_lines};
@@ -15,6 +14,7 @@ use crate::svg::{add_svg_foot, add_svg_front, add_svg_head};
 use crate::text::{add, add_padded};
 use block_list::tiles::{NoMemory, Tiles};
 use map_algebra::pieces::Nearby;
+use map_algebra::summary::Summary;
 use rescue_domain::domain::Domain;
 use std::alloc::Global;
 
@@ -23,15 +23,15 @@ fn add_head(
     text: &mut Vec<u8>,
     form: Form,
     frame: &Frame,
-    figures: &Figures,
+    summary: &Summary,
 ) -> Result<(), NoMemory>
     requires frame { IsFrame frame.now }
-    requires part { figures.now.rescued ≤ figures.now.domain }
-    ensures { OnOk result (text.new.items ≡ text.old.items ++ head_text form frame.now figures.now) }
+    requires part { (line_of summary.now 4).bytes ≤ summary.now.domain }
+    ensures { OnOk result (text.new.items ≡ text.old.items ++ head_text form frame.now summary.now) }
 {
     match form {
-        Form::Svg => add_svg_head(text, frame, figures),
-        Form::Plain | Form::Colored => add_lines(text, frame, figures),
+        Form::Svg => add_svg_head(text, frame, summary),
+        Form::Plain | Form::Colored => add_lines(text, frame, summary),
     }
 }
 
@@ -131,9 +131,9 @@ pub(crate) fn draw<T: Tiles>(
     ensures { IfOk result (λ text. text.items
         ≡ picture_text form frame.now (covers domain.now) (T.statuses tiles.now)) }
 {
-    let figures = Figures::of(tiles, domain);
+    let summary = Summary::of(tiles, domain);
     let mut text = Vec::new(alloc);
-    add_head(&mut text, form, frame, &figures)?;
+    add_head(&mut text, form, frame, &summary)?;
     add_rows(&mut text, form, frame, tiles, domain)?;
     add_foot(&mut text, form, frame)?;
     Ok(text)

@@ -1,14 +1,15 @@
 //! The parts of a picture in text.
 ghost use Rattle.std.specs.Prelude.{◌≡◌, ◌≤◌, ◌++◌, Some, codes, OnOk};
 ghost use Rattle.block_list.specs.declared.status.Status.{Status as StatusOf};
-ghost use Rattle.ddrescueshow_cli.specs.Picture.{block, cell_text, color_of, color_text, failed_colors, figures_text, foot_text, head_text, tried_colors};
+ghost use Rattle.ddrescueshow_cli.specs.Picture.{block, cell_text, color_of, color_text, failed_colors, figures_text, foot_text, head_text, line_of, tried_colors};
 
-use crate::figures::{Figures, add_figures};
+use crate::figures::add_figures;
 use crate::form::Form;
 use crate::frame::Frame;
 use crate::text::{add, add_bytes, add_number};
 use block_list::status::Status;
 use block_list::tiles::NoMemory;
+use map_algebra::summary::Summary;
 
 /// What the characters mean.
 const LEGEND: &str =
@@ -50,11 +51,11 @@ pub(crate) fn add_cell_size(text: &mut Vec<u8>, frame: &Frame) -> Result<(), NoM
 }
 
 /// Adds the line of the figures.
-fn add_figures_line(text: &mut Vec<u8>, figures: &Figures) -> Result<(), NoMemory>
-    requires { figures.now.rescued ≤ figures.now.domain }
-    ensures { OnOk result (text.new.items ≡ text.old.items ++ figures_text figures.now ++ codes "\n") }
+fn add_figures_line(text: &mut Vec<u8>, summary: &Summary) -> Result<(), NoMemory>
+    requires { (line_of summary.now 4).bytes ≤ summary.now.domain }
+    ensures { OnOk result (text.new.items ≡ text.old.items ++ figures_text summary.now ++ codes "\n") }
 {
-    add_figures(text, figures)?;
+    add_figures(text, summary)?;
     add(text, "\n")
 }
 
@@ -62,12 +63,12 @@ fn add_figures_line(text: &mut Vec<u8>, figures: &Figures) -> Result<(), NoMemor
 pub(crate) fn add_lines(
     text: &mut Vec<u8>,
     frame: &Frame,
-    figures: &Figures,
+    summary: &Summary,
 ) -> Result<(), NoMemory>
-    requires { figures.now.rescued ≤ figures.now.domain }
-    ensures { OnOk result (text.new.items ≡ text.old.items ++ head_text Form.Plain frame.now figures.now) }
+    requires { (line_of summary.now 4).bytes ≤ summary.now.domain }
+    ensures { OnOk result (text.new.items ≡ text.old.items ++ head_text Form.Plain frame.now summary.now) }
 {
-    add_figures_line(text, figures)?;
+    add_figures_line(text, summary)?;
     add_cell_size(text, frame)?;
     add(text, "\n")
 }

@@ -4,7 +4,7 @@ ghost use Rattle.block_list.specs.declared.status.Status.{Status as StatusOf};
 ghost use Rattle.rescue_domain.specs.Parts.{covers};
 ghost use Rattle.ddrescueshow_cli.specs.Cells.{IsFrame, cells_in, mark};
 ghost use Rattle.ddrescueshow_cli.specs.Picture.{run_text};
-ghost use Rattle.ddrescueshow_cli.specs.Runs.{cell_symbol, marks_from, runs_of, runs_on};
+ghost use Rattle.ddrescueshow_cli.specs.Runs.{cell_symbol, marks_from, runs_of, runs_on, same_shown};
 
 use crate::cells::worst;
 use crate::form::Form;
@@ -33,6 +33,13 @@ pub(crate) fn symbol_of(shown: Option<Status>) -> u8
         Some(status) => status.symbol(),
         None => b' ',
     }
+}
+
+/// Whether two cells show the same.
+fn shows_same(first: Option<Status>, second: Option<Status>) -> bool
+    ensures { result ≡ same_shown first second }
+{
+    symbol_of(first) == symbol_of(second)
 }
 
 /// What a cell shows.
@@ -79,16 +86,15 @@ fn run_with(
         ≡ text.old.items ++ flat_map (run_text form) (runs_on run (shown ∷ ms))) }
     ensures place { IfOk result (λ next. next.from + next.count ≡ run.from + run.count + 1) }
 {
-    let Run { from, count, .. } = run;
-    if symbol_of(run.shown) == symbol_of(shown) {
+    if shows_same(run.shown, shown) {
         return Ok(Run {
-            count: count + 1,
+            count: run.count + 1,
             ..run
         });
     }
     add_run(text, form, run)?;
     Ok(Run {
-        from: from + count,
+        from: run.from + run.count,
         count: 1,
         shown,
     })

@@ -1,16 +1,17 @@
 //! The parts of a picture in SVG.
 ghost use Rattle.std.specs.Prelude.{◌≡◌, ◌+◌, ◌*◌, ◌<◌, ◌≤◌, ◌++◌, codes, OnOk};
 ghost use Rattle.ddrescueshow_cli.specs.Cells.{IsFrame};
-ghost use Rattle.ddrescueshow_cli.specs.Picture.{cell_text, figures_text};
+ghost use Rattle.ddrescueshow_cli.specs.Picture.{cell_text, figures_text, line_of};
 ghost use Rattle.ddrescueshow_cli.specs.Svg.{class_of, fill_text, first_meanings, group_text, meaning_text, name_text, other_meanings, pattern_text, rect_text, svg_foot, svg_front, svg_head, svg_lines, svg_open, svg_style, svg_top};
 
-use crate::figures::{Figures, add_figures};
+use crate::figures::add_figures;
 use crate::frame::Frame;
 use crate::plain::add_cell_size;
 use crate::runs::Run;
 use crate::text::{add, add_number};
 use block_list::status::Status;
 use block_list::tiles::NoMemory;
+use map_algebra::summary::Summary;
 
 /// How the statuses without a pattern are filled.
 const STYLE: &str =
@@ -70,24 +71,24 @@ fn add_open(text: &mut Vec<u8>, frame: &Frame) -> Result<(), NoMemory>
 }
 
 /// Adds where the picture is, and the title.
-fn add_top(text: &mut Vec<u8>, frame: &Frame, figures: &Figures) -> Result<(), NoMemory>
+fn add_top(text: &mut Vec<u8>, frame: &Frame, summary: &Summary) -> Result<(), NoMemory>
     requires frame { IsFrame frame.now }
-    requires part { figures.now.rescued ≤ figures.now.domain }
-    ensures { OnOk result (text.new.items ≡ text.old.items ++ svg_top frame.now (figures_text figures.now)) }
+    requires part { (line_of summary.now 4).bytes ≤ summary.now.domain }
+    ensures { OnOk result (text.new.items ≡ text.old.items ++ svg_top frame.now (figures_text summary.now)) }
 {
     add_open(text, frame)?;
-    add_figures(text, figures)?;
+    add_figures(text, summary)?;
     add(text, "</title>\n")
 }
 
 /// Adds the line of the figures.
-fn add_figures_line(text: &mut Vec<u8>, figures: &Figures) -> Result<(), NoMemory>
-    requires { figures.now.rescued ≤ figures.now.domain }
+fn add_figures_line(text: &mut Vec<u8>, summary: &Summary) -> Result<(), NoMemory>
+    requires { (line_of summary.now 4).bytes ≤ summary.now.domain }
     ensures { OnOk result (text.new.items
-        ≡ text.old.items ++ codes "<text y='-40'>" ++ figures_text figures.now ++ codes "</text>\n") }
+        ≡ text.old.items ++ codes "<text y='-40'>" ++ figures_text summary.now ++ codes "</text>\n") }
 {
     add(text, "<text y='-40'>")?;
-    add_figures(text, figures)?;
+    add_figures(text, summary)?;
     add(text, "</text>\n")
 }
 
@@ -102,12 +103,12 @@ fn add_cell_line(text: &mut Vec<u8>, frame: &Frame) -> Result<(), NoMemory>
 }
 
 /// Adds both lines of text.
-fn add_svg_lines(text: &mut Vec<u8>, frame: &Frame, figures: &Figures) -> Result<(), NoMemory>
-    requires { figures.now.rescued ≤ figures.now.domain }
+fn add_svg_lines(text: &mut Vec<u8>, frame: &Frame, summary: &Summary) -> Result<(), NoMemory>
+    requires { (line_of summary.now 4).bytes ≤ summary.now.domain }
     ensures { OnOk result (text.new.items
-        ≡ text.old.items ++ svg_lines (figures_text figures.now) (cell_text frame.now)) }
+        ≡ text.old.items ++ svg_lines (figures_text summary.now) (cell_text frame.now)) }
 {
-    add_figures_line(text, figures)?;
+    add_figures_line(text, summary)?;
     add_cell_line(text, frame)
 }
 
@@ -115,16 +116,16 @@ fn add_svg_lines(text: &mut Vec<u8>, frame: &Frame, figures: &Figures) -> Result
 pub(crate) fn add_svg_head(
     text: &mut Vec<u8>,
     frame: &Frame,
-    figures: &Figures,
+    summary: &Summary,
 ) -> Result<(), NoMemory>
     requires frame { IsFrame frame.now }
-    requires part { figures.now.rescued ≤ figures.now.domain }
+    requires part { (line_of summary.now 4).bytes ≤ summary.now.domain }
     ensures { OnOk result (text.new.items
-        ≡ text.old.items ++ svg_head frame.now (figures_text figures.now) (cell_text frame.now)) }
+        ≡ text.old.items ++ svg_head frame.now (figures_text summary.now) (cell_text frame.now)) }
 {
-    add_top(text, frame, figures)?;
+    add_top(text, frame, summary)?;
     add_style(text)?;
-    add_svg_lines(text, frame, figures)
+    add_svg_lines(text, frame, summary)
 }
 
 /// The letter of what a cell shows.

@@ -40,7 +40,7 @@ impl Summary {
 }
 
 /// How much of a domain has one status in a map.
-pub fn count_status<T: Tiles>(tiles: &T, domain: &Domain, status: Status) -> Count
+fn count_status<T: Tiles>(tiles: &T, domain: &Domain, status: Status) -> Count
     ensures { result ≡ count_of (has_status (covers domain.now) (T.statuses tiles.now) status)
         (length (T.statuses tiles.now)) }
 {
