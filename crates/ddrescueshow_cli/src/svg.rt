@@ -27,7 +27,8 @@ fn add_fill(text: &mut Vec<u8>, color: &str, shape: &str) -> Result<(), NoMemory
         "' d='M0 0h10v16H0z'/><path stroke='#000' stroke-width='2' d='",
     )?;
     add(text, shape)?;
-    add(text, "'/></pattern>\n")
+    add(text, "'/></pattern>\n")?;
+    Ok(())
 }
 
 /// Adds a cell of a color with a shape on it.
@@ -40,7 +41,8 @@ fn add_pattern(text: &mut Vec<u8>, name: &str, color: &str, shape: &str) -> Resu
         text,
         "' width='10' height='16' patternUnits='userSpaceOnUse'><path fill='",
     )?;
-    add_fill(text, color, shape)
+    add_fill(text, color, shape)?;
+    Ok(())
 }
 
 /// Adds how each status is filled.
@@ -67,7 +69,8 @@ fn add_open(text: &mut Vec<u8>, frame: &Frame) -> Result<(), NoMemory>
         text,
         16 * frame.rows() + 220,
         "' font-family='monospace' font-size='12' style='background:#fff'>\n<title>",
-    )
+    )?;
+    Ok(())
 }
 
 /// Adds where the picture is, and the title.
@@ -187,7 +190,8 @@ fn add_name(text: &mut Vec<u8>, name: &str) -> Result<(), NoMemory>
 {
     add(text, "<text x='20' y='12'>")?;
     add(text, name)?;
-    add(text, "</text></g>\n")
+    add(text, "</text></g>\n")?;
+    Ok(())
 }
 
 /// Adds a line of the legend.
@@ -237,5 +241,6 @@ pub(crate) fn add_svg_foot(text: &mut Vec<u8>, frame: &Frame) -> Result<(), NoMe
     add_group(text, 16 * frame.rows())?;
     add_first(text)?;
     add_others(text)?;
-    add(text, "</g>\n</svg>\n")
+    add(text, "</g>\n</svg>\n")?;
+    Ok(())
 }
