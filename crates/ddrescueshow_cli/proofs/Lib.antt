@@ -1,4 +1,5 @@
 mod WalkLemmas
+mod TextLemmas
 mod DrawLemmas
 mod RunLemmas
 mod SizeLemmas
