@@ -1,5 +1,5 @@
 -- The program is well made: its rows agree with its grammar and with its work. And maps bring one verdict at most.
-use Rattle.std.proofs.Common.{◌≡◌, ℕ, List, [], ◌∷◌, ◌++◌, Option, Some, None, Result, Ok, Err, refl, sym, ap, ◌∙◌, inl, inr, subst, arith}
+use Rattle.std.proofs.Common.{◌≡◌, ℕ, Bool, false, List, [], ◌∷◌, ◌++◌, Option, Some, None, Result, Ok, Err, refl, sym, ap, ◌∙◌, inl, inr, subst, arith}
 use Rattle.mapfile_text.specs.declared.read.MapError.{MapError}
 use Rattle.mapfile_text.specs.declared.read.Mode.{Mode}
 use Rattle.mapfile_text.specs.declared.read.Mode.TheVariants.{Tight}
@@ -32,7 +32,7 @@ use Rattle.ddrescueshow_cli.specs.Answers.{row_of}
 use Rattle.ddrescueshow_cli.specs.Work.{Found, MapIsRefused, PutsAll, ShowWorks, map_rows, show_faults}
 use Rattle.ddrescueshow_cli.specs.Ddrescueshow.{ShowWorked, show_program}
 use Rattle.ddrescueshow_cli.specs.Laws.{HasOneVerdict, IsVerdict, ShowKeepsPromises}
-use Rattle.ddrescueshow_cli.proofs.WorkedLemmas.{starved_done}
+use Rattle.ddrescueshow_cli.proofs.WorkedLemmas.{site_stays, starved_done}
 
 -- ---- the faults that words may have
 
@@ -89,20 +89,14 @@ last_works e d (inr w) = put_works e d w
 
 work_answers : (c : Command) (found : Found) (e : ShowEnding) (d : Deeds) → ShowWorks c found e d → IsOfWork e
 work_answers c found e d (inl w) = subst IsOfWork (sym w.0) tt
-work_answers c found e d (inr w) =
+work_answers c found e d (inr (inl w)) = subst IsOfWork (sym w.0.1) tt
+work_answers c found e d (inr (inr (fits, w))) =
     read_works RunMap Tight (Some c.mapfile) found.mapfile
     (map_rows DomainMap (map_mode c.options.loose) c.domain_map found.domain ++ Take ∷ []) e d
     (λ x v. read_works DomainMap (map_mode c.options.loose) c.domain_map found.domain (Take ∷ []) e x (last_works e) v) w
 
-site_stays : (s : SiteState) → Stays s s
-site_stays s = record {
-  keeps = record { tells = refl; start = λ tells. refl; planned = refl; later = omega arith };
-  image = refl;
-  draft = refl;
-}
-
-pub show_made : IsWellMade show_program
-show_made = record {
+pub show_made : (terminal : Bool) → IsWellMade (show_program terminal)
+show_made terminal = record {
   memory = refl;
   memory_idle = record { also = tt; keeps = λ w begins. site_stays w.site };
   wrong = λ fault has. refl;
@@ -112,19 +106,20 @@ show_made = record {
   gives = λ words items operands fault is.
       refused_by IsPlainFault (command_in words items operands) fault
       (command_gives words items (options_in words items) operands) is;
-  starves = λ c line w begins. starved_done c line w;
+  starves = λ c line w begins. starved_done terminal c line w;
   work = λ c line e old new done. (work_answers c done.outside e done.did done.work, tt);
 }
 
-pub asked_done : (words : List (List ℕ)) (c : Command) (e : ShowEnding) (old new : WorldState) → IsAsked words c
-    → ShowWorked c words e old new → IsDone show_program words e c.options.quiet old new
-asked_done words c e old new a w =
-    asked show_program show_made words c e c.options.quiet old new a.asks a.alone a.quiet w
+pub asked_done : (terminal : Bool) (words : List (List ℕ)) (c : Command) (e : ShowEnding) (old new : WorldState)
+    → IsAsked words c → ShowWorked terminal c words e old new
+    → IsDone (show_program terminal) words e c.options.quiet old new
+asked_done terminal words c e old new a w =
+    asked (show_program terminal) (show_made terminal) words c e c.options.quiet old new a.asks a.alone a.quiet w
 
 -- ---- what is kept
 
 pub show_keeps_promises : ShowKeepsPromises
-show_keeps_promises = keeps_promises show_program show_made
+show_keeps_promises terminal = keeps_promises (show_program terminal) (show_made terminal)
 
 -- a map is refused for one reason
 refused_once : (which : Which) (mode : Mode) (name : Option (List ℕ)) (file : Option File)
@@ -141,8 +136,11 @@ done_is e d (inr broke, idle) v = absurd (subst IsVerdict broke v)
 
 pub has_one_verdict : HasOneVerdict
 has_one_verdict c found e e' d d' w w' v v' =
-    show_keeps_promises.verdict c [] found e e' d d' (
-      refused_once RunMap Tight (Some c.mapfile) found.mapfile,
-      (refused_once DomainMap (map_mode c.options.loose) c.domain_map found.domain, tt),
+    (show_keeps_promises false).verdict c [] found e e' d d' (
+      (λ a b is is'. is.1 ∙ sym is'.1),
+      (
+        refused_once RunMap Tight (Some c.mapfile) found.mapfile,
+        (refused_once DomainMap (map_mode c.options.loose) c.domain_map found.domain, tt),
+      ),
     )
     (λ a a' x x' r r' y y'. done_is a x r y ∙ sym (done_is a' x' r' y')) w w' v v'
