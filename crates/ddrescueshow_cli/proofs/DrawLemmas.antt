@@ -4,7 +4,7 @@ use Rattle.std.specs.List.{flat_map, range_with_len}
 use Rattle.std.proofs.lemmas.Grind.{flat_map-append}
 use Rattle.std.proofs.lemmas.List.{replicate-append-replicate}
 
--- a piece that is added to a text with others in front of it
+-- a piece that is added to a text after others
 added : (front more piece now : List ℕ) → now ≡ front ++ more → now ++ piece ≡ front ++ (more ++ piece)
 added front more piece now e = ap (λ (t : List ℕ). t ++ piece) e ∙ append_assoc front more piece
 

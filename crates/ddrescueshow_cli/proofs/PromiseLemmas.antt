@@ -1,4 +1,4 @@
--- The program is well made: its rows agree with its grammar and with its work. And maps bring one verdict at most.
+-- The program is well made: its rows agree with its grammar and with its work. And maps lead to one verdict at most.
 use Rattle.std.proofs.Common.{◌≡◌, ℕ, Bool, false, List, [], ◌∷◌, ◌++◌, Option, Some, None, Result, Ok, Err, refl, sym, ap, ◌∙◌, inl, inr, subst, arith}
 use Rattle.mapfile_text.specs.declared.read.MapError.{MapError}
 use Rattle.mapfile_text.specs.declared.read.Mode.{Mode}
@@ -70,7 +70,7 @@ put_works : (e : ShowEnding) (d : Deeds) → PutsAll e d → IsOfWork e
 put_works e d (inl done, idle) = subst IsOfWork (sym done) tt
 put_works e d (inr broke, idle) = subst IsOfWork (sym broke) tt
 
--- what a map that may be named brings, and what comes after it
+-- what a map that may be named leads to, and what comes after it
 read_works : (which : Which) (mode : Mode) (name : Option (List ℕ)) (file : Option File) (more : List (WorkStep ShowEnding))
     (e : ShowEnding) (d : Deeds) → ((x : Deeds) → Works show_faults more PutsAll e x → IsOfWork e)
     → Works show_faults (map_rows which mode name file ++ more) PutsAll e d → IsOfWork e

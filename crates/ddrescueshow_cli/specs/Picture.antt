@@ -78,7 +78,7 @@ color_of (Some BadSector) = sequence (codes "41")
 abbrev pub uncolored : List ℕ
 uncolored = sequence (codes "0")
 
--- so many cells in a color
+-- `count` cells in a color
 abbrev pub block : Option Status → (count : ℕ) → List ℕ
 block shown count = color_of shown ++ replicate count 32 ++ uncolored
 

@@ -16,7 +16,7 @@ cell_symbol (Some s) = symbol s
 abbrev pub same_shown : Option Status → Option Status → Bool
 same_shown m n = nat_eq (cell_symbol m) (cell_symbol n)
 
--- what so many cells show from one on
+-- what `count` cells show from one on
 abbrev pub marks_from : Frame → (domain : ℕ → Bool) → List Status → (first count : ℕ) → List (Option Status)
 marks_from f domain statuses first count = map (mark f domain statuses) (range_with_len first count)
 

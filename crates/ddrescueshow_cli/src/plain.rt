@@ -29,7 +29,7 @@ fn color_of(shown: Option<Status>) -> &'static str
     }
 }
 
-/// Adds so many cells in a color.
+/// Adds `count` cells in a color.
 pub(crate) fn add_block(
     text: &mut Vec<u8>,
     shown: Option<Status>,

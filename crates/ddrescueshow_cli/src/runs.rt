@@ -100,7 +100,7 @@ fn run_with(
     })
 }
 
-/// Adds the runs of so many cells of a row, from one on.
+/// Adds the runs of `count` cells of a row, from one on.
 pub(crate) fn add_runs<T: Tiles>(
     text: &mut Vec<u8>,
     form: Form,
