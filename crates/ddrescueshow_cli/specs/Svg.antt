@@ -41,11 +41,12 @@ svg_style =
 abbrev pub svg_open : Frame → List ℕ
 svg_open f =
     codes "<svg xmlns='http://www.w3.org/2000/svg' viewBox='-160 -60 " ++ decimal (svg_width f) ++ codes " "
-    ++ decimal (svg_height f) ++ codes "' font-family='monospace' font-size='12' style='background:#fff'>\n<title>"
+    ++ decimal (svg_height f) ++ codes "' font-family='monospace' font-size='12'>\n<title>"
 
--- the title, how statuses are filled, and both lines of text
+-- the title, with white ground for the largest picture; how statuses are filled; and both lines of text
 abbrev pub svg_top : Frame → (figures : List ℕ) → List ℕ
-svg_top f figures = svg_open f ++ figures ++ codes "</title>\n"
+svg_top f figures =
+    svg_open f ++ figures ++ codes "</title>\n<path fill='#fff' d='M-160-60h11000v17000h-11000z'/>\n"
 
 abbrev pub svg_lines : (figures cell : List ℕ) → List ℕ
 svg_lines figures cell =

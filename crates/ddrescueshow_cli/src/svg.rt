@@ -68,12 +68,12 @@ fn add_open(text: &mut Vec<u8>, frame: &Frame) -> Result<(), NoMemory>
     add_number(
         text,
         16 * frame.rows() + 220,
-        "' font-family='monospace' font-size='12' style='background:#fff'>\n<title>",
+        "' font-family='monospace' font-size='12'>\n<title>",
     )?;
     Ok(())
 }
 
-/// Adds where the picture is, and the title.
+/// Adds where the picture is, the title, and white ground for the largest picture.
 fn add_top(text: &mut Vec<u8>, frame: &Frame, summary: &Summary) -> Result<(), NoMemory>
     requires frame { IsFrame frame.now }
     requires part { (line_of summary.now 4).bytes ≤ summary.now.domain }
@@ -81,7 +81,10 @@ fn add_top(text: &mut Vec<u8>, frame: &Frame, summary: &Summary) -> Result<(), N
 {
     add_open(text, frame)?;
     add_figures(text, summary)?;
-    add(text, "</title>\n")
+    add(
+        text,
+        "</title>\n<path fill='#fff' d='M-160-60h11000v17000h-11000z'/>\n",
+    )
 }
 
 /// Adds the line of the figures.
