@@ -68,7 +68,7 @@ fn cause_of<'a>(
     put: Option<io::Error>,
 ) -> Option<Cause<'a>> {
     let (file, fact) = match ending {
-        ShowEnding::Done | ShowEnding::Usage(_) => return None,
+        ShowEnding::Done | ShowEnding::Usage(_) | ShowEnding::TooManyCells => return None,
         ShowEnding::SiteFault { call } => return fault_cause(command, call, site),
         ShowEnding::ConsoleFault => {
             let error = put?;

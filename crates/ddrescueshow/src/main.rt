@@ -9,7 +9,7 @@ use program_start::streams::{ClosedStream, fill_streams};
 use program_start::words::collect_words;
 use rescue_console::console::{Channel, Console};
 use rescue_console::system::StdConsole;
-use std::io;
+use std::io::{self, IsTerminal};
 use std::process::ExitCode;
 
 mod advice;
@@ -19,7 +19,8 @@ fn run(rt: HostRuntime) -> io::Result<u8> {
     let words = collect_words(&rt, "ddrescueshow")?;
     let mut site = FolderSite::new(rt.clone()?);
     let mut console = StdConsole::new(rt.clone()?);
-    let ending = ddrescueshow(rt.alloc(), &words, &mut site, &mut console);
+    let terminal = rt.stdout().is_terminal();
+    let ending = ddrescueshow(rt.alloc(), &words, &mut site, &mut console, terminal);
     if console.trouble(Channel::Err).is_none() {
         let put = console.trouble(Channel::Out);
         if let Some(line) = advise(rt.alloc(), &words, ending, &site, put) {

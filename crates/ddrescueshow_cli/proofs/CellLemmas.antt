@@ -1,14 +1,14 @@
 -- The cells of a picture tile it, and are the least.
-use Rattle.std.proofs.Common.{◌≡◌, ℕ, zero, suc, ◌+◌, ◌-◌, ◌*◌, ◌/◌, ◌<◌, ◌≤◌, min, max, refl, sym, ap, ◌∙◌, ⊎_elim, arith}
+use Rattle.std.proofs.Common.{◌≡◌, ℕ, suc, ◌+◌, ◌-◌, ◌*◌, ◌/◌, ◌^◌, ◌<◌, ◌≤◌, Option, Some, None, refl, ⊎_elim, arith}
 use Rattle.std.specs.Int.{div_ceil}
 use Rattle.std.proofs.lemmas.Bool.{cases_lt}
 use Rattle.std.proofs.lemmas.Grind.{div_ceil_times}
-use Rattle.std.proofs.Math.Nat.{div-mul-le_self, lt-div-mul-add, mul-le-mul_right, mul-le-mul_left, one-le-mul}
+use Rattle.std.proofs.Math.Nat.{div-mul-le_self, lt-div-mul-add, mul-le-mul_right, one-le-mul}
 use Rattle.ddrescueshow_words.specs.Command.{AreInLimits}
 use Rattle.ddrescueshow_words.specs.declared.options.ShowOptions.{ShowOptions}
 use Rattle.ddrescueshow_cli.specs.declared.frame.Frame.{Frame}
-use Rattle.ddrescueshow_cli.specs.Cells.{IsFrame, begin_of, cells_in, end_of, end_shown, frame_of, sectors_of}
-use Rattle.ddrescueshow_cli.specs.Laws.{AllCellsTile, CellsAreLeast, CellsTile, IsInCell, IsLeastCell}
+use Rattle.ddrescueshow_cli.specs.Cells.{IsFrame, cells_in, end_shown, frame_of, rows_in, sectors_of}
+use Rattle.ddrescueshow_cli.specs.Laws.{AllCellsTile, CellsAreLeast, IsInCell}
 
 -- a number of whole parts that isn't less than what is needed holds all
 holds_all : (a b k : ℕ) → 0 < b → div_ceil a b ≤ k → a ≤ k * b
@@ -87,3 +87,23 @@ cells_least o end limits =
           = needed_at_most span (o.sector * cells) fewer unit (omega (arith, holds, swapped)) in
           omega (arith, needed, few);
     }
+
+-- so the rows are no more than asked for, and the picture is one
+pub rows_fit : (o : ShowOptions) (end : ℕ) → AreInLimits o → rows_in (frame_of o end) ≤ o.rows
+rows_fit o end limits =
+    let turned : o.rows * o.width ≡ o.width * o.rows = omega arith in
+    needed_at_most (cells_in (frame_of o end)) o.width o.rows limits.width
+    (omega (arith, (cells_least o end limits).fits, turned))
+
+shown_below : (from : ℕ) (size : Option ℕ) (end : ℕ) → end_shown from size end ≤ end
+shown_below from None end = omega arith
+shown_below from (Some n) end = omega arith
+
+pub is_frame : (o : ShowOptions) (end : ℕ) → AreInLimits o → end < 2 ^ 63 → IsFrame (frame_of o end)
+is_frame o end limits short = record {
+  cell = one-le-mul limits.sector (omega arith);
+  width = limits.width;
+  wide = limits.width_max;
+  high = omega (arith, rows_fit o end limits, limits.rows_max);
+  short = omega (arith, shown_below o.input_position o.size end, short);
+}

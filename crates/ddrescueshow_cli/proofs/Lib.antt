@@ -1,5 +1,7 @@
 mod WalkLemmas
+mod TextLemmas
 mod DrawLemmas
+mod RunLemmas
 mod SizeLemmas
 mod LoadLemmas
 mod WorkedLemmas
@@ -9,3 +11,4 @@ mod CellLemmas
 mod MarkLemmas
 mod FigureLemmas
 mod StandLemmas
+mod SvgLemmas

@@ -12,12 +12,15 @@ use Rattle.save_resume.specs.declared.named.NamedFault.TheVariants.{ReadFailed, 
 use Rattle.save_resume.specs.Named.{LoadsNamed, IsNamedAs, NamedCounts}
 use Rattle.save_resume.specs.Resuming.{IsReadAs, IsRefusedFor, IsOfFile, LoadEnded, StarvedInLoad, BrokeInLoad}
 use Rattle.save_resume.proofs.AnswerLemmas.{read_is_not_refused}
+use Rattle.rescue_console.specs.ConsoleState.{ConsoleState}
+use Rattle.program_promise.specs.Causes.{Changed, none_rises}
 use Rattle.work_rules.proofs.LoadLemmas.{Ended, ended, RanOut, ran_out, BrokeOff, broke_off, read_through, read_refused, read_broke, read_starved}
 use Rattle.ddrescueshow_cli.specs.declared.ending.Which.{Which}
 use Rattle.ddrescueshow_cli.specs.declared.ending.ShowEnding.{ShowEnding}
 use Rattle.ddrescueshow_cli.specs.declared.ending.ShowEnding.TheVariants.{NoMap, MapRefused, SiteFault, NoMemory}
 use Rattle.ddrescueshow_cli.specs.Answers.{refusal_of}
 use Rattle.ddrescueshow_cli.specs.Work.{MapIsRefused, show_faults}
+use Rattle.ddrescueshow_cli.specs.Ddrescueshow.{handed}
 use Rattle.ddrescueshow_cli.specs.Steps.{ReadCause, ReadsMap, ReadsNamed}
 
 -- one that was read isn't refused
@@ -111,12 +114,24 @@ map_stopped which mode name (NotRead error) old new told of =
 map_stopped which mode name Starving old new told of = map_starved which mode name old new told
 
 -- and its cause
-pub stop_cause : (which : Which) (fault : NamedFault) (faults faults' : ℕ) → NamedCounts (Err fault) faults faults'
-    → ReadCause which (refusal_of which fault) faults faults'
-stop_cause which ReadFailed faults faults' counts = inr (inr (inr (refl, counts)))
-stop_cause which Absent faults faults' counts = inr (inl (refl, counts))
-stop_cause which (NotRead error) faults faults' counts = inr (inr (inl (error, refl, counts.1, counts.0)))
-stop_cause which Starving faults faults' counts = inl (refl, counts)
+unchanged_by : (old new : SiteState) → new.faults ≡ old.faults → (console : ConsoleState)
+    → Changed none_rises (handed old console) (handed new console)
+unchanged_by old new same console =
+    record { opens = refl; reads = refl; calls = same; takes = refl; puts = refl }
+
+pub stop_cause : (which : Which) (fault : NamedFault) (old new : SiteState)
+    → NamedCounts (Err fault) old.faults new.faults → ReadCause (refusal_of which fault) old new
+stop_cause which ReadFailed old new counts = record {
+  cause = λ console. record { opens = refl; reads = refl; calls = counts; takes = refl; puts = refl };
+  unput = λ terminal c found console. refl;
+  also = refl;
+}
+stop_cause which Absent old new counts =
+    record { cause = unchanged_by old new counts; unput = λ terminal c found console. refl; also = tt }
+stop_cause which (NotRead error) old new counts =
+    record { cause = unchanged_by old new counts.0; unput = λ terminal c found console. refl; also = counts.1 }
+stop_cause which Starving old new counts =
+    record { cause = unchanged_by old new counts; unput = λ terminal c found console. refl; also = tt }
 
 -- no map is named
 pub unnamed : (which : Which) (mode : Mode) (site : SiteState) → ReadsNamed which mode None (Ok None) site site

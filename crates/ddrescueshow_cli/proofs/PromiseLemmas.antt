@@ -1,11 +1,9 @@
--- The program is well made: its rows agree with its grammar and with its work. And maps bring one verdict at most.
-use Rattle.std.proofs.Common.{◌≡◌, ℕ, List, [], ◌∷◌, ◌++◌, Option, Some, None, Result, Ok, Err, refl, sym, ap, ◌∙◌, inl, inr, subst, arith}
+-- The program is well made: its rows agree with its grammar and with its work. And maps lead to one verdict at most.
+use Rattle.std.proofs.Common.{◌≡◌, ℕ, Bool, false, List, [], ◌∷◌, ◌++◌, Option, Some, None, Result, Ok, Err, refl, sym, ap, ◌∙◌, inl, inr, subst}
 use Rattle.mapfile_text.specs.declared.read.MapError.{MapError}
 use Rattle.mapfile_text.specs.declared.read.Mode.{Mode}
 use Rattle.mapfile_text.specs.declared.read.Mode.TheVariants.{Tight}
 use Rattle.crash_site.specs.Files.{File}
-use Rattle.crash_site.specs.SiteState.{SiteState}
-use Rattle.crash_site.specs.SiteChanges.{Stays}
 use Rattle.save_resume.specs.Named.{map_mode}
 use Rattle.save_resume.proofs.AnswerLemmas.{not_there, refused_for_one}
 use Rattle.option_words.specs.declared.fault.UsageFault.{UsageFault}
@@ -27,12 +25,12 @@ use Rattle.ddrescueshow_words.specs.Command.{Command, IsAsked, command_by, comma
 use Rattle.ddrescueshow_cli.specs.declared.ending.Which.{Which}
 use Rattle.ddrescueshow_cli.specs.declared.ending.Which.TheVariants.{RunMap, DomainMap}
 use Rattle.ddrescueshow_cli.specs.declared.ending.ShowEnding.{ShowEnding}
-use Rattle.ddrescueshow_cli.specs.declared.ending.ShowEnding.TheVariants.{Done, MapRefused, ConsoleFault}
+use Rattle.ddrescueshow_cli.specs.declared.ending.ShowEnding.TheVariants.{Done, MapRefused}
 use Rattle.ddrescueshow_cli.specs.Answers.{row_of}
 use Rattle.ddrescueshow_cli.specs.Work.{Found, MapIsRefused, PutsAll, ShowWorks, map_rows, show_faults}
 use Rattle.ddrescueshow_cli.specs.Ddrescueshow.{ShowWorked, show_program}
 use Rattle.ddrescueshow_cli.specs.Laws.{HasOneVerdict, IsVerdict, ShowKeepsPromises}
-use Rattle.ddrescueshow_cli.proofs.WorkedLemmas.{starved_done}
+use Rattle.ddrescueshow_cli.proofs.WorkedLemmas.{site_stays, starved_done}
 
 -- ---- the faults that words may have
 
@@ -70,7 +68,7 @@ put_works : (e : ShowEnding) (d : Deeds) → PutsAll e d → IsOfWork e
 put_works e d (inl done, idle) = subst IsOfWork (sym done) tt
 put_works e d (inr broke, idle) = subst IsOfWork (sym broke) tt
 
--- what a map that may be named brings, and what comes after it
+-- what a map that may be named leads to, and what comes after it
 read_works : (which : Which) (mode : Mode) (name : Option (List ℕ)) (file : Option File) (more : List (WorkStep ShowEnding))
     (e : ShowEnding) (d : Deeds) → ((x : Deeds) → Works show_faults more PutsAll e x → IsOfWork e)
     → Works show_faults (map_rows which mode name file ++ more) PutsAll e d → IsOfWork e
@@ -89,20 +87,14 @@ last_works e d (inr w) = put_works e d w
 
 work_answers : (c : Command) (found : Found) (e : ShowEnding) (d : Deeds) → ShowWorks c found e d → IsOfWork e
 work_answers c found e d (inl w) = subst IsOfWork (sym w.0) tt
-work_answers c found e d (inr w) =
+work_answers c found e d (inr (inl w)) = subst IsOfWork (sym w.0.1) tt
+work_answers c found e d (inr (inr (fits, w))) =
     read_works RunMap Tight (Some c.mapfile) found.mapfile
     (map_rows DomainMap (map_mode c.options.loose) c.domain_map found.domain ++ Take ∷ []) e d
     (λ x v. read_works DomainMap (map_mode c.options.loose) c.domain_map found.domain (Take ∷ []) e x (last_works e) v) w
 
-site_stays : (s : SiteState) → Stays s s
-site_stays s = record {
-  keeps = record { tells = refl; start = λ tells. refl; planned = refl; later = omega arith };
-  image = refl;
-  draft = refl;
-}
-
-pub show_made : IsWellMade show_program
-show_made = record {
+pub show_made : (terminal : Bool) → IsWellMade (show_program terminal)
+show_made terminal = record {
   memory = refl;
   memory_idle = record { also = tt; keeps = λ w begins. site_stays w.site };
   wrong = λ fault has. refl;
@@ -112,19 +104,20 @@ show_made = record {
   gives = λ words items operands fault is.
       refused_by IsPlainFault (command_in words items operands) fault
       (command_gives words items (options_in words items) operands) is;
-  starves = λ c line w begins. starved_done c line w;
+  starves = λ c line w begins. starved_done terminal c line w;
   work = λ c line e old new done. (work_answers c done.outside e done.did done.work, tt);
 }
 
-pub asked_done : (words : List (List ℕ)) (c : Command) (e : ShowEnding) (old new : WorldState) → IsAsked words c
-    → ShowWorked c words e old new → IsDone show_program words e c.options.quiet old new
-asked_done words c e old new a w =
-    asked show_program show_made words c e c.options.quiet old new a.asks a.alone a.quiet w
+pub asked_done : (terminal : Bool) (words : List (List ℕ)) (c : Command) (e : ShowEnding) (old new : WorldState)
+    → IsAsked words c → ShowWorked terminal c words e old new
+    → IsDone (show_program terminal) words e c.options.quiet old new
+asked_done terminal words c e old new a w =
+    asked (show_program terminal) (show_made terminal) words c e c.options.quiet old new a.asks a.alone a.quiet w
 
 -- ---- what is kept
 
 pub show_keeps_promises : ShowKeepsPromises
-show_keeps_promises = keeps_promises show_program show_made
+show_keeps_promises terminal = keeps_promises (show_program terminal) (show_made terminal)
 
 -- a map is refused for one reason
 refused_once : (which : Which) (mode : Mode) (name : Option (List ℕ)) (file : Option File)
@@ -141,8 +134,11 @@ done_is e d (inr broke, idle) v = absurd (subst IsVerdict broke v)
 
 pub has_one_verdict : HasOneVerdict
 has_one_verdict c found e e' d d' w w' v v' =
-    show_keeps_promises.verdict c [] found e e' d d' (
-      refused_once RunMap Tight (Some c.mapfile) found.mapfile,
-      (refused_once DomainMap (map_mode c.options.loose) c.domain_map found.domain, tt),
+    (show_keeps_promises false).verdict c [] found e e' d d' (
+      (λ a b is is'. is.1 ∙ sym is'.1),
+      (
+        refused_once RunMap Tight (Some c.mapfile) found.mapfile,
+        (refused_once DomainMap (map_mode c.options.loose) c.domain_map found.domain, tt),
+      ),
     )
     (λ a a' x x' r r' y y'. done_is a x r y ∙ sym (done_is a' x' r' y')) w w' v v'

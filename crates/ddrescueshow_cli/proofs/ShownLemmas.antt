@@ -1,5 +1,5 @@
 -- The picture of what was read is that of the maps.
-use Rattle.std.proofs.Common.{◌≡◌, ℕ, ◌<◌, ◌≤◌, Bool, true, false, ◌&&◌, nat_lt, nat_le, List, length, Option, Some, None, refl, sym, ap, ◌∙◌, arith}
+use Rattle.std.proofs.Common.{◌≡◌, ℕ, ◌<◌, Bool, true, ◌&&◌, nat_lt, nat_le, List, length, Option, Some, None, sym, ap, ◌∙◌, arith}
 use Rattle.std.proofs.Math.Path.{fun_ext}
 use Rattle.std.proofs.lemmas.Bool.{and_parts}
 use Rattle.std.proofs.lemmas.Bool.Decides.{nat_tests}
@@ -10,9 +10,10 @@ use Rattle.rescue_domain.specs.Finished.{is_finished_at}
 use Rattle.rescue_domain.specs.Parts.{covers}
 use Rattle.map_algebra.specs.At.{IsWithinMap}
 use Rattle.ddrescueshow_words.specs.Command.{Command}
+use Rattle.ddrescueshow_cli.specs.declared.form.Form.{Form}
 use Rattle.ddrescueshow_cli.specs.declared.frame.Frame.{Frame}
 use Rattle.ddrescueshow_cli.specs.Cells.{frame_of}
-use Rattle.ddrescueshow_cli.specs.Picture.{picture_text}
+use Rattle.ddrescueshow_cli.specs.Picture.{form_of, picture_text}
 use Rattle.ddrescueshow_cli.specs.Work.{Maps, domain_of, text_of}
 
 -- a position of the domain lies in the map
@@ -37,10 +38,13 @@ shown_within c statuses map parts same = record {
       in_map_within c.options.input_position c.options.size (length statuses) x map (sym (same x) ∙ inside);
 }
 
-pub shown_text : (c : Command) (statuses : List Status) (map : Option (List Status)) (parts : List Range) (f : Frame)
-    (text : List ℕ) → f ≡ frame_of c.options (length statuses)
+pub shown_text : (terminal : Bool) (c : Command) (statuses : List Status) (map : Option (List Status)) (parts : List Range)
+    (form : Form) (f : Frame) (text : List ℕ) → form ≡ form_of c.options terminal
+    → f ≡ frame_of c.options (length statuses)
     → ((x : ℕ) → covers parts x ≡ domain_of c (maps_of statuses map) x)
-    → text ≡ picture_text f (covers parts) statuses → text ≡ text_of c (maps_of statuses map)
-shown_text c statuses map parts f text frame same is =
-    is ∙ ap (λ (d : ℕ → Bool). picture_text f d statuses) (fun_ext same)
-    ∙ ap (λ (g : Frame). picture_text g (domain_of c (maps_of statuses map)) statuses) frame
+    → text ≡ picture_text form f (covers parts) statuses → text ≡ text_of terminal c (maps_of statuses map)
+shown_text terminal c statuses map parts form f text is_form is_frame same is =
+    is ∙ ap (λ (d : ℕ → Bool). picture_text form f d statuses) (fun_ext same)
+    ∙ ap (λ (g : Frame). picture_text form g (domain_of c (maps_of statuses map)) statuses) is_frame
+    ∙ ap (λ (k : Form). picture_text k (frame_of c.options (length statuses)) (domain_of c (maps_of statuses map)) statuses)
+    is_form

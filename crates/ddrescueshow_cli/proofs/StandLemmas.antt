@@ -1,5 +1,5 @@
 -- All files read as they did, since maps are read and nothing else is called.
-use Rattle.std.proofs.Common.{◌≡◌, ℕ, IsTrue, List, [], ◌∷◌, ◌++◌, map, Option, Some, None, refl, sym, ap, ◌∙◌, inl, inr}
+use Rattle.std.proofs.Common.{◌≡◌, ℕ, Bool, List, [], ◌∷◌, ◌++◌, map, Option, Some, None, ap, ◌∙◌, inl, inr}
 use Rattle.mapfile_text.specs.declared.read.Mode.{Mode}
 use Rattle.mapfile_text.specs.declared.read.Mode.TheVariants.{Tight}
 use Rattle.crash_site.specs.declared.site.SiteCall.TheVariants.{MapRead}
@@ -13,7 +13,7 @@ use Rattle.save_resume.specs.Named.{map_mode}
 use Rattle.work_rules.specs.Work.{Deeds, Take, WorkStep, Works}
 use Rattle.work_rules.proofs.FrontLemmas.{broken_stands, load_reads, reads_stand}
 use Rattle.program_promise.specs.World.{WorldState, Told}
-use Rattle.program_promise.specs.Promise.{DoneFor, Says, Nothing, Message}
+use Rattle.program_promise.specs.Promise.{Says, Nothing, Message}
 use Rattle.ddrescueshow_words.specs.Command.{Command}
 use Rattle.ddrescueshow_cli.specs.declared.ending.Which.{Which}
 use Rattle.ddrescueshow_cli.specs.declared.ending.Which.TheVariants.{RunMap, DomainMap}
@@ -57,18 +57,20 @@ last_stands e d (inr w) = none_stand d.gain.calls w.1.gain.calls
 
 work_stands : (c : Command) (found : Found) (e : ShowEnding) (d : Deeds) → ShowWorks c found e d → Stand d.gain.calls
 work_stands c found e d (inl w) = none_stand d.gain.calls w.1.gain.calls
-work_stands c found e d (inr w) =
+work_stands c found e d (inr (inl w)) = none_stand d.gain.calls w.1.gain.calls
+work_stands c found e d (inr (inr (fits, w))) =
     read_stands RunMap Tight (Some c.mapfile) found.mapfile
     (map_rows DomainMap (map_mode c.options.loose) c.domain_map found.domain ++ Take ∷ []) e d
     (λ x v. read_stands DomainMap (map_mode c.options.loose) c.domain_map found.domain (Take ∷ []) e x (last_stands e) v) w
 
 -- what is said changes no file
-said_stands : (t : Told ShowEnding) (between : WorldState) → Says show_program t between → t.after.site ≡ between.site
-said_stands t between (Nothing why is) = ap (λ (w : WorldState). w.site) is
-said_stands t between (Message loud quiet is puts plan) = ap (λ (w : WorldState). w.site) is
+said_stands : (terminal : Bool) (t : Told ShowEnding) (between : WorldState) → Says (show_program terminal) t between
+    → t.after.site ≡ between.site
+said_stands terminal t between (Nothing why is) = ap (λ (w : WorldState). w.site) is
+said_stands terminal t between (Message loud quiet is puts plan) = ap (λ (w : WorldState). w.site) is
 
 pub all_files_stand : FilesStand
-all_files_stand t c d asks tells name =
+all_files_stand terminal t c d asks tells name =
     let done = d.asked_for c asks in
     let old : SiteState = t.before.site in
     let new : SiteState = d.between.site in
@@ -78,5 +80,5 @@ all_files_stand t c d asks tells name =
     ∙ ap (after old.start) (done.agrees.calls tells)
     ∙ after-append old.start old.calls done.did.gain.calls
     ∙ work_stands c done.outside t.answer done.did done.work (after old.start old.calls) in
-    ap (λ (s : SiteState). files_in s name) (said_stands t d.between d.says)
+    ap (λ (s : SiteState). files_in s name) (said_stands terminal t d.between d.says)
     ∙ ap (λ (f : Folder). f.files name) folder

@@ -1,28 +1,15 @@
 -- What a walk along positions has seen of them.
-use Rattle.std.proofs.Common.{◌≡◌, ℕ, zero, suc, ◌+◌, ◌-◌, ◌<◌, ◌≤◌, Bool, true, false, ◌&&◌, ◌||◌, List, [], ◌∷◌, refl, sym, ap, ◌∙◌, arith}
+use Rattle.std.proofs.Common.{◌≡◌, ℕ, zero, suc, ◌+◌, ◌-◌, ◌<◌, ◌≤◌, Bool, true, false, ◌&&◌, ◌||◌, List, refl, sym, ap, ◌∙◌, arith}
 use Rattle.std.specs.List.{list_any, range_with_len}
 use Rattle.std.proofs.Math.Bool.{or_assoc}
 use Rattle.std.proofs.Math.Path.{fun_ext}
-use Rattle.std.proofs.lemmas.Option.{get_or_from_slice_get}
-use Rattle.block_list.specs.declared.block.Block.{Block}
 use Rattle.block_list.specs.declared.status.Status.{Status}
-use Rattle.block_list.specs.declared.status.Status.TheVariants.{NonTried}
 use Rattle.block_list.specs.Status.{same}
-use Rattle.block_list.specs.Stretches.{IsStretchAt}
 use Rattle.rescue_domain.specs.Stretch.{IsConstant}
 use Rattle.map_algebra.specs.At.{status_at}
 use Rattle.map_algebra.specs.Summary.{has_status}
 use Rattle.ddrescueshow_cli.specs.declared.cells.Seen.{Seen}
 use Rattle.ddrescueshow_cli.specs.Cells.{has_some, is_seen, worst_by}
-
--- from a position on a map keeps its status up to the end of the stretch that holds it
-pub constant_in : (map : List Status) (x to : ℕ) (b : Block) → IsStretchAt map x b → x < to → to ≤ b.pos + b.size
-    → IsConstant (status_at map) x to b.status
-constant_in map x to b k some within = record {
-  some = some;
-  each = λ y l u. get_or_from_slice_get map y b.status NonTried
-      (k.stretch.has y (omega (arith, l, k.begun)) (omega (arith, u, within)));
-}
 
 abbrev any_of : (ℕ → Bool) → ℕ → ℕ → Bool
 any_of p from n = list_any p (range_with_len from n)

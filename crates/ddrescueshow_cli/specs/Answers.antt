@@ -11,7 +11,7 @@ use Rattle.program_promise.specs.Rows.{AnswerRow, asked_row, brought_row, failed
 use Rattle.ddrescueshow_cli.specs.declared.ending.Which.{Which}
 use Rattle.ddrescueshow_cli.specs.declared.ending.Which.TheVariants.{RunMap, DomainMap}
 use Rattle.ddrescueshow_cli.specs.declared.ending.ShowEnding.{ShowEnding}
-use Rattle.ddrescueshow_cli.specs.declared.ending.ShowEnding.TheVariants.{Done, Usage, NoMap, MapRefused, SiteFault, ConsoleFault, NoMemory}
+use Rattle.ddrescueshow_cli.specs.declared.ending.ShowEnding.TheVariants.{Done, Usage, TooManyCells, NoMap, MapRefused, SiteFault, ConsoleFault, NoMemory}
 use Rattle.ddrescueshow_cli.specs.Names.{program_name}
 
 -- which map it is
@@ -23,6 +23,7 @@ which_text DomainMap = codes "domain mapfile"
 abbrev pub row_of : ShowEnding → AnswerRow
 row_of Done = asked_row 0
 row_of (Usage fault) = wrong_row fault
+row_of TooManyCells = brought_row 1 (codes "more than 16000 cells in SVG")
 row_of (NoMap which) = brought_row 1 (which_text which ++ codes " does not exist")
 row_of (MapRefused which error) =
     only_where (brought_row 2 (which_text which ++ codes ": " ++ error_text error)) (error ≢ OutOfMemory)

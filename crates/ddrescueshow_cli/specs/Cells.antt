@@ -1,6 +1,6 @@
 -- The cells of a picture: into which ranges of positions it divides what it shows, and what each cell shows of its
 -- range.
-use Rattle.std.specs.Prelude.{ℕ, ◌+◌, ◌-◌, ◌*◌, ◌^◌, ◌<◌, min, max, Bool, List, Option, Some, None, if◌then◌else◌}
+use Rattle.std.specs.Prelude.{ℕ, ◌+◌, ◌-◌, ◌*◌, ◌^◌, ◌<◌, ◌≤◌, min, max, Bool, List, Option, Some, None, if◌then◌else◌}
 use Rattle.std.specs.Int.{div_ceil}
 use Rattle.std.specs.List.{list_any, range_with_len}
 use Rattle.block_list.specs.declared.status.Status.{Status}
@@ -46,10 +46,13 @@ end_of f k = min f.to (begin_of f k + f.cell)
 abbrev pub cells_of_row : Frame → (row : ℕ) → ℕ
 cells_of_row f row = min f.width (cells_in f - row * f.width)
 
--- a picture's cells and rows aren't empty, and its positions are below 2^63
+-- a picture's cells and rows aren't empty, it has at most 1,000 rows of at most 1,000 cells, and its positions are below
+-- 2^63
 pub record IsFrame (f : Frame) : Type 0 where
   pub cell : 0 < f.cell
   pub width : 0 < f.width
+  pub wide : f.width ≤ 1000
+  pub high : rows_in f ≤ 1000
   pub short : f.to < 2 ^ 63
 
 -- some position of the domain, from one position up to another, has a status

@@ -19,9 +19,10 @@ abbrev pub handed : SiteState → ConsoleState → WorldState
 handed site console =
     record { source = no_source; site = site; clock = no_clock; feed_ = no_feed; console = console }
 
--- The program's work finds the files of the maps outside of it, and leaves the picture on standard output.
-abbrev pub show_program : Program Command ShowEnding Found
-show_program = record {
+-- The program's work finds the files of the maps outside of it, and leaves the picture on standard output, which may be
+-- a terminal.
+abbrev pub show_program : (terminal : Bool) → Program Command ShowEnding Found
+show_program terminal = record {
   name = program_name;
   grammar = show_grammar;
   HasFault = IsPlainFault;
@@ -32,19 +33,19 @@ show_program = record {
   rows = show_rows;
   Run = λ c line found. PutsAll;
   Agrees = λ c found did old new. Agrees c found did old.site new.site;
-  Leaves = λ c line found e did old new. LeavesAs c found e old.console new.console;
+  Leaves = λ c line found e did old new. LeavesAs terminal c found e old.console new.console;
   Begins = λ w. ⊤;
   Keeps = λ e old new. Stays old.site new.site;
 }
 
 -- what is done for a command
-abbrev pub ShowWorked : Command → (words : List (List ℕ)) → ShowEnding → (old new : WorldState) → Type 0
-ShowWorked c words e old new = Worked show_program c words e old new
+abbrev pub ShowWorked : (terminal : Bool) → Command → (words : List (List ℕ)) → ShowEnding → (old new : WorldState) → Type 0
+ShowWorked terminal c words e old new = Worked (show_program terminal) c words e old new
 
 -- what is done before any message is put
-abbrev pub ShowDone : (words : List (List ℕ)) → ShowEnding → (quiet : Bool) → (old new : WorldState) → Type 0
-ShowDone words e quiet old new = IsDone show_program words e quiet old new
+abbrev pub ShowDone : (terminal : Bool) → (words : List (List ℕ)) → ShowEnding → (quiet : Bool) → (old new : WorldState) → Type 0
+ShowDone terminal words e quiet old new = IsDone (show_program terminal) words e quiet old new
 
 -- What is promised of a call.
-abbrev pub Ddrescueshow : Told ShowEnding → Type 0
-Ddrescueshow t = Promise show_program t
+abbrev pub Ddrescueshow : (terminal : Bool) → Told ShowEnding → Type 0
+Ddrescueshow terminal t = Promise (show_program terminal) t

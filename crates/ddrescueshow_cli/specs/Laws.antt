@@ -1,5 +1,6 @@
 -- What the definitions mean.
-use Rattle.std.specs.Prelude.{◌≡◌, ◌↔◌, ℕ, ◌+◌, ◌*◌, ◌<◌, ◌≤◌, ◌^◌, Bool, true, false, IsTrue, List, [], ◌∷◌, length, Option, Some, None, codes}
+use Rattle.std.specs.Prelude.{◌≡◌, ◌↔◌, ℕ, ◌+◌, ◌*◌, ◌<◌, ◌≤◌, ◌^◌, Bool, true, false, IsTrue, List, [], ◌∷◌, ◌++◌, length, map, replicate, Option, Some, None, codes}
+use Rattle.std.specs.List.{flat_map}
 use Rattle.block_list.specs.declared.status.Status.{Status}
 use Rattle.block_list.specs.declared.status.Status.TheVariants.{NonTried, NonTrimmed, NonScraped, BadSector, Finished}
 use Rattle.crash_site.specs.SiteState.{files_in}
@@ -7,16 +8,21 @@ use Rattle.map_algebra.specs.At.{status_at}
 use Rattle.map_algebra.specs.Compare.{IsDoneIn}
 use Rattle.map_algebra.specs.Summary.{summary_of}
 use Rattle.program_promise.specs.World.{Told}
-use Rattle.program_promise.specs.WellMade.{IsVerdict as IsVerdictOf}
+use Rattle.program_promise.specs.Kinds.{IsVerdictKind}
 use Rattle.program_promise.specs.Laws.{KeepsPromises}
 use Rattle.work_rules.specs.Work.{Deeds}
 use Rattle.ddrescueshow_words.specs.Command.{AreInLimits, Asks, Command}
+use Rattle.ddrescueshow_words.specs.declared.options.Coloring.TheVariants.{Auto}
 use Rattle.ddrescueshow_words.specs.declared.options.ShowOptions.{ShowOptions}
 use Rattle.ddrescueshow_cli.specs.declared.ending.ShowEnding.{ShowEnding}
+use Rattle.ddrescueshow_cli.specs.declared.form.Form.TheVariants.{Plain, Svg}
 use Rattle.ddrescueshow_cli.specs.declared.frame.Frame.{Frame}
+use Rattle.ddrescueshow_cli.specs.declared.runs.Run.{Run}
 use Rattle.ddrescueshow_cli.specs.Cells.{IsFrame, begin_of, cells_in, end_of, end_shown, frame_of, mark, rows_in}
-use Rattle.ddrescueshow_cli.specs.Picture.{line_of, row_symbols, share}
-use Rattle.ddrescueshow_cli.specs.Work.{Found, ShowWorks}
+use Rattle.ddrescueshow_cli.specs.Answers.{row_of}
+use Rattle.ddrescueshow_cli.specs.Runs.{cell_symbol, marks_of, runs_of}
+use Rattle.ddrescueshow_cli.specs.Picture.{line_of, picture_text, run_text, share}
+use Rattle.ddrescueshow_cli.specs.Work.{Found, ShowWorks, is_too_large}
 use Rattle.ddrescueshow_cli.specs.Ddrescueshow.{Ddrescueshow, show_program}
 
 -- ---- the cells
@@ -75,6 +81,29 @@ MarksHideNothing = (f : Frame) (domain : ℕ → Bool) (statuses : List Status) 
     → (badness s ≤ badness_of (mark f domain statuses k))
     ↔ HasAsBad domain statuses (begin_of f k) (end_of f k) s
 
+-- ---- the runs
+
+-- runs follow one another from a cell of a row on, and are these cells, each once
+abbrev pub AreCells : (from : ℕ) → List Run → List (Option Status) → Type 0
+AreCells from [] marks = marks ≡ []
+AreCells from (r ∷ rs) marks =
+    (rest : List (Option Status)) × (r.from ≡ from) × (0 < r.count) × (marks ≡ replicate r.count r.shown ++ rest)
+    × AreCells (from + r.count) rs rest
+
+-- The runs of a row, which SVG has as rectangles, are its cells.
+abbrev pub RunsAreCells : Type 0
+RunsAreCells = (marks : List (Option Status)) → AreCells 0 (runs_of marks) marks
+
+-- Without color a row has the character of each of its cells.
+abbrev pub PlainRowsAreCells : Type 0
+PlainRowsAreCells = (marks : List (Option Status)) → flat_map (run_text Plain) (runs_of marks) ≡ map cell_symbol marks
+
+-- A picture in SVG is shorter than 1 MiB, unless it is refused.
+abbrev pub SvgIsShort : Type 0
+SvgIsShort = (o : ShowOptions) (domain : ℕ → Bool) (statuses : List Status) → AreInLimits o → o.svg ≡ true
+    → is_too_large o ≡ false → length statuses < 2 ^ 63
+    → length (picture_text Svg (frame_of o (length statuses)) domain statuses) < 2 ^ 20
+
 -- ---- the figures
 
 -- The share is 100.00 % exactly if each position of the domain is finished.
@@ -88,11 +117,11 @@ AllIsFinishedAt100 = (domain : ℕ → Bool) (statuses : List Status)
 
 -- What every program keeps.
 abbrev pub ShowKeepsPromises : Type 0
-ShowKeepsPromises = KeepsPromises show_program
+ShowKeepsPromises = (terminal : Bool) → KeepsPromises (show_program terminal)
 
--- an answer that the maps lead to, whatever reads, puts and memory do
+-- an answer that the words and the maps lead to, whatever reads, puts and memory do
 abbrev pub IsVerdict : ShowEnding → Type 0
-IsVerdict e = IsVerdictOf show_program e
+IsVerdict e = IsVerdictKind (row_of e).kind
 
 -- The files lead to one such answer at most.
 abbrev pub HasOneVerdict : Type 0
@@ -101,7 +130,7 @@ HasOneVerdict = (c : Command) (found : Found) (e e' : ShowEnding) (d d' : Deeds)
 
 -- Whatever is asked for, and however it ends, all files read as they did.
 abbrev pub FilesStand : Type 0
-FilesStand = (t : Told ShowEnding) (c : Command) → Ddrescueshow t → Asks t.words c → IsTrue t.before.site.tells
+FilesStand = (terminal : Bool) (t : Told ShowEnding) (c : Command) → Ddrescueshow terminal t → Asks t.words c → IsTrue t.before.site.tells
     → (name : List ℕ) → files_in t.after.site name ≡ files_in t.before.site name
 
 -- ---- a small picture
@@ -118,15 +147,22 @@ small_options = record {
   size = None;
   width = 4;
   rows = 2;
+  coloring = Auto;
+  svg = false;
   loose = false;
   quiet = false;
 }
 
--- The small map's picture has two rows, `++-+` and `?`; 8 of its 10 bytes are rescued, which is 80.00 %.
+abbrev pub small_runs : (row : ℕ) → List Run
+small_runs row = runs_of (marks_of (frame_of small_options 10) (λ x. true) small_map row)
+
+-- The small map's picture has two rows, `++-+` and `?`, the first one in three runs; 8 of its 10 bytes are rescued, which
+-- is 80.00 %.
 abbrev pub SmallPicture : Type 0
 SmallPicture =
     (frame_of small_options 10 ≡ record { from = 0; to = 10; cell = 2; width = 4 })
-    × (rows_in (frame_of small_options 10) ≡ 2)
-    × (row_symbols (frame_of small_options 10) (λ x. true) small_map 0 ≡ codes "++-+")
-    × (row_symbols (frame_of small_options 10) (λ x. true) small_map 1 ≡ codes "?")
+    × (rows_in (frame_of small_options 10) ≡ 2) × (flat_map (run_text Plain) (small_runs 0) ≡ codes "++-+")
+    × (flat_map (run_text Plain) (small_runs 1) ≡ codes "?")
+    × (small_runs 0 ≡ record { from = 0; count = 2; shown = Some Finished }
+    ∷ record { from = 2; count = 1; shown = Some BadSector } ∷ record { from = 3; count = 1; shown = Some Finished } ∷ [])
     × ((line_of (summary_of (λ x. true) small_map) 4).bytes ≡ 8) × (share 8 10 ≡ 8000)

@@ -1,5 +1,7 @@
 pub mod Names
 pub mod Cells
+pub mod Runs
+pub mod Svg
 pub mod Picture
 pub mod Answers
 pub mod Work

@@ -1,5 +1,5 @@
 -- The work of `ddrescueshow`: the maps that its words name are read, and the picture of them is put.
-use Rattle.std.specs.Prelude.{◌≡◌, ◌⊎◌, ℕ, Bool, true, IsTrue, List, [], ◌∷◌, ◌++◌, length, Option, Some, None, is_some}
+use Rattle.std.specs.Prelude.{◌≡◌, ◌⊎◌, ℕ, ◌*◌, Bool, true, ◌&&◌, nat_lt, IsTrue, List, [], ◌∷◌, ◌++◌, length, Option, Some, None, is_some}
 use Rattle.block_list.specs.declared.status.Status.{Status}
 use Rattle.mapfile_text.specs.declared.read.MapError.{MapError}
 use Rattle.mapfile_text.specs.declared.read.Mode.{Mode}
@@ -13,14 +13,15 @@ use Rattle.rescue_console.specs.ConsoleState.{ConsoleState, Puts, PutsPart}
 use Rattle.rescue_domain.specs.Domain.{in_map, whole_domain}
 use Rattle.work_rules.specs.Work.{Deeds, IsIdle, Faults, WorkStep, Take, Look, Read, Works}
 use Rattle.program_promise.specs.Printing.{PutsByKind}
+use Rattle.ddrescueshow_words.specs.declared.options.ShowOptions.{ShowOptions}
 use Rattle.ddrescueshow_words.specs.Command.{Command}
 use Rattle.ddrescueshow_cli.specs.declared.ending.Which.{Which}
 use Rattle.ddrescueshow_cli.specs.declared.ending.Which.TheVariants.{RunMap, DomainMap}
 use Rattle.ddrescueshow_cli.specs.declared.ending.ShowEnding.{ShowEnding}
-use Rattle.ddrescueshow_cli.specs.declared.ending.ShowEnding.TheVariants.{Done, NoMap, MapRefused, SiteFault, ConsoleFault, NoMemory}
+use Rattle.ddrescueshow_cli.specs.declared.ending.ShowEnding.TheVariants.{Done, TooManyCells, NoMap, MapRefused, SiteFault, ConsoleFault, NoMemory}
 use Rattle.ddrescueshow_cli.specs.Answers.{row_of}
 use Rattle.ddrescueshow_cli.specs.Cells.{frame_of}
-use Rattle.ddrescueshow_cli.specs.Picture.{picture_text}
+use Rattle.ddrescueshow_cli.specs.Picture.{form_of, picture_text}
 
 -- how faults are answered; no input is opened
 abbrev pub show_faults : Faults ShowEnding
@@ -53,11 +54,18 @@ MapIsRefused which mode name file e =
 abbrev pub map_rows : Which → Mode → (name : Option (List ℕ)) → (file : Option File) → List (WorkStep ShowEnding)
 map_rows which mode name file = Read name file ∷ Look (MapIsRefused which mode name file) ∷ []
 
--- The rows before the picture is put: memory may run out, the mapfile is read and then the domain map, and memory for
--- the picture may run out.
+-- A picture in SVG has at most 16,000 cells: more wouldn't stay below 1 MiB.
+abbrev pub is_too_large : ShowOptions → Bool
+is_too_large o = o.svg && nat_lt 16000 (o.width * o.rows)
+
+abbrev pub IsTooLarge : ShowOptions → ShowEnding → Type 0
+IsTooLarge o e = (is_too_large o ≡ true) × (e ≡ TooManyCells)
+
+-- The rows before the picture is put: memory may run out, the picture may be too large, the mapfile is read and then the
+-- domain map, and memory for the picture may run out.
 abbrev pub show_rows : Command → Found → List (WorkStep ShowEnding)
 show_rows c found =
-    Take
+    Take ∷ Look (IsTooLarge c.options)
     ∷ (map_rows RunMap Tight (Some c.mapfile) found.mapfile
     ++ map_rows DomainMap (map_mode c.options.loose) c.domain_map found.domain ++ Take ∷ [])
 
@@ -97,19 +105,20 @@ pub record AreMapsOf (c : Command) (found : Found) (m : Maps) : Type 0 where
 abbrev pub domain_of : Command → Maps → ℕ → Bool
 domain_of c m = in_map (whole_domain c.options.input_position c.options.size (length m.statuses)) m.domain
 
--- the picture of a command's maps
-abbrev pub text_of : Command → Maps → List ℕ
-text_of c m = picture_text (frame_of c.options (length m.statuses)) (domain_of c m) m.statuses
+-- the picture of a command's maps, by whether standard output is a terminal
+abbrev pub text_of : (terminal : Bool) → Command → Maps → List ℕ
+text_of terminal c m =
+    picture_text (form_of c.options terminal) (frame_of c.options (length m.statuses)) (domain_of c m) m.statuses
 
 -- the picture of the maps that the files are was put, or a beginning of it
-pub record PutsPicture (c : Command) (found : Found) (Put : (text : List ℕ) → Type 0) : Type 0 where
+pub record PutsPicture (terminal : Bool) (c : Command) (found : Found) (Put : (text : List ℕ) → Type 0) : Type 0 where
   pub maps : Maps
   pub are : AreMapsOf c found maps
-  pub puts : Put (text_of c maps)
+  pub puts : Put (text_of terminal c maps)
 
 -- What is left by the answer: on standard output the picture, or if the put failed a beginning of it; and after every
 -- refusal, or if memory ran out, nothing.
-abbrev pub LeavesAs : Command → Found → ShowEnding → (old new : ConsoleState) → Type 0
-LeavesAs c found e old new =
-    PutsByKind (row_of e).kind (PutsPicture c found (λ text. Puts Out text old new))
-    (PutsPicture c found (λ text. PutsPart Out text old new)) (new ≡ old) old new
+abbrev pub LeavesAs : (terminal : Bool) → Command → Found → ShowEnding → (old new : ConsoleState) → Type 0
+LeavesAs terminal c found e old new =
+    PutsByKind (row_of e).kind (PutsPicture terminal c found (λ text. Puts Out text old new))
+    (PutsPicture terminal c found (λ text. PutsPart Out text old new)) (new ≡ old) old new

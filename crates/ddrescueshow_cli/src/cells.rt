@@ -1,60 +1,14 @@
 //! What the positions of a cell have.
-ghost use Rattle.std.specs.Prelude.{◌≡◌, ◌<◌, ◌≤◌, ◌&&◌, ◌||◌, false, length};
+ghost use Rattle.std.specs.Prelude.{◌≡◌, ◌≤◌, ◌&&◌, ◌||◌, false, length};
 ghost use Rattle.block_list.specs.declared.status.Status.{Status as StatusOf};
 ghost use Rattle.block_list.specs.Status.{same};
 ghost use Rattle.rescue_domain.specs.Parts.{covers};
-ghost use Rattle.rescue_domain.specs.Stretch.{IsConstant};
-ghost use Rattle.map_algebra.specs.At.{status_at};
 ghost use Rattle.ddrescueshow_cli.specs.Cells.{is_seen, worst, worst_by};
 
-use block_list::near::Near;
 use block_list::status::Status;
 use block_list::tiles::Tiles;
+use map_algebra::pieces::{DomainPiece, Nearby, piece_at};
 use rescue_domain::domain::Domain;
-
-/// Where to look first, in a map and in a domain. It changes no answer; a walk upwards with one of these goes over the
-/// stretches of the map and the intervals of the domain once.
-#[derive(Clone, Copy)]
-pub(crate) struct Nearby {
-    map: Near,
-    part: usize,
-}
-
-impl Nearby {
-    /// At the first stretch and the first interval.
-    pub(crate) fn start() -> Nearby {
-        Nearby {
-            map: Near::start(),
-            part: 0,
-        }
-    }
-}
-
-/// Positions up to `to` of one status, all of them in a domain, or none.
-#[derive(Clone, Copy)]
-struct Piece {
-    to: u64,
-    status: Status,
-    inside: bool,
-}
-
-/// The piece at a position of a map, up to a limit at most.
-fn piece_at<T: Tiles>(tiles: &T, domain: &Domain, near: &mut Nearby, x: u64, limit: u64) -> Piece
-    requires some { x < limit }
-    requires within { limit ≤ length (T.statuses tiles.now) }
-    ensures status { IsConstant (status_at (T.statuses tiles.now)) x result.to result.status }
-    ensures inside { IsConstant (covers domain.now) x result.to result.inside }
-    ensures limit { result.to ≤ limit }
-{
-    let block = tiles.stretch_near(&mut near.map, x);
-    let end = limit.min(block.pos.saturating_add(block.size));
-    let part = domain.stretch_at(&mut near.part, x, end);
-    Piece {
-        to: part.to,
-        status: block.status,
-        inside: part.inside,
-    }
-}
 
 /// Which statuses were seen.
 #[derive(Clone, Copy)]
@@ -81,7 +35,7 @@ impl Seen {
     }
 
     /// The statuses that were seen, with the status of a piece, if the piece is in the domain.
-    fn with(self, piece: Piece) -> Seen
+    fn with(self, piece: DomainPiece) -> Seen
         ensures { (s : StatusOf) → is_seen result s ≡ (is_seen self s || (piece.inside && same piece.status s)) }
     {
         if !piece.inside {

@@ -23,6 +23,8 @@ pub enum ShowEnding {
     Done,
     /// The words ask for nothing that can be done.
     Usage(UsageFault),
+    /// The options ask for more cells than are put in SVG.
+    TooManyCells,
     /// A map that is named isn't there.
     NoMap(Which),
     /// A map's text is no map, or is too long.

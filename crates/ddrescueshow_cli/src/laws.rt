@@ -1,5 +1,5 @@
 //! What the definitions mean.
-ghost use Rattle.ddrescueshow_cli.specs.Laws.{AllCellsTile, AllIsFinishedAt100, CellsAreLeast, FilesStand, HasOneVerdict, MarksHideNothing, ShowKeepsPromises, SmallPicture};
+ghost use Rattle.ddrescueshow_cli.specs.Laws.{AllCellsTile, AllIsFinishedAt100, CellsAreLeast, FilesStand, HasOneVerdict, MarksHideNothing, PlainRowsAreCells, RunsAreCells, ShowKeepsPromises, SmallPicture, SvgIsShort};
 
 /// Each position of what is shown is in one cell, and no other position is in any.
 pub fn cells_tile_the_picture()
@@ -14,6 +14,21 @@ pub fn cells_are_least()
 /// A cell hides nothing that is worse than what it shows, and shows nothing that isn't there.
 pub fn marks_hide_nothing()
     ensures { MarksHideNothing }
+{}
+
+/// The runs of a row are its cells, each once.
+pub fn runs_are_cells()
+    ensures { RunsAreCells }
+{}
+
+/// Without color a row has the character of each of its cells.
+pub fn plain_rows_are_cells()
+    ensures { PlainRowsAreCells }
+{}
+
+/// A picture in SVG is shorter than 1 MiB.
+pub fn svg_is_short()
+    ensures { SvgIsShort }
 {}
 
 /// The picture says 100.00 % exactly if all is finished.

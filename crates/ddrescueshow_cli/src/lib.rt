@@ -3,10 +3,15 @@
 
 mod cells;
 pub mod ending;
+mod figures;
+mod form;
 pub mod frame;
 pub mod laws;
 mod load;
 mod message;
 mod picture;
+mod plain;
+mod runs;
 pub mod show;
+mod svg;
 mod text;

@@ -21,7 +21,7 @@ pub(crate) fn read_map<D: Site>(
 ) -> Result<PlainTiles, ShowEnding>
     ensures told { ReadsMap which (map_mode loose) name.now result (D.state site.old) (D.state site.new) }
     ensures kept { OnOk result ((D.state site.new).faults ≡ (D.state site.old).faults) }
-    ensures cause { IfErr result (λ e. ReadCause which e (D.state site.old).faults (D.state site.new).faults) }
+    ensures cause { IfErr result (λ e. ReadCause e (D.state site.old) (D.state site.new)) }
     ensures site { Stays (D.state site.old) (D.state site.new) }
 {
     match load_named(alloc, site, name, loose) {
@@ -41,7 +41,7 @@ pub(crate) fn read_named<D: Site>(
     ensures told { ReadsNamed which (map_mode loose) (option_map (λ n. n.now) name.entry) result
         (D.state site.old) (D.state site.new) }
     ensures kept { OnOk result ((D.state site.new).faults ≡ (D.state site.old).faults) }
-    ensures cause { IfErr result (λ e. ReadCause which e (D.state site.old).faults (D.state site.new).faults) }
+    ensures cause { IfErr result (λ e. ReadCause e (D.state site.old) (D.state site.new)) }
     ensures site { Stays (D.state site.old) (D.state site.new) }
 {
     let Some(name) = name else { return Ok(None) };

@@ -32,6 +32,7 @@ fn add_ending(message: &mut Message, ending: ShowEnding)
     match ending {
         ShowEnding::Done => {}
         ShowEnding::Usage(fault) => add_usage(message, fault),
+        ShowEnding::TooManyCells => add(message, "more than 16000 cells in SVG"),
         ShowEnding::NoMap(which) => {
             add_which(message, which);
             add(message, " does not exist");

@@ -6,10 +6,11 @@ ghost use Rattle.ddrescueshow_words.specs.Command.{AreInLimits, AreRefused, told
 ghost use Rattle.program_promise.specs.World.{told};
 ghost use Rattle.ddrescueshow_cli.specs.Steps.{statuses_in};
 ghost use Rattle.rescue_domain.specs.Parts.{covers};
-ghost use Rattle.ddrescueshow_cli.specs.Work.{domain_of, text_of};
+ghost use Rattle.ddrescueshow_cli.specs.Work.{domain_of, is_too_large, text_of};
 ghost use Rattle.ddrescueshow_cli.specs.Ddrescueshow.{Ddrescueshow, ShowDone, ShowWorked, handed};
 
 use crate::ending::{ShowEnding, Which};
+use crate::form::Form;
 use crate::frame::Frame;
 use crate::load::{read_map, read_named};
 use crate::picture::draw;
@@ -17,12 +18,16 @@ use block_list::plain_tiles::PlainTiles;
 use block_list::tiles::{NoMemory, Tiles};
 use crash_site::site::Site;
 use ddrescueshow_words::command::{Command, read_command};
+use ddrescueshow_words::options::ShowOptions;
 use option_values::command_error::CommandError;
 use option_words::words::Words;
 use program_promise::answer::say_ending;
 use rescue_console::console::{Channel, Console};
 use rescue_domain::domain::Domain;
 use std::alloc::Global;
+
+/// The most cells of a picture in SVG.
+const MOST_RECTANGLES: u64 = 16_000;
 
 /// The positions that are shown of maps that were read.
 fn shown_of(
@@ -46,16 +51,26 @@ fn draw_maps(
     command: &Command<'_>,
     tiles: &PlainTiles,
     domain_map: &Option<PlainTiles>,
+    terminal: bool,
 ) -> Result<Vec<u8>, NoMemory>
     requires { AreInLimits command.now.options }
-    ensures { IfOk result (λ text. text.items ≡ text_of (told_by command.now)
+    ensures { IfOk result (λ text. text.items ≡ text_of terminal (told_by command.now)
         (record { statuses = tiles.now.statuses; domain = statuses_in domain_map.now })) }
 {
     let options = &command.options;
     let end = tiles.end();
     let domain = shown_of(alloc, command, tiles, domain_map)?;
-    let text = draw(alloc, &Frame::of(options, end), tiles, &domain)?;
+    let form = Form::of(options, terminal);
+    let text = draw(alloc, form, &Frame::of(options, end), tiles, &domain)?;
     Ok(text)
+}
+
+/// Whether options ask for more cells in SVG than are put there.
+fn is_too_large(options: &ShowOptions) -> bool
+    requires { AreInLimits options.now }
+    ensures { result ≡ is_too_large options.now }
+{
+    options.svg && options.width * options.rows > MOST_RECTANGLES
 }
 
 /// Does what a command asks for: reads the maps, and puts the picture.
@@ -64,11 +79,15 @@ fn run<D: Site, P: Console>(
     command: &Command<'_>,
     site: &mut D,
     console: &mut P,
+    terminal: bool,
 ) -> ShowEnding
     requires { AreInLimits command.now.options }
-    ensures { (words : List (List ℕ)) → ShowWorked (told_by command.now) words result
+    ensures { (words : List (List ℕ)) → ShowWorked terminal (told_by command.now) words result
         (handed (D.state site.old) (P.state console.old)) (handed (D.state site.new) (P.state console.new)) }
 {
+    if is_too_large(&command.options) {
+        return ShowEnding::TooManyCells;
+    }
     let tiles = match read_map(alloc, site, Which::RunMap, command.mapfile, false) {
         Ok(tiles) => tiles,
         Err(refusal) => return refusal,
@@ -78,7 +97,7 @@ fn run<D: Site, P: Console>(
         Ok(domain_map) => domain_map,
         Err(refusal) => return refusal,
     };
-    let Ok(text) = draw_maps(alloc, command, &tiles, &domain_map) else {
+    let Ok(text) = draw_maps(alloc, command, &tiles, &domain_map, terminal) else {
         return ShowEnding::NoMemory;
     };
     match console.put(Channel::Out, &text) {
@@ -93,8 +112,9 @@ fn work<D: Site, P: Console>(
     words: &Words,
     site: &mut D,
     console: &mut P,
+    terminal: bool,
 ) -> (ShowEnding, bool)
-    ensures done { ShowDone words.now result.0 result.1 (handed (D.state site.old) (P.state console.old))
+    ensures done { ShowDone terminal words.now result.0 result.1 (handed (D.state site.old) (P.state console.old))
         (handed (D.state site.new) (P.state console.new)) }
     ensures untouched { (fault : Fault) → AreRefused words.now fault → site.new ≡ site.old }
 {
@@ -103,29 +123,30 @@ fn work<D: Site, P: Console>(
         Err(CommandError::NoMemory) => return (ShowEnding::NoMemory, false),
         Err(CommandError::Usage { fault, quiet }) => return (ShowEnding::Usage(fault), quiet),
     };
-    let ending = run(alloc, &command, site, console);
+    let ending = run(alloc, &command, site, console, terminal);
     (ending, command.options.quiet)
 }
 
 /// Draws a mapfile: `[options] mapfile`, with the options of `ddrescueshow_words::options`. Unless the picture was put,
-/// one message says why, on the console's second channel.
+/// one message says why, on the console's second channel. `terminal` says whether standard output is a terminal.
 ///
-/// The refusals come in this order: words that ask for nothing; a mapfile that isn't there, or is no map; the domain
-/// map, in the same way. A read of a map may fail, the picture may fail to be put, and memory may run out. A map in use
-/// by a rescue is read as it was last saved.
+/// The refusals come in this order: words that ask for nothing; too many cells for SVG; a mapfile that isn't there, or
+/// is no map; the domain map, in the same way. A read of a map may fail, the picture may fail to be put, and memory may
+/// run out. A map in use by a rescue is read as it was last saved.
 pub fn ddrescueshow<D: Site, P: Console>(
     alloc: Global,
     words: &Words,
     site: &mut D,
     console: &mut P,
+    terminal: bool,
 ) -> ShowEnding
-    ensures promise { Ddrescueshow (told words.now result (handed (D.state site.old) (P.state console.old))
+    ensures promise { Ddrescueshow terminal (told words.now result (handed (D.state site.old) (P.state console.old))
         (handed (D.state site.new) (P.state console.new))) }
 
     // Words that are refused touch nothing but standard error.
     ensures untouched { (fault : Fault) → AreRefused words.now fault → site.new ≡ site.old }
 {
-    let (ending, quiet) = work(alloc, words, site, console);
+    let (ending, quiet) = work(alloc, words, site, console, terminal);
     say_ending(console, ending, quiet);
     ending
 }

@@ -23,28 +23,28 @@ pub(crate) fn add_number(text: &mut Vec<u8>, number: u64, part: &str) -> Result<
 }
 
 /// How many digits a number has.
-pub(crate) fn digits(number: u64) -> usize
+fn digits(number: u64) -> u64
     ensures { result ≡ length (decimal number) }
 {
-    Buffer::new().format(number).len()
+    Buffer::new().format(number).len() as u64
 }
 
-/// Adds `count` blanks.
-fn add_blanks(text: &mut Vec<u8>, count: usize) -> Result<(), NoMemory>
-    ensures { OnOk result (text.new.items ≡ text.old.items ++ replicate count 32) }
+/// Adds a byte `count` times.
+pub(crate) fn add_bytes(text: &mut Vec<u8>, byte: u8, count: u64) -> Result<(), NoMemory>
+    ensures { OnOk result (text.new.items ≡ text.old.items ++ replicate count byte) }
 {
     let mut done = 0;
     while done < count {
-        text.push(b' ').map_err(|_| NoMemory)?;
+        text.push(byte).map_err(|_| NoMemory)?;
         done += 1;
     }
     Ok(())
 }
 
-/// Adds a number after as many blanks as make it `len` bytes long, and a blank.
-pub(crate) fn add_padded(text: &mut Vec<u8>, len: usize, number: u64) -> Result<(), NoMemory>
-    ensures { OnOk result (text.new.items ≡ text.old.items ++ padded len number) }
+/// Adds a number after as many blanks as make it as long as another, and a blank.
+pub(crate) fn add_padded(text: &mut Vec<u8>, longest: u64, number: u64) -> Result<(), NoMemory>
+    ensures { OnOk result (text.new.items ≡ text.old.items ++ padded (length (decimal longest)) number) }
 {
-    add_blanks(text, len.saturating_sub(digits(number)))?;
+    add_bytes(text, b' ', digits(longest).saturating_sub(digits(number)))?;
     add_number(text, number, " ")
 }

@@ -10,8 +10,9 @@ use Rattle.option_values.proofs.RowLemmas.{EachRow, letter_given, row_passes}
 use Rattle.option_values.proofs.TurnLemmas.{IsSector, fault_stays, sector_in_turn, turn_parts, default_is}
 use Rattle.option_values.proofs.ValueLemmas.{in_range, map_part, or_part, size_by_below}
 use Rattle.option_values.proofs.QuietLemmas.{or_false, or_true}
+use Rattle.ddrescueshow_words.specs.declared.options.Coloring.{Coloring}
 use Rattle.ddrescueshow_words.specs.declared.options.ShowOptions.{ShowOptions}
-use Rattle.ddrescueshow_words.specs.Options.{no_options, option_meanings, option_rows, options_in, quiet_letter, sector_letter}
+use Rattle.ddrescueshow_words.specs.Options.{coloring_by, no_options, option_meanings, option_rows, options_in, quiet_letter, sector_letter}
 
 -- the limits of the values
 pub record InRange (bytes from cells most : ℕ) : Type 0 where
@@ -92,6 +93,11 @@ length_keeps : (s : ℕ) (o o' : ShowOptions) (m : Option ℕ) → option_map (�
 length_keeps s o o' m =
     value_keeps s o o' (λ n. record o { size = Some n }) m (λ n. refl) (λ n p h. h) (λ n. or_false o.quiet)
 
+color_keeps : (s : ℕ) (o o' : ShowOptions) (m : Option Coloring)
+    → option_map (λ c. record o { coloring = c }) m ≡ Some o' → Keeps s o false o'
+color_keeps s o o' m =
+    value_keeps s o o' (λ c. record o { coloring = c }) m (λ c. refl) (λ c p h. h) (λ c. or_false o.quiet)
+
 rows_keep : EachRow RowKeeps option_rows
 rows_keep = (
   (λ s o o' v. plain s o o' _ refl (λ h. h) refl),
@@ -106,10 +112,16 @@ rows_keep = (
           (
             (λ s o o' v. length_keeps s o o' (size_by s v)),
             (
-              (λ s o o' v. limit_keeps s o o' (number_by v)),
+              (λ s o o' v. color_keeps s o o' (coloring_by v)),
               (
-                (λ s o o' v. width_keeps s o o' (number_by v)),
-                tt,
+                (λ s o o' v. limit_keeps s o o' (number_by v)),
+                (
+                  (λ s o o' v. plain s o o' _ refl (λ h. h) refl),
+                  (
+                    (λ s o o' v. width_keeps s o o' (number_by v)),
+                    tt,
+                  ),
+                ),
               ),
             ),
           ),

@@ -1,9 +1,12 @@
 -- The options of `ddrescueshow`, one a row, and what they ask for. A later option is a row more.
 use Rattle.std.specs.Prelude.{ℕ, Bool, true, false, List, [], ◌∷◌, ◌++◌, length, Option, Some, None, Result, option_map, option_and_then, codes, if◌then◌else◌}
+use Rattle.std.specs.Str.{bytes_eq}
 use Rattle.option_words.specs.declared.row.Takes.TheVariants.{Never, Always}
 use Rattle.option_words.specs.declared.reading.Item.{Item}
 use Rattle.option_values.specs.Values.{Meaning, OptionRow, is_name, meanings_of, number_by, size_by, within_range}
 use Rattle.option_values.specs.Values.{options_in as options_by}
+use Rattle.ddrescueshow_words.specs.declared.options.Coloring.{Coloring}
+use Rattle.ddrescueshow_words.specs.declared.options.Coloring.TheVariants.{Auto, Always as InAnyCase, Never as InNoCase}
 use Rattle.ddrescueshow_words.specs.declared.options.ShowOptions.{ShowOptions}
 
 -- an option without a value, and one with a value
@@ -30,6 +33,15 @@ quiet_letter = 113
 abbrev pub count_by : Option (List ℕ) → Option ℕ
 count_by value = option_and_then (within_range 1 1000) (number_by value)
 
+-- when a picture is in color, by a value
+abbrev pub coloring_by : Option (List ℕ) → Option Coloring
+coloring_by None = None
+coloring_by (Some text) =
+    if bytes_eq text (codes "auto") then Some Auto
+    else if bytes_eq text (codes "always") then Some InAnyCase
+    else if bytes_eq text (codes "never") then Some InNoCase
+    else None
+
 -- the options that have a letter, each with what it sets by the size of a sector and the text of its value
 abbrev pub lettered_rows : List (OptionRow ShowOptions)
 lettered_rows =
@@ -42,9 +54,22 @@ lettered_rows =
     ∷ valued 115 (codes "size") (λ sector o value. option_map (λ n. record o { size = Some n }) (size_by sector value))
     ∷ []
 
--- one that has none
+-- one that has none and takes a value
 abbrev pub unlettered : List ℕ → (ShowOptions → Option (List ℕ) → Option ShowOptions) → OptionRow ShowOptions
 unlettered name sets = record { letter = None; name = name; takes = Always; sets = λ sector o value. sets o value }
+
+-- when the picture is in color
+abbrev pub color_row : OptionRow ShowOptions
+color_row = unlettered (codes "color") (λ o value. option_map (λ c. record o { coloring = c }) (coloring_by value))
+
+-- the picture is SVG
+abbrev pub svg_row : OptionRow ShowOptions
+svg_row = record {
+  letter = None;
+  name = codes "svg";
+  takes = Never;
+  sets = λ sector o value. Some (record o { svg = true });
+}
 
 -- how many rows of cells there are at most, and how many cells a row has
 abbrev pub rows_row : OptionRow ShowOptions
@@ -55,7 +80,7 @@ width_row = unlettered (codes "width") (λ o value. option_map (λ n. record o {
 
 -- all options, those without a letter last
 abbrev pub option_rows : List (OptionRow ShowOptions)
-option_rows = lettered_rows ++ rows_row ∷ width_row ∷ []
+option_rows = lettered_rows ++ color_row ∷ rows_row ∷ svg_row ∷ width_row ∷ []
 
 -- each option's letter, its long name, and whether it takes a value
 abbrev pub option_meanings : List Meaning
@@ -69,6 +94,8 @@ no_options sector = record {
   size = None;
   width = 64;
   rows = 16;
+  coloring = Auto;
+  svg = false;
   loose = false;
   quiet = false;
 }

@@ -1,7 +1,7 @@
 //! The options of `ddrescueshow`, and what they ask for.
 ghost use Rattle.std.specs.Prelude.{◌≡◌, ◌<◌, ◌≤◌, Some, option_map};
 ghost use Rattle.option_values.specs.Values.{row_of, set_by};
-ghost use Rattle.ddrescueshow_words.specs.Options.{count_by, lettered_rows, no_options, option_rows, rows_row, width_row};
+ghost use Rattle.ddrescueshow_words.specs.Options.{color_row, coloring_by, count_by, lettered_rows, no_options, option_rows, rows_row, width_row};
 ghost use Rattle.ddrescueshow_words.specs.Command.{AreOptions};
 
 use option_values::given::letter_of;
@@ -19,17 +19,24 @@ pub(crate) const DOMAIN_MAPFILE: char = 'm';
 /// The letter of the one that asks that nothing be said.
 pub(crate) const QUIET: char = 'q';
 
-/// The row of the option that gives the most rows of cells, counted from 0. It has no letter.
-const ROW_LIMIT: usize = 6;
+/// The row of the option that says when the picture is in color, counted from 0. It has no letter, nor have the
+/// following ones.
+const COLOR: usize = 6;
 
-/// The row of the one that gives the cells of a row. It has no letter either.
-const WIDTH: usize = 7;
+/// The row of the one that gives the most rows of cells.
+const ROW_LIMIT: usize = 7;
+
+/// The row of the one that asks for SVG.
+const SVG: usize = 8;
+
+/// The row of the one that gives the cells of a row.
+const WIDTH: usize = 9;
 
 /// The most rows, and the most cells in a row.
 const MOST_CELLS: u64 = 1000;
 
-/// The options. A later one with a letter is a row here, before the last two, and an arm in `with_letter`.
-pub static ROWS: [Row; 8] = [
+/// The options. A later one with a letter is a row here, before the last four, and an arm in `with_letter`.
+pub static ROWS: [Row; 10] = [
     Row {
         short: Some('b'),
         long: "sector-size",
@@ -62,8 +69,18 @@ pub static ROWS: [Row; 8] = [
     },
     Row {
         short: None,
+        long: "color",
+        takes: Takes::Always,
+    },
+    Row {
+        short: None,
         long: "rows",
         takes: Takes::Always,
+    },
+    Row {
+        short: None,
+        long: "svg",
+        takes: Takes::Never,
     },
     Row {
         short: None,
@@ -71,6 +88,15 @@ pub static ROWS: [Row; 8] = [
         takes: Takes::Always,
     },
 ];
+
+/// When a picture is in color.
+#[derive(Clone, Copy, Debug, PartialEq, Eq)]
+pub enum Coloring {
+    /// If standard output is a terminal.
+    Auto,
+    Always,
+    Never,
+}
 
 /// What the options of a command line ask for.
 #[derive(Clone, Copy, Debug, PartialEq, Eq)]
@@ -85,6 +111,10 @@ pub struct ShowOptions {
     pub width: u64,
     /// The most rows of cells; 16 if it isn't given.
     pub rows: u64,
+    /// When the picture is in color; if standard output is a terminal, if it isn't given.
+    pub coloring: Coloring,
+    /// The picture is SVG; by default it is text.
+    pub svg: bool,
     /// The domain map may have gaps; by default it may not.
     pub loose: bool,
     /// No message is put; by default it is. The picture is put all the same.
@@ -102,6 +132,8 @@ impl ShowOptions {
             size: None,
             width: 64,
             rows: 16,
+            coloring: Coloring::Auto,
+            svg: false,
             loose: false,
             quiet: false,
         }
@@ -123,6 +155,33 @@ fn read_count(value: Option<&str>) -> Option<u64>
     ensures { result ≡ count_by (option_map (λ v. v.now) value.entry) }
 {
     within_range(number_by(value)?, 1, MOST_CELLS)
+}
+
+/// When a picture is in color by a value, if the value says so.
+fn read_coloring(value: Option<&str>) -> Option<Coloring>
+    ensures { result ≡ coloring_by (option_map (λ v. v.now) value.entry) }
+{
+    let value = value?;
+    if value == "auto" {
+        Some(Coloring::Auto)
+    } else if value == "always" {
+        Some(Coloring::Always)
+    } else if value == "never" {
+        Some(Coloring::Never)
+    } else {
+        None
+    }
+}
+
+/// What the option of the color sets by its value; nothing if that is a bad one.
+fn with_color(options: ShowOptions, sector: u64, value: Option<&str>) -> Option<ShowOptions>
+    ensures { result ≡ set_by (Some color_row) sector options (option_map (λ v. v.now) value.entry) }
+{
+    let coloring = read_coloring(value)?;
+    Some(ShowOptions {
+        coloring,
+        ..options
+    })
 }
 
 /// What the option of the rows sets by its value; nothing if that is a bad one.
@@ -182,7 +241,9 @@ impl Settings for ShowOptions {
 
     fn with_row(self, sector: u64, row: usize, value: Option<&str>) -> Option<ShowOptions> {
         match row {
+            COLOR => with_color(self, sector, value),
             ROW_LIMIT => with_rows(self, sector, value),
+            SVG => Some(ShowOptions { svg: true, ..self }),
             WIDTH => with_width(self, sector, value),
             _ => match letter_of(&ROWS, row) {
                 Some(letter) => with_letter(self, sector, letter, value),

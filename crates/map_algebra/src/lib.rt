@@ -10,6 +10,6 @@ pub mod create;
 pub mod laws;
 pub mod listing;
 pub mod numbers;
-mod pieces;
+pub mod pieces;
 pub mod shape;
 pub mod summary;

@@ -21,7 +21,7 @@ pub(crate) struct Stretch {
 
 /// Positions up to `to` of one status, all of them in a domain, or none.
 #[derive(Clone, Copy)]
-pub(crate) struct DomainPiece {
+pub struct DomainPiece {
     pub to: u64,
     pub status: Status,
     pub inside: bool,
@@ -39,14 +39,14 @@ pub(crate) struct Pair {
 /// Where to look first, in a map and in a domain. It changes no answer; a walk upwards with one of these goes over the
 /// stretches of the map and the intervals of the domain once.
 #[derive(Clone, Copy)]
-pub(crate) struct Nearby {
+pub struct Nearby {
     map: Near,
     part: usize,
 }
 
 impl Nearby {
     /// At the first stretch and the first interval.
-    pub(crate) fn start() -> Nearby {
+    pub fn start() -> Nearby {
         Nearby {
             map: Near::start(),
             part: 0,
@@ -91,7 +91,7 @@ pub(crate) fn status_from<T: Tiles>(tiles: &T, near: &mut Near, x: u64, limit: u
 }
 
 /// The piece at a position, up to a limit at most.
-pub(crate) fn piece_at<T: Tiles>(
+pub fn piece_at<T: Tiles>(
     tiles: &T,
     domain: &Domain,
     near: &mut Nearby,

@@ -7,7 +7,7 @@ use memory_site::memory::MemorySite;
 use option_words::words::Words;
 use std::alloc::Global;
 
-/// Runs ddrescueshow. If it finds no memory there is no answer: a scene can't ask for that.
+/// Runs ddrescueshow, on no terminal. If it finds no memory there is no answer: a scene can't ask for that.
 pub(crate) fn draw(
     alloc: Global,
     words: &Words,
@@ -15,7 +15,7 @@ pub(crate) fn draw(
     console: &mut MemoryConsole,
 ) -> Result<ShowEnding, Refusal> {
     let starved = site.starved();
-    let ending = ddrescueshow(alloc, words, site, console);
+    let ending = ddrescueshow(alloc, words, site, console, false);
     if matches!(ending, ShowEnding::NoMemory) || site.starved() > starved || console.starved() > 0 {
         return Err(Refusal::NoMemory);
     }

@@ -2,6 +2,6 @@ use Rattle.rescue_domain.specs.Parts.{covers}
 use Rattle.ddrescueshow_cli.proofs.FigureLemmas.{rescued_part}
 use Rattle.ddrescueshow_cli.proofs.picture.draw.Goals as goal
 
-pub add_head-requires : goal.add_head-requires
-add_head-requires g c =
+pub add_head-requires-clause-part : goal.add_head-requires-clause-part
+add_head-requires-clause-part g c =
     rw c.of-summary.ensures (rescued_part (covers c.args.domain.now) (g.T.Tiles.statuses c.args.tiles.now))

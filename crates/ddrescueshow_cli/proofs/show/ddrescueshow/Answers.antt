@@ -5,4 +5,4 @@ use Rattle.ddrescueshow_cli.proofs.show.ddrescueshow.Goals as goal
 
 pub returns-clause-promise : goal.returns-clause-promise
 returns-clause-promise g c =
-    said show_program _ _ _ _ _ _ c.work-ending.ensures.done c.say_ending.ensures
+    said (show_program c.args.terminal) _ _ _ _ _ _ c.work-ending.ensures.done c.say_ending.ensures

@@ -11,5 +11,5 @@ returns c =
     let k = told_by c.args.command.now in
     let statuses = c.args.tiles.now.statuses in
     let map = statuses_in c.args.domain_map.now in
-    shown_text k statuses map c.in_ok-domain.domain c.of.result _
+    shown_text c.args.terminal k statuses map c.in_ok-domain.domain c.of-form.result c.of.result _ c.of-form.ensures
     (c.of.ensures.frame ∙ ap (frame_of k.options) c.end-end.ensures.end) c.in_ok-domain.ensures c.in_ok-text.ensures

@@ -9,7 +9,7 @@ use Rattle.ddrescueshow_cli.proofs.PromiseLemmas.{asked_done, show_made}
 use Rattle.ddrescueshow_cli.proofs.show.work.Goals as goal
 
 pub returns-in-Err-NoMemory-clause-done : goal.returns-in-Err-NoMemory-clause-done
-returns-in-Err-NoMemory-clause-done g c = starved show_program show_made c.args.words.now _ tt
+returns-in-Err-NoMemory-clause-done g c = starved (show_program c.args.terminal) (show_made c.args.terminal) c.args.words.now _ tt
 
 pub returns-in-Err-Usage-clause-done : goal.returns-in-Err-Usage-clause-done
 returns-in-Err-Usage-clause-done g c =
@@ -17,11 +17,11 @@ returns-in-Err-Usage-clause-done g c =
     subst (λ (e : CommandError). IsErrorOf c.args.words.now e) c.in-Err-Usage.field-0-is
     c.in-Err-Usage.ensures.refused in
     rw c.in-Err-Usage.fault-is (rw c.in-Err-Usage.quiet-is
-    (refused show_program show_made c.args.words.now c.in-Err-Usage.fault c.in-Err-Usage.quiet _ tt refusal))
+    (refused (show_program c.args.terminal) (show_made c.args.terminal) c.args.words.now c.in-Err-Usage.fault c.in-Err-Usage.quiet _ tt refusal))
 
 pub returns-clause-done : goal.returns-clause-done
 returns-clause-done g c =
-    asked_done c.args.words.now (told_by c.in-Ok.command) _ _ _ c.in-Ok.ensures.asked (c.run-ending.ensures c.args.words.now)
+    asked_done c.args.terminal c.args.words.now (told_by c.in-Ok.command) _ _ _ c.in-Ok.ensures.asked (c.run-ending.ensures c.args.words.now)
 
 pub returns-clause-untouched : goal.returns-clause-untouched
 returns-clause-untouched g c = λ fault refusal. absurd (c.in-Ok.ensures.asked.accepted fault refusal)

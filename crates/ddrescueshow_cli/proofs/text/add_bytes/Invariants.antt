@@ -1,9 +1,9 @@
 use Rattle.std.proofs.Common.{◌≡◌, ◌≤◌, ◌-◌, ◌++◌, replicate}
-use Rattle.ddrescueshow_cli.proofs.text.add_blanks.Given as goal
+use Rattle.ddrescueshow_cli.proofs.text.add_bytes.Given as goal
 
 abbrev pub invariant-loop-done : goal.invariant-loop-done
 invariant-loop-done l = record {
-  text : l.text.items ≡ l.initial.text.items ++ replicate l.done 32;
+  text : l.text.items ≡ l.initial.text.items ++ replicate l.done l.byte;
   within : l.done ≤ l.count;
 }
 
