@@ -1,5 +1,6 @@
-use Rattle.std.proofs.Common.{◌≡◌, ℕ, zero, suc, ◌+◌, ◌-◌, ◌<◌, ◌≤◌, ◌^◌, List, length, get_or, max, min, Option, None, Some, IfNone, arith, ap, sym, ◌∙◌}
+-- What is known of the map while a search passes pages, and what it finds.
 use Rattle.std.specs.List.{flat_map, slice_get}
+use Rattle.std.proofs.Common.{◌≡◌, ℕ, zero, suc, ◌+◌, ◌-◌, ◌<◌, ◌≤◌, ◌^◌, List, length, get_or, max, min, Option, None, Some, IfNone, arith, ap, sym, ◌∙◌}
 use Rattle.std.proofs.lemmas.List.{get_or_default}
 use Rattle.std.proofs.lemmas.Option.{slice_get_within}
 use Rattle.block_list.specs.declared.block.Block.{Block}
@@ -11,11 +12,12 @@ use Rattle.block_list.specs.Edits.{start_of}
 use Rattle.block_list.proofs.TileLemmas.{tile_at, tile_read, start_mono}
 use Rattle.block_list.proofs.EditLemmas.{no_block, read_there}
 use Rattle.block_list.proofs.LookupLemmas.{stretch_held, clear_after, clear_before, clear_up, found_first, found_range_up, found_last, found_range_down}
-use Rattle.paged_blocks.specs.declared.entry.PageEntry.{PageEntry}
-use Rattle.paged_blocks.specs.Tally.{tallied}
-use Rattle.paged_blocks.specs.Search.{AreNonempty, HasNoneOf, HasAt, IsFirstBlock, IsLastBlock, IsBare}
+use Rattle.block_pages.specs.declared.page_entry.PageEntry.{PageEntry}
+use Rattle.block_pages.specs.Tally.{tallied}
+use Rattle.block_pages.specs.Search.{AreNonempty, HasNoneOf, HasAt, IsFirstBlock, IsLastBlock}
+use Rattle.block_pages.proofs.CountLemmas.{none_counted, counted_none}
+use Rattle.paged_blocks.specs.Walks.{IsBare}
 use Rattle.paged_blocks.specs.Paging.{blocks_of, flat, before, IsEntry, IsPaging, IsHeld}
-use Rattle.paged_blocks.proofs.CountLemmas.{none_counted, counted_none}
 use Rattle.paged_blocks.proofs.PagingLemmas.{no_entry, before_more, before_mono, before_all, page_read, page_index, read_in_page}
 
 -- blocks of a page without a status are passed

@@ -1,12 +1,13 @@
+-- How much a search looks at.
 use Rattle.std.proofs.Common.{◌≡◌, ℕ, zero, suc, ◌+◌, ◌-◌, ◌*◌, ◌/◌, ◌<◌, ◌≤◌, ◌^◌, List, length, get_or, arith, ⊎_elim}
 use Rattle.std.proofs.lemmas.Bool.{cases_lt}
 use Rattle.block_list.specs.declared.block.Block.{Block}
-use Rattle.paged_blocks.specs.declared.entry.PageEntry.{PageEntry}
-use Rattle.paged_blocks.specs.Search.{IsWalk}
+use Rattle.block_pages.specs.declared.page_entry.PageEntry.{PageEntry}
+use Rattle.block_pages.proofs.HalvingLemmas.{below_power}
+use Rattle.paged_blocks.specs.Walks.{IsWalk}
 use Rattle.paged_blocks.specs.Paging.{blocks_of, flat, before, IsPaging, AreHalfFull}
 use Rattle.paged_blocks.proofs.PagingLemmas.{no_entry, before_more, before_all}
-use Rattle.paged_blocks.proofs.FilingLemmas.{long_at}
-use Rattle.paged_blocks.proofs.HalvingLemmas.{below_power}
+use Rattle.paged_blocks.proofs.RefillLemmas.{long_at}
 
 -- pages have at least 32 blocks each
 pub half_between : (pages : List (List Block)) (es : List PageEntry) (i n : ℕ) → IsPaging pages es → AreHalfFull es

@@ -6,8 +6,9 @@ use Rattle.block_list.specs.declared.status.Status.{Status}
 use Rattle.block_list.specs.Stretches.{covered}
 use Rattle.block_list.specs.Tiling.{AreTiles, IsMerged}
 use Rattle.block_list.specs.Edits.{IsTiled, start_of}
-use Rattle.paged_blocks.specs.declared.entry.PageEntry.{PageEntry}
-use Rattle.paged_blocks.specs.declared.marks.Edit.{Edit}
+use Rattle.block_pages.specs.declared.page_entry.PageEntry.{PageEntry}
+use Rattle.block_pages.specs.Splice.{spliced}
+use Rattle.paged_blocks.specs.declared.marks.edit.Edit.{Edit}
 use Rattle.paged_blocks.specs.Paging.{blocks_of, flat, before}
 
 -- wide is a block, with what comes before it if that has its status; rest is what is left of the one that it begins in.
@@ -39,10 +40,6 @@ pub record IsJoinedBack (bs : List Block) (block : Block) (high : ℕ) (rest : O
   pub merged : IsMerged (whole ∷ option_to_list rest ++ drop high bs)
   pub same : flat_map covered (whole ∷ option_to_list rest ++ drop high bs)
       ≡ covered block ++ drop (block.pos + block.size) (flat_map covered bs)
-
--- the list with new blocks in the place of those from one index up to another
-abbrev pub spliced : List Block → ℕ → ℕ → List Block → List Block
-spliced bs from to new = take from bs ++ new ++ drop to bs
 
 -- the indexes among all blocks between which an edit takes out blocks
 abbrev pub edit_from : List (List Block) → List PageEntry → Edit → ℕ

@@ -1,0 +1,51 @@
+-- Blocks of a page that are passed, and the one that is found.
+use Rattle.std.specs.List.{slice_get}
+use Rattle.std.proofs.Common.{◌≡◌, ℕ, ◌+◌, ◌<◌, ◌≤◌, List, length, get_or, Some, ap, sym, ◌∙◌, ⊎_elim, arith}
+use Rattle.std.proofs.lemmas.Bool.{cases_lt}
+use Rattle.std.proofs.lemmas.Option.{get_or_from_slice_get}
+use Rattle.block_list.specs.declared.block.Block.{Block}
+use Rattle.block_list.specs.declared.status.Status.{Status}
+use Rattle.block_list.proofs.EditLemmas.{no_block}
+use Rattle.block_pages.specs.Search.{HasNoneOf, HasAt, IsFirstBlock, IsLastBlock}
+
+-- where a block begins
+abbrev pub block_begins : Block → ℕ
+block_begins b = b.pos
+
+pub none_at : (bs : List Block) (s : Status) (from i : ℕ) → i ≤ from → HasNoneOf bs s from i
+none_at bs s from i h = record { none = λ k d l u e. absurd (omega arith) }
+
+pub none_more : (bs : List Block) (s : Status) (from i : ℕ) (b : Block) → slice_get bs i ≡ Some b → (b.status ≡ s → ⊥)
+    → HasNoneOf bs s from i → HasNoneOf bs s from (i + 1)
+none_more bs s from i b r o n = record {
+  none = λ k d l u e. ⊎_elim (λ (v : k < i). n.none k d l v e)
+      (λ (v : i ≤ k).
+      let z : k ≡ i = omega arith in
+      o (ap (λ (y : Block). y.status) (sym (get_or_from_slice_get bs i b d r)) ∙ ap (λ m. (get_or bs m d).status) (sym z) ∙ e))
+      (cases_lt k i);
+}
+
+pub none_before : (bs : List Block) (s : Status) (i to : ℕ) (b : Block) → slice_get bs i ≡ Some b → (b.status ≡ s → ⊥)
+    → HasNoneOf bs s (i + 1) to → HasNoneOf bs s i to
+none_before bs s i to b r o n = record {
+  none = λ k d l u e. ⊎_elim (λ (v : i < k). n.none k d (omega arith) u e)
+      (λ (v : k ≤ i).
+      let z : k ≡ i = omega arith in
+      o (ap (λ (y : Block). y.status) (sym (get_or_from_slice_get bs i b d r)) ∙ ap (λ m. (get_or bs m d).status) (sym z) ∙ e))
+      (cases_lt i k);
+}
+
+pub none_up : (bs : List Block) (s : Status) (from i : ℕ) → length bs ≤ i → HasNoneOf bs s from i → HasNoneOf bs s from (length bs)
+none_up bs s from i h n = record { none = λ k d l u e. n.none k d l (omega arith) e }
+
+-- a block that has a status isn't passed
+pub not_none : (bs : List Block) (s : Status) (from to i : ℕ) → HasAt bs s i → HasNoneOf bs s from to → from ≤ i → i < to → ⊥
+not_none bs s from to i h n a b = n.none i no_block a b (h.has no_block)
+
+pub first_block : (bs : List Block) (s : Status) (from i : ℕ) (b : Block) → from ≤ i → slice_get bs i ≡ Some b
+    → b.status ≡ s → HasNoneOf bs s from i → IsFirstBlock bs s from b
+first_block bs s from i b h r e n = record { index = i; after = h; read = r; others = n; has = e }
+
+pub last_block : (bs : List Block) (s : Status) (to i : ℕ) (b : Block) → i < to → slice_get bs i ≡ Some b
+    → b.status ≡ s → HasNoneOf bs s (i + 1) to → IsLastBlock bs s to b
+last_block bs s to i b h r e n = record { index = i; below = h; read = r; others = n; has = e }
