@@ -117,6 +117,14 @@ rows_begin (p ∷ ps) [] end i d b e h = absurd (omega arith)
 rows_begin (p ∷ ps) (z ∷ ss) end zero d b e h = refl
 rows_begin (p ∷ ps) (z ∷ ss) end (suc i) d b e h = rows_begin ps ss end i d b (omega arith) (omega arith)
 
+-- which status blocks have
+pub rows_status : (ps : List ℕ) (ss : List Status) (end i : ℕ) (b : Block) (s : Status) → length ss ≡ length ps → i < length ps
+    → (get_or (rows ps ss end) i b).status ≡ get_or ss i s
+rows_status [] ss end i b s e h = absurd (omega arith)
+rows_status (p ∷ ps) [] end i b s e h = absurd (omega arith)
+rows_status (p ∷ ps) (z ∷ ss) end zero b s e h = refl
+rows_status (p ∷ ps) (z ∷ ss) end (suc i) b s e h = rows_status ps ss end i b s (omega arith) (omega arith)
+
 -- a search among begins is one among blocks
 pub rising_rows : (ps : List ℕ) (ss : List Status) (end : ℕ) → length ss ≡ length ps
     → IsNonDecreasingBy block_begins (rows ps ss end) → IsNonDecreasingBy (λ (x : ℕ). x) ps
@@ -171,6 +179,15 @@ page_block p self i pos size s d k v h l a b q =
     ∙ ap (λ x. Some (record { pos = x; size = first_or (drop (suc i) ps) p.end - x; status = t })) (sym a)
     ∙ ap (λ x. Some (record { pos = pos; size = x; status = t })) n
     ∙ ap (λ x. Some (record { pos = pos; size = size; status = x })) (m ∙ sym q)
+
+-- the status of a block of a page
+pub page_status : (p : Inside) (self : List Block) (i : ℕ) (s : Status) (k : KeptStatus) → rows_of p ≡ self → IsPage p
+    → i < length p.starts.items → s ≡ (get_or p.statuses.items i k).status → (d : Block) → s ≡ (get_or self i d).status
+page_status p self i s k v h l q d =
+    let t = rows_status p.starts.items (statuses_of p.statuses.items) p.end i d k.status (alike p h) l in
+    let m : get_or (statuses_of p.statuses.items) i k.status ≡ (get_or p.statuses.items i k).status =
+    get_or-map (λ (x : KeptStatus). x.status) p.statuses.items i k in
+    q ∙ sym m ∙ sym t ∙ ap (λ (bs : List Block). (get_or bs i d).status) v
 
 pub first_end : (ps : List ℕ) (end i d : ℕ) → i + 1 < length ps → get_or ps (i + 1) d ≡ first_or (drop (i + 1) ps) end
 first_end ps end i d h = sym (first_there ps end (i + 1) d h)

@@ -15,23 +15,24 @@ block_begins b = b.pos
 pub none_at : (bs : List Block) (s : Status) (from i : ℕ) → i ≤ from → HasNoneOf bs s from i
 none_at bs s from i h = record { none = λ k d l u e. absurd (omega arith) }
 
-pub none_more : (bs : List Block) (s : Status) (from i : ℕ) (b : Block) → slice_get bs i ≡ Some b → (b.status ≡ s → ⊥)
+-- one more block of another status
+pub none_next : (bs : List Block) (s t : Status) (from i : ℕ) → ((d : Block) → t ≡ (get_or bs i d).status) → (t ≡ s → ⊥)
     → HasNoneOf bs s from i → HasNoneOf bs s from (i + 1)
-none_more bs s from i b r o n = record {
+none_next bs s t from i r o n = record {
   none = λ k d l u e. ⊎_elim (λ (v : k < i). n.none k d l v e)
       (λ (v : i ≤ k).
       let z : k ≡ i = omega arith in
-      o (ap (λ (y : Block). y.status) (sym (get_or_from_slice_get bs i b d r)) ∙ ap (λ m. (get_or bs m d).status) (sym z) ∙ e))
+      o (r d ∙ ap (λ m. (get_or bs m d).status) (sym z) ∙ e))
       (cases_lt k i);
 }
 
-pub none_before : (bs : List Block) (s : Status) (i to : ℕ) (b : Block) → slice_get bs i ≡ Some b → (b.status ≡ s → ⊥)
+pub none_former : (bs : List Block) (s t : Status) (i to : ℕ) → ((d : Block) → t ≡ (get_or bs i d).status) → (t ≡ s → ⊥)
     → HasNoneOf bs s (i + 1) to → HasNoneOf bs s i to
-none_before bs s i to b r o n = record {
+none_former bs s t i to r o n = record {
   none = λ k d l u e. ⊎_elim (λ (v : i < k). n.none k d (omega arith) u e)
       (λ (v : k ≤ i).
       let z : k ≡ i = omega arith in
-      o (ap (λ (y : Block). y.status) (sym (get_or_from_slice_get bs i b d r)) ∙ ap (λ m. (get_or bs m d).status) (sym z) ∙ e))
+      o (r d ∙ ap (λ m. (get_or bs m d).status) (sym z) ∙ e))
       (cases_lt i k);
 }
 
@@ -42,10 +43,17 @@ none_up bs s from i h n = record { none = λ k d l u e. n.none k d l (omega arit
 pub not_none : (bs : List Block) (s : Status) (from to i : ℕ) → HasAt bs s i → HasNoneOf bs s from to → from ≤ i → i < to → ⊥
 not_none bs s from to i h n a b = n.none i no_block a b (h.has no_block)
 
-pub first_block : (bs : List Block) (s : Status) (from i : ℕ) (b : Block) → from ≤ i → slice_get bs i ≡ Some b
-    → b.status ≡ s → HasNoneOf bs s from i → IsFirstBlock bs s from b
-first_block bs s from i b h r e n = record { index = i; after = h; read = r; others = n; has = e }
+-- the block that was read has the status that was found
+has_status : (bs : List Block) (s t : Status) (i : ℕ) (b : Block) → slice_get bs i ≡ Some b
+    → ((d : Block) → t ≡ (get_or bs i d).status) → t ≡ s → b.status ≡ s
+has_status bs s t i b r q e = sym (ap (λ (y : Block). y.status) (get_or_from_slice_get bs i b b r)) ∙ sym (q b) ∙ e
 
-pub last_block : (bs : List Block) (s : Status) (to i : ℕ) (b : Block) → i < to → slice_get bs i ≡ Some b
-    → b.status ≡ s → HasNoneOf bs s (i + 1) to → IsLastBlock bs s to b
-last_block bs s to i b h r e n = record { index = i; below = h; read = r; others = n; has = e }
+pub first_block : (bs : List Block) (s t : Status) (from i : ℕ) (b : Block) → from ≤ i → slice_get bs i ≡ Some b
+    → ((d : Block) → t ≡ (get_or bs i d).status) → t ≡ s → HasNoneOf bs s from i → IsFirstBlock bs s from b
+first_block bs s t from i b h r q e n =
+    record { index = i; after = h; read = r; others = n; has = has_status bs s t i b r q e }
+
+pub last_block : (bs : List Block) (s t : Status) (to i : ℕ) (b : Block) → i < to → slice_get bs i ≡ Some b
+    → ((d : Block) → t ≡ (get_or bs i d).status) → t ≡ s → HasNoneOf bs s (i + 1) to → IsLastBlock bs s to b
+last_block bs s t to i b h r q e n =
+    record { index = i; below = h; read = r; others = n; has = has_status bs s t i b r q e }

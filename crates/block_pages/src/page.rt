@@ -103,6 +103,14 @@ impl Page {
         }
     }
 
+    /// The status of the block with an index.
+    fn status(&self, i: usize) -> Status
+        requires { i < length self.now }
+        ensures { (d : Block) → result ≡ (slice_index_or self.now i d).status }
+    {
+        self.statuses[i].status
+    }
+
     /// How many blocks begin before a position, where the first one does.
     pub fn before<L: Ledger>(&self, at: u64, steps: &mut Steps<L>) -> usize
         requires sorted { IsNonDecreasingBy (λ (b : Block). b.pos) self.now }
@@ -124,14 +132,16 @@ impl Page {
         requires { from ≤ length self.now }
         ensures found { IfSome result (λ b. IsFirstBlock self.now status from b) }
         ensures none { IfNone result (HasNoneOf self.now status from (length self.now)) }
-        ensures cost { steps.new ≤ steps.old + (length self.now - from) }
-        ensures there { HasAt self.now status from → steps.new ≤ steps.old + 1 }
+        ensures cost { steps.new ≤ steps.old + (length self.now - from) + 1 }
+        ensures passed { IfNone result (steps.new ≤ steps.old + (length self.now - from)) }
+        ensures there { HasAt self.now status from → steps.new ≤ steps.old + 2 }
     {
         for i in from..self.len() {
             steps.tick();
-            let block = self.block(i);
-            if block.status.is(status) {
-                return Some(block);
+            if self.status(i).is(status) {
+                // Its end is where the next one begins: one more look.
+                steps.tick();
+                return Some(self.block(i));
             }
         }
         None
@@ -147,14 +157,16 @@ impl Page {
         requires { below ≤ length self.now }
         ensures found { IfSome result (λ b. IsLastBlock self.now status below b) }
         ensures none { IfNone result (HasNoneOf self.now status 0 below) }
-        ensures cost { steps.new ≤ steps.old + below }
-        ensures there { HasAt self.now status (below - 1) → steps.new ≤ steps.old + 1 }
+        ensures cost { steps.new ≤ steps.old + below + 1 }
+        ensures passed { IfNone result (steps.new ≤ steps.old + below) }
+        ensures there { HasAt self.now status (below - 1) → steps.new ≤ steps.old + 2 }
     {
         for i in (0..below).rev() {
             steps.tick();
-            let block = self.block(i);
-            if block.status.is(status) {
-                return Some(block);
+            if self.status(i).is(status) {
+                // Its end is where the next one begins: one more look.
+                steps.tick();
+                return Some(self.block(i));
             }
         }
         None

@@ -1,6 +1,7 @@
 -- What is known of the map while a search passes pages, and what it finds.
 use Rattle.std.specs.List.{flat_map, slice_get}
-use Rattle.std.proofs.Common.{◌≡◌, ℕ, zero, suc, ◌+◌, ◌-◌, ◌<◌, ◌≤◌, ◌^◌, List, length, get_or, max, min, Option, None, Some, IfNone, arith, ap, sym, ◌∙◌}
+use Rattle.std.proofs.Common.{◌≡◌, ℕ, zero, suc, ◌+◌, ◌-◌, ◌<◌, ◌≤◌, ◌^◌, List, length, get_or, max, min, Option, None, Some, IfNone, arith, ap, sym, ◌∙◌, ⊎_elim}
+use Rattle.std.proofs.lemmas.Bool.{cases_lt}
 use Rattle.std.proofs.lemmas.List.{get_or_default}
 use Rattle.std.proofs.lemmas.Option.{slice_get_within}
 use Rattle.block_list.specs.declared.block.Block.{Block}
@@ -79,6 +80,26 @@ pub passed_down : (pages : List (List Block)) (e : PageEntry) (s : Status) (j ol
     → IfNone r (j ≡ length (blocks_of pages e) → new ≡ old)
 passed_down pages e s j old new None h z o = λ q. absurd (some_tallied pages e s h z (rw q at o))
 passed_down pages e s j old new (Some b) h z o = tt
+
+-- and where nothing is found in a part of one, not all of its blocks were looked at
+pub missed_up : (pages : List (List Block)) (e : PageEntry) (s : Status) (j old new : ℕ) (r : Option Block) → IsEntry pages e
+    → (tallied e.tally s ≡ 0 → ⊥) → IfNone r (HasNoneOf (blocks_of pages e) s j (length (blocks_of pages e)))
+    → IfNone r (new ≤ old + (length (blocks_of pages e) - j)) → IfNone r (new < old + length (blocks_of pages e))
+missed_up pages e s j old new None h z o c =
+    ⊎_elim (λ (v : 0 < j). omega (arith, h.some))
+    (λ (v : j ≤ 0). let q : j ≡ 0 = omega arith in absurd (some_tallied pages e s h z (rw q at o)))
+    (cases_lt 0 j)
+missed_up pages e s j old new (Some b) h z o c = tt
+
+pub missed_down : (pages : List (List Block)) (e : PageEntry) (s : Status) (j old new : ℕ) (r : Option Block) → IsEntry pages e
+    → j ≤ length (blocks_of pages e) → (tallied e.tally s ≡ 0 → ⊥) → IfNone r (HasNoneOf (blocks_of pages e) s 0 j)
+    → IfNone r (new ≤ old + j) → IfNone r (new < old + length (blocks_of pages e))
+missed_down pages e s j old new None h l z o c =
+    ⊎_elim (λ (v : j < length (blocks_of pages e)). omega arith)
+    (λ (v : length (blocks_of pages e) ≤ j).
+    let q : j ≡ length (blocks_of pages e) = omega arith in absurd (some_tallied pages e s h z (rw q at o)))
+    (cases_lt j (length (blocks_of pages e)))
+missed_down pages e s j old new (Some b) h l z o c = tt
 
 -- no block of a page is empty
 pub page_filled : (pages : List (List Block)) (es : List PageEntry) (k : ℕ) (e : PageEntry) → IsPaging pages es → k < length es

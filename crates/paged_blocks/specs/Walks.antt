@@ -3,10 +3,10 @@ use Rattle.std.specs.Prelude.{ℕ, ◌+◌, ◌<◌, ◌≤◌, List}
 use Rattle.block_list.specs.declared.status.Status.{Status}
 use Rattle.block_list.specs.Map.{Has}
 
--- some blocks of a page were read, of which it has at most 64
+-- some blocks of a page were read, of which it has at most 64, and the begin of the one after them
 pub record IsWalk (old new blocks : ℕ) : Type 0 where
-  pub within : new ≤ old + blocks
-  pub few : new ≤ old + 64
+  pub within : new ≤ old + blocks + 1
+  pub few : new ≤ old + 65
 
 -- no position from one up to another has a status
 pub record IsBare (map : List Status) (s : Status) (from to : ℕ) : Type 0 where

@@ -117,7 +117,7 @@ pub fn first_with<L: Ledger>(
     ensures first { IfSome result (λ range. IsFirst (Has tiles.now.statuses status) from range.from) }
     ensures range { IfSome result (λ range. IsRangeUp (Has tiles.now.statuses status) range.from range.to) }
     ensures none { IfNone result ((x : ℕ) → from ≤ x → Has tiles.now.statuses status x → ⊥) }
-    ensures cost { steps.new ≤ steps.old + 128 }
+    ensures cost { steps.new ≤ steps.old + 129 }
 {
     if tiles.end() <= from {
         return None;
@@ -134,6 +134,7 @@ pub fn first_with<L: Ledger>(
     }
     let i = first_from(tiles, from, status, steps);
     if i < tiles.blocks() {
+        steps.tick();
         Some(range_up(tiles.block(i), from))
     } else {
         None

@@ -33,7 +33,8 @@ fn first_in<L: Ledger>(
     ensures none { IfNone result (HasNoneOf (blocks_of pages.now entry) status j (length (blocks_of pages.now entry))) }
     ensures cost { IsWalk steps.old steps.new (length (blocks_of pages.now entry)) }
     ensures passed { IfNone result (j ≡ 0 → steps.new ≡ steps.old) }
-    ensures there { HasAt (blocks_of pages.now entry) status j → steps.new ≤ steps.old + 1 }
+    ensures missed { IfNone result (steps.new < steps.old + length (blocks_of pages.now entry)) }
+    ensures there { HasAt (blocks_of pages.now entry) status j → steps.new ≤ steps.old + 2 }
 {
     if entry.tally.of(status) == 0 {
         return None;
@@ -93,7 +94,8 @@ fn last_in<L: Ledger>(
     ensures none { IfNone result (HasNoneOf (blocks_of pages.now entry) status 0 j) }
     ensures cost { IsWalk steps.old steps.new (length (blocks_of pages.now entry)) }
     ensures passed { IfNone result (j ≡ length (blocks_of pages.now entry) → steps.new ≡ steps.old) }
-    ensures there { HasAt (blocks_of pages.now entry) status (j - 1) → steps.new ≤ steps.old + 1 }
+    ensures missed { IfNone result (steps.new < steps.old + length (blocks_of pages.now entry)) }
+    ensures there { HasAt (blocks_of pages.now entry) status (j - 1) → steps.new ≤ steps.old + 2 }
 {
     if entry.tally.of(status) == 0 {
         return None;

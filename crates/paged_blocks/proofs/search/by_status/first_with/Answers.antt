@@ -95,7 +95,8 @@ returns-in-Some-first_in-clause-cost g c =
     looks_two _ _ _ _ _ _ _ _ _ (omega arith)
     (two_pages _ _ c.held_counted-held.result.0 c.loop-k.k no_entry c.requires.paging c.requires.half (omega arith)
     (rw c.len-k-end.ensures at c.loop-k-test.true))
-    c.held_counted-held.ensures.cost (rw (c.tick.ensures, c.at.ensures no_entry) at c.first_in.ensures.cost)
+    c.held_counted-held.ensures.cost (c.requires.paging.each _ no_entry h.entry).fits
+    (rw (c.tick.ensures, c.at.ensures no_entry) at c.in_default.ensures.missed)
     (omega (arith, c.tick-in-loop-k.ensures, c.loop-k.invariant.cost)) (rw (c.at-in-loop-k.ensures no_entry) at c.first_in-in-loop-k.ensures.cost)
 
 pub returns-in-Some-first_in-clause-there : goal.returns-in-Some-first_in-clause-there

@@ -100,7 +100,8 @@ returns-in-Some-last_in-clause-cost g c =
     let h = c.held_counted-held.ensures.held in
     looks_two _ _ _ _ _ _ _ _ _ (omega (arith, h.entry))
     (two_pages_down _ _ c.held_counted-held.result.0 (c.loop-k.k - 1) no_entry c.requires.paging c.requires.half
-    (omega arith) h.entry) c.held_counted-held.ensures.cost (rw (c.tick.ensures, c.at.ensures no_entry) at c.last_in.ensures.cost)
+    (omega arith) h.entry) c.held_counted-held.ensures.cost (c.requires.paging.each _ no_entry h.entry).fits
+    (rw (c.tick.ensures, c.at.ensures no_entry) at c.in_default.ensures.missed)
     (omega (arith, c.tick-in-loop-k.ensures, c.loop-k.invariant.cost, h.entry)) (rw (c.at-entry.ensures no_entry) at c.last_in-in-loop-k.ensures.cost)
 
 pub returns-in-Some-last_in-clause-there : goal.returns-in-Some-last_in-clause-there
