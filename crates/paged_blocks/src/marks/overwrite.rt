@@ -1,17 +1,15 @@
 //! How a mark is made: in one page, in two, or in pages that are filled anew.
-ghost use Rattle.std.specs.Prelude.{◌≡◌, ℕ, ◌+◌, ◌-◌, ◌<◌, ◌≤◌, ◌^◌, true, List, All, length, slice_index_or, vec_len, vec_capacity};
+ghost use Rattle.std.specs.Prelude.{◌≡◌, ℕ, ◌+◌, ◌-◌, ◌<◌, ◌≤◌, true, List, All, length, slice_index_or, vec_len, vec_capacity};
 ghost use Rattle.std.specs.List.{flat_map};
 ghost use Rattle.block_list.specs.Map.{marked};
 ghost use Rattle.block_list.specs.Stretches.{covered};
-ghost use Rattle.block_list.specs.Tiling.{IsMerged};
-ghost use Rattle.block_list.specs.Edits.{IsTiled};
 ghost use Rattle.block_pages.specs.declared.page_entry.PageEntry.{PageEntry};
 ghost use Rattle.block_pages.specs.Splice.{spliced};
 ghost use Rattle.block_pages.specs.Rows.{AreRow};
 ghost use Rattle.paged_blocks.specs.Paging.{blocks_of, flat, IsEntry, IsPaging, IsKeptInPages, IsRewritten};
-ghost use Rattle.paged_blocks.specs.Marks.{IsEdit, edited};
+ghost use Rattle.paged_blocks.specs.Marks.{IsMarkable, AreMapBlocks, IsEdit, edited};
 ghost use Rattle.paged_blocks.specs.TouchedPages.{StaysInPage, StaysInTwoPages};
-ghost use Rattle.paged_blocks.specs.Room.{room_for};
+ghost use Rattle.paged_blocks.specs.Room.{room_for, HasRoomForMark, AddsFew, KeepsRoom, KeepsSizes};
 
 use crate::entry_list::Entries;
 use crate::marks::edit::{Edit, mark};
@@ -73,9 +71,8 @@ fn splice_page(
     ensures rewritten { (d : PageEntry) → IsRewritten pages.old.items entries.old.items k
         (spliced (blocks_of pages.old.items (slice_index_or entries.old.items k d)) from to new.now)
         pages.new.items entries.new.items }
-    ensures len { length entries.new.items ≡ length entries.old.items }
-    ensures pages { vec_len pages.new ≡ vec_len pages.old }
-    ensures capacity { entries.new.room ≡ entries.old.room }
+    ensures sizes { KeepsSizes (length entries.old.items) (vec_len pages.old) entries.old.room
+        (length entries.new.items) (vec_len pages.new) entries.new.room }
 {
     let old = entries.at(k);
     let entry = entry_after(old, &pages[old.page], from, to, new);
@@ -88,14 +85,12 @@ fn edit_page(pages: &mut Vec<Page>, entries: &mut Entries, edit: &Edit)
     requires kept { (free : List ℕ) × IsKeptInPages pages.old.items entries.old.items free }
     requires edit { IsEdit pages.old.items entries.old.items edit.now }
     requires stays { StaysInPage entries.old.items edit.now }
-    requires tiled { IsTiled (edited pages.old.items entries.old.items edit.now) }
-    requires merged { IsMerged (edited pages.old.items entries.old.items edit.now) }
+    requires whole { AreMapBlocks (edited pages.old.items entries.old.items edit.now) }
     ensures kept { (free : List ℕ) → IsKeptInPages pages.old.items entries.old.items free
         → IsKeptInPages pages.new.items entries.new.items free }
     ensures flat { flat pages.new.items entries.new.items ≡ edited pages.old.items entries.old.items edit.now }
-    ensures len { length entries.new.items ≡ length entries.old.items }
-    ensures pages { vec_len pages.new ≡ vec_len pages.old }
-    ensures capacity { entries.new.room ≡ entries.old.room }
+    ensures sizes { KeepsSizes (length entries.old.items) (vec_len pages.old) entries.old.room
+        (length entries.new.items) (vec_len pages.new) entries.new.room }
 {
     splice_page(pages, entries, edit.first, edit.from, edit.to, &edit.new);
 }
@@ -105,14 +100,12 @@ fn edit_two_pages(pages: &mut Vec<Page>, entries: &mut Entries, edit: &Edit)
     requires kept { (free : List ℕ) × IsKeptInPages pages.old.items entries.old.items free }
     requires edit { IsEdit pages.old.items entries.old.items edit.now }
     requires stays { StaysInTwoPages entries.old.items edit.now }
-    requires tiled { IsTiled (edited pages.old.items entries.old.items edit.now) }
-    requires merged { IsMerged (edited pages.old.items entries.old.items edit.now) }
+    requires whole { AreMapBlocks (edited pages.old.items entries.old.items edit.now) }
     ensures kept { (free : List ℕ) → IsKeptInPages pages.old.items entries.old.items free
         → IsKeptInPages pages.new.items entries.new.items free }
     ensures flat { flat pages.new.items entries.new.items ≡ edited pages.old.items entries.old.items edit.now }
-    ensures len { length entries.new.items ≡ length entries.old.items }
-    ensures pages { vec_len pages.new ≡ vec_len pages.old }
-    ensures capacity { entries.new.room ≡ entries.old.room }
+    ensures sizes { KeepsSizes (length entries.old.items) (vec_len pages.old) entries.old.room
+        (length entries.new.items) (vec_len pages.new) entries.new.room }
 {
     let len = entries.at(edit.first).len;
     let count = len - edit.from;
@@ -129,17 +122,15 @@ fn edit_two_pages(pages: &mut Vec<Page>, entries: &mut Entries, edit: &Edit)
 fn edit_pages(pages: &mut Vec<Page>, entries: &mut Entries, free: &mut Vec<usize>, edit: &Edit)
     requires kept { IsKeptInPages pages.old.items entries.old.items free.old.items }
     requires edit { IsEdit pages.old.items entries.old.items edit.now }
-    requires tiled { IsTiled (edited pages.old.items entries.old.items edit.now) }
-    requires merged { IsMerged (edited pages.old.items entries.old.items edit.now) }
+    requires whole { AreMapBlocks (edited pages.old.items entries.old.items edit.now) }
     requires spare { 1 ≤ room_for (vec_len pages.old) (entries.old.room) (length entries.old.items)
         (length (edited pages.old.items entries.old.items edit.now) - 1) }
     requires room { vec_len pages.old ≤ vec_capacity free.old }
     ensures kept { IsKeptInPages pages.new.items entries.new.items free.new.items }
     ensures flat { flat pages.new.items entries.new.items ≡ edited pages.old.items entries.old.items edit.now }
     ensures few { length entries.new.items ≤ length entries.old.items + 1 }
-    ensures pages { vec_len pages.new ≡ vec_len pages.old }
-    ensures capacity { entries.old.room ≤ entries.new.room }
-    ensures room { vec_len pages.new ≤ vec_capacity free.new }
+    ensures room { KeepsRoom (vec_len pages.old) entries.old.room (vec_len pages.new) entries.new.room
+        (vec_capacity free.new) }
 {
     let region = region_of(pages, entries, edit);
     refill(pages, entries, free, &region);
@@ -151,9 +142,7 @@ fn edit_pages(pages: &mut Vec<Page>, entries: &mut Entries, free: &mut Vec<usize
 fn edit_none(pages: &mut Vec<Page>, entries: &mut Entries, free: &mut Vec<usize>, block: Block)
     requires kept { IsKeptInPages pages.old.items entries.old.items free.old.items }
     requires none { length entries.old.items ≡ 0 }
-    requires some { 0 < block.size }
-    requires begins { block.pos ≡ 0 }
-    requires short { block.size < 2 ^ 63 }
+    requires mark { IsMarkable 0 block }
     requires spare { 1 ≤ room_for (vec_len pages.old) (entries.old.room) (length entries.old.items)
         (length (flat pages.old.items entries.old.items)) }
     requires room { vec_len pages.old ≤ vec_capacity free.old }
@@ -162,9 +151,8 @@ fn edit_none(pages: &mut Vec<Page>, entries: &mut Entries, free: &mut Vec<usize>
         ≡ marked (flat_map covered (flat pages.old.items entries.old.items)) block.pos block.size block.status }
     ensures one { length (flat pages.new.items entries.new.items) ≤ 1 }
     ensures few { length entries.new.items ≤ 1 }
-    ensures pages { vec_len pages.new ≡ vec_len pages.old }
-    ensures capacity { entries.old.room ≤ entries.new.room }
-    ensures room { vec_len pages.new ≤ vec_capacity free.new }
+    ensures room { KeepsRoom (vec_len pages.old) entries.old.room (vec_len pages.new) entries.new.room
+        (vec_capacity free.new) }
 {
     let region = first_region(pages, entries, block);
     refill(pages, entries, free, &region);
@@ -179,26 +167,19 @@ pub fn overwrite(
     block: Block,
 )
     requires kept { IsKeptInPages pages.old.items entries.old.items free.old.items }
-    requires some { 0 < block.size }
+    requires mark { IsMarkable end block }
     requires end { end ≡ length (flat_map covered (flat pages.old.items entries.old.items)) }
-    requires begins { block.pos ≤ end }
-    requires short { block.pos + block.size < 2 ^ 63 }
-    requires spare { 1 ≤ room_for (vec_len pages.old) (entries.old.room) (length entries.old.items)
-        (length (flat pages.old.items entries.old.items)) }
-    requires inner { block.pos + block.size < end → 2 ≤ room_for (vec_len pages.old) (entries.old.room)
-        (length entries.old.items) (length (flat pages.old.items entries.old.items)) }
+    requires spare { HasRoomForMark (block.pos + block.size) end (room_for (vec_len pages.old) (entries.old.room)
+        (length entries.old.items) (length (flat pages.old.items entries.old.items))) }
     requires room { vec_len pages.old ≤ vec_capacity free.old }
     ensures kept { IsKeptInPages pages.new.items entries.new.items free.new.items }
     ensures marked { flat_map covered (flat pages.new.items entries.new.items)
         ≡ marked (flat_map covered (flat pages.old.items entries.old.items)) block.pos block.size block.status }
-    ensures gain { length (flat pages.new.items entries.new.items)
-        ≤ length (flat pages.old.items entries.old.items) + 2 }
-    ensures adds { end ≤ block.pos + block.size → length (flat pages.new.items entries.new.items)
-        ≤ length (flat pages.old.items entries.old.items) + 1 }
+    ensures gain { AddsFew (block.pos + block.size) end (length (flat pages.old.items entries.old.items))
+        (length (flat pages.new.items entries.new.items)) }
     ensures few { length entries.new.items ≤ length entries.old.items + 1 }
-    ensures pages { vec_len pages.new ≡ vec_len pages.old }
-    ensures capacity { entries.old.room ≤ entries.new.room }
-    ensures room { vec_len pages.new ≤ vec_capacity free.new }
+    ensures room { KeepsRoom (vec_len pages.old) entries.old.room (vec_len pages.new) entries.new.room
+        (vec_capacity free.new) }
 {
     if entries.len() == 0 {
         edit_none(pages, entries, free, block);

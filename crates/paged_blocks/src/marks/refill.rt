@@ -2,11 +2,11 @@
 ghost use Rattle.std.specs.Prelude.{◌≡◌, ℕ, ◌+◌, ◌-◌, ◌*◌, ◌<◌, ◌≤◌, ◌^◌, ◌++◌, length, take, drop, vec_len, vec_capacity};
 ghost use Rattle.std.specs.List.{flat_map};
 ghost use Rattle.block_list.specs.Stretches.{covered};
-ghost use Rattle.block_list.specs.Tiling.{IsMerged};
-ghost use Rattle.block_list.specs.Edits.{IsTiled};
 ghost use Rattle.block_pages.specs.Rows.{AreRow};
 ghost use Rattle.paged_blocks.specs.Paging.{flat, short_pages, naming, times_free, AreFiled, IsKeptInPages};
 ghost use Rattle.paged_blocks.specs.TouchedPages.{IsRegion, IsOfAllPages, refilled};
+ghost use Rattle.paged_blocks.specs.Marks.{AreMapBlocks};
+ghost use Rattle.paged_blocks.specs.Room.{HasPagesFor, KeepsRoom};
 
 use crate::entry_list::Entries;
 use crate::marks::touched_pages::Region;
@@ -104,20 +104,16 @@ pub fn refill(pages: &mut Vec<Page>, entries: &mut Entries, free: &mut Vec<usize
     requires kept { IsKeptInPages pages.old.items entries.old.items free.old.items }
     requires region { IsRegion entries.old.items region.now }
     requires full { IsOfAllPages entries.old.items region.now }
-    requires tiled { IsTiled (refilled pages.old.items entries.old.items region.now) }
-    requires merged { IsMerged (refilled pages.old.items entries.old.items region.now) }
-    requires pages { 64 * length entries.old.items + length region.now.blocks
-        ≤ 64 * (vec_len pages.old + (region.now.past - region.now.first)) }
-    requires entries { 64 * length entries.old.items + length region.now.blocks
-        ≤ 64 * (entries.old.room + (region.now.past - region.now.first)) }
+    requires whole { AreMapBlocks (refilled pages.old.items entries.old.items region.now) }
+    requires fit { HasPagesFor (length entries.old.items) (region.now.past - region.now.first)
+        (length region.now.blocks) (vec_len pages.old) entries.old.room }
     requires room { vec_len pages.old ≤ vec_capacity free.old }
     ensures kept { IsKeptInPages pages.new.items entries.new.items free.new.items }
     ensures flat { flat pages.new.items entries.new.items ≡ refilled pages.old.items entries.old.items region.now }
     ensures few { 64 * (length entries.new.items + (region.now.past - region.now.first))
         < 64 * length entries.old.items + length region.now.blocks + 64 }
-    ensures pages { vec_len pages.new ≡ vec_len pages.old }
-    ensures capacity { entries.old.room ≤ entries.new.room }
-    ensures room { vec_len pages.new ≤ vec_capacity free.new }
+    ensures room { KeepsRoom (vec_len pages.old) entries.old.room (vec_len pages.new) entries.new.room
+        (vec_capacity free.new) }
 {
     release(entries, free, region.first, region.past);
     deal(pages, entries, free, region.first, &region.blocks);

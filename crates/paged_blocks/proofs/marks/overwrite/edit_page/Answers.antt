@@ -50,7 +50,7 @@ splice_page-requires-clause-spliced c = λ d.
     let page : List Block = spliced (blocks_of pages (get_or es e.first no_entry)) e.from e.to e.new in
     rw own
     (row_middle (flat pages (take e.first es)) page (flat pages (drop (e.first + 1) es))
-    (rw (page_edited pages es e page i c.requires.stays.page refl) c.requires.tiled))
+    (rw (page_edited pages es e page i c.requires.stays.page refl) c.requires.whole.tiled))
 
 pub returns-clause-flat : goal.returns-clause-flat
 returns-clause-flat c =
@@ -62,5 +62,5 @@ pub returns-clause-kept : goal.returns-clause-kept
 returns-clause-kept c = λ free h.
     let e : Edit = c.args.edit.now in
     let some = page_some _ _ e _ c.requires.edit c.requires.stays.page refl in
-    page_kept _ _ _ e _ _ _ h c.requires.edit c.requires.stays refl some c.requires.tiled c.requires.merged
+    page_kept _ _ _ e _ _ _ h c.requires.edit c.requires.stays refl some c.requires.whole.tiled c.requires.whole.merged
     (c.splice_page.ensures.rewritten no_entry)

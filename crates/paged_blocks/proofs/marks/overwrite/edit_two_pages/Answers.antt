@@ -20,7 +20,7 @@ splice_page-requires-clause-spliced c = λ d.
     let s = c.requires.stays in
     let k = c.requires.kept.1 in
     let q = split_of es e c.at-len.result _ _ _ s c.at-len.ensures c.part-front.ensures c.part-back.ensures c.len.ensures.value in
-    (two_rows pages es e _ _ _ d k.paging i q c.requires.tiled).0
+    (two_rows pages es e _ _ _ d k.paging i q c.requires.whole.tiled).0
 
 pub splice_page-requires-2-clause-each : goal.splice_page-requires-2-clause-each
 splice_page-requires-2-clause-each c =
@@ -96,7 +96,7 @@ splice_page-requires-2-clause-spliced c = λ d.
     let q = split_of es e c.at-len.result _ _ _ s c.at-len.ensures c.part-front.ensures c.part-back.ensures c.len.ensures.value in
     let some = front_long pages es e _ _ _ k.paging (omega (arith, i.order, i.last)) s q in
     let w = first_written pages es c.requires.kept.0 e _ _ _ k i s some (c.splice_page.ensures.rewritten no_entry) in
-    rw (w.2 d) ((two_rows pages es e _ _ _ no_entry k.paging i q c.requires.tiled).1)
+    rw (w.2 d) ((two_rows pages es e _ _ _ no_entry k.paging i q c.requires.whole.tiled).1)
 
 pub returns-clause-flat : goal.returns-clause-flat
 returns-clause-flat c =
@@ -118,6 +118,6 @@ returns-clause-kept c = λ free h.
     let i = c.requires.edit in
     let s = c.requires.stays in
     let q = split_of es e c.at-len.result _ _ _ s c.at-len.ensures c.part-front.ensures c.part-back.ensures c.len.ensures.value in
-    two_kept _ _ _ e _ _ c.requires.tiled c.requires.merged
+    two_kept _ _ _ e _ _ c.requires.whole.tiled c.requires.whole.merged
     (two_done pages es free e _ _ _ _ _ _ _ h i s q (c.splice_page.ensures.rewritten no_entry)
     (c.splice_page-2.ensures.rewritten no_entry))

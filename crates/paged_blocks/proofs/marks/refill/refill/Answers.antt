@@ -27,7 +27,7 @@ deal-requires-clause-pages c =
       arith,
       taken_out c.args.entries.now.items c.release.new.entries.items c.args.region.now.first c.args.region.now.past
           c.requires.region.order c.requires.region.within c.release.ensures.entries,
-      c.requires.pages,
+      c.requires.fit.pages,
     )
 
 pub deal-requires-clause-entries : goal.deal-requires-clause-entries
@@ -36,7 +36,7 @@ deal-requires-clause-entries c =
       arith,
       taken_out c.args.entries.now.items c.release.new.entries.items c.args.region.now.first c.args.region.now.past
           c.requires.region.order c.requires.region.within c.release.ensures.entries,
-      c.requires.entries,
+      c.requires.fit.entries,
       c.release.ensures.capacity,
     )
 
@@ -69,8 +69,8 @@ returns-clause-kept c =
     ∙ ap (λ x. flat pages (take first es) ++ blocks ++ flat pages x) back in
     record {
       paging = record {
-        tiled = rw q c.requires.tiled;
-        merged = rw q c.requires.merged;
+        tiled = rw q c.requires.whole.tiled;
+        merged = rw q c.requires.whole.merged;
         each = c.deal.ensures.filed.each;
       };
       half = record {
@@ -92,4 +92,11 @@ returns-clause-kept c =
     }
 
 pub deal-requires-clause-row : goal.deal-requires-clause-row
-deal-requires-clause-row c = row_middle _ _ _ c.requires.tiled
+deal-requires-clause-row c = row_middle _ _ _ c.requires.whole.tiled
+
+pub returns-clause-room : goal.returns-clause-room
+returns-clause-room c = record {
+  pages = omega (arith, c.deal.ensures.pages);
+  entries = omega (arith, c.release.ensures.capacity, c.deal.ensures.capacity);
+  free = omega (arith, c.requires.room, c.release.ensures.free, c.deal.ensures.free, c.deal.ensures.pages);
+}
