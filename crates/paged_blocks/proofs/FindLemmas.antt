@@ -1,5 +1,7 @@
-use Rattle.std.proofs.Common.{◌≡◌, ℕ, zero, suc, ◌+◌, ◌-◌, ◌<◌, ◌≤◌, ◌^◌, List, length, get_or, max, min, Option, None, Some, IfNone, arith, ap, sym, ◌∙◌}
+-- What is known of the map while a search passes pages, and what it finds.
 use Rattle.std.specs.List.{flat_map, slice_get}
+use Rattle.std.proofs.Common.{◌≡◌, ℕ, zero, suc, ◌+◌, ◌-◌, ◌<◌, ◌≤◌, ◌^◌, List, length, get_or, max, min, Option, None, Some, IfNone, arith, ap, sym, ◌∙◌, ⊎_elim}
+use Rattle.std.proofs.lemmas.Bool.{cases_lt}
 use Rattle.std.proofs.lemmas.List.{get_or_default}
 use Rattle.std.proofs.lemmas.Option.{slice_get_within}
 use Rattle.block_list.specs.declared.block.Block.{Block}
@@ -11,11 +13,12 @@ use Rattle.block_list.specs.Edits.{start_of}
 use Rattle.block_list.proofs.TileLemmas.{tile_at, tile_read, start_mono}
 use Rattle.block_list.proofs.EditLemmas.{no_block, read_there}
 use Rattle.block_list.proofs.LookupLemmas.{stretch_held, clear_after, clear_before, clear_up, found_first, found_range_up, found_last, found_range_down}
-use Rattle.paged_blocks.specs.declared.entry.PageEntry.{PageEntry}
-use Rattle.paged_blocks.specs.Tally.{tallied}
-use Rattle.paged_blocks.specs.Search.{AreNonempty, HasNoneOf, HasAt, IsFirstBlock, IsLastBlock, IsBare}
+use Rattle.block_pages.specs.declared.page_entry.PageEntry.{PageEntry}
+use Rattle.block_pages.specs.Tally.{tallied}
+use Rattle.block_pages.specs.Search.{AreNonempty, HasNoneOf, HasAt, IsFirstBlock, IsLastBlock}
+use Rattle.block_pages.proofs.CountLemmas.{none_counted, counted_none}
+use Rattle.paged_blocks.specs.Walks.{IsBare}
 use Rattle.paged_blocks.specs.Paging.{blocks_of, flat, before, IsEntry, IsPaging, IsHeld}
-use Rattle.paged_blocks.proofs.CountLemmas.{none_counted, counted_none}
 use Rattle.paged_blocks.proofs.PagingLemmas.{no_entry, before_more, before_mono, before_all, page_read, page_index, read_in_page}
 
 -- blocks of a page without a status are passed
@@ -77,6 +80,26 @@ pub passed_down : (pages : List (List Block)) (e : PageEntry) (s : Status) (j ol
     → IfNone r (j ≡ length (blocks_of pages e) → new ≡ old)
 passed_down pages e s j old new None h z o = λ q. absurd (some_tallied pages e s h z (rw q at o))
 passed_down pages e s j old new (Some b) h z o = tt
+
+-- and where nothing is found in a part of one, not all of its blocks were looked at
+pub missed_up : (pages : List (List Block)) (e : PageEntry) (s : Status) (j old new : ℕ) (r : Option Block) → IsEntry pages e
+    → (tallied e.tally s ≡ 0 → ⊥) → IfNone r (HasNoneOf (blocks_of pages e) s j (length (blocks_of pages e)))
+    → IfNone r (new ≤ old + (length (blocks_of pages e) - j)) → IfNone r (new < old + length (blocks_of pages e))
+missed_up pages e s j old new None h z o c =
+    ⊎_elim (λ (v : 0 < j). omega (arith, h.some))
+    (λ (v : j ≤ 0). let q : j ≡ 0 = omega arith in absurd (some_tallied pages e s h z (rw q at o)))
+    (cases_lt 0 j)
+missed_up pages e s j old new (Some b) h z o c = tt
+
+pub missed_down : (pages : List (List Block)) (e : PageEntry) (s : Status) (j old new : ℕ) (r : Option Block) → IsEntry pages e
+    → j ≤ length (blocks_of pages e) → (tallied e.tally s ≡ 0 → ⊥) → IfNone r (HasNoneOf (blocks_of pages e) s 0 j)
+    → IfNone r (new ≤ old + j) → IfNone r (new < old + length (blocks_of pages e))
+missed_down pages e s j old new None h l z o c =
+    ⊎_elim (λ (v : j < length (blocks_of pages e)). omega arith)
+    (λ (v : length (blocks_of pages e) ≤ j).
+    let q : j ≡ length (blocks_of pages e) = omega arith in absurd (some_tallied pages e s h z (rw q at o)))
+    (cases_lt j (length (blocks_of pages e)))
+missed_down pages e s j old new (Some b) h l z o c = tt
 
 -- no block of a page is empty
 pub page_filled : (pages : List (List Block)) (es : List PageEntry) (k : ℕ) (e : PageEntry) → IsPaging pages es → k < length es

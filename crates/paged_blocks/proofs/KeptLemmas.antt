@@ -1,7 +1,8 @@
-use Rattle.std.proofs.Common.{◌≡◌, ℕ, zero, suc, ◌+◌, ◌-◌, ◌<◌, ◌≤◌, ◌^◌, List, [], ◌∷◌, ◌++◌, length, take, drop, get_or, slice_range, refl, arith, ap, sym, ◌∙◌, append-nil, length-append, length-drop, ⊎_elim, Result, Ok, Err, IsOk, is_ok, if◌then◌else◌}
+-- Pages that are made from a plain list, and more pages.
 use Rattle.std.specs.List.{flat_map}
+use Rattle.std.proofs.Common.{◌≡◌, ℕ, zero, suc, ◌+◌, ◌-◌, ◌<◌, ◌≤◌, ◌^◌, List, [], ◌∷◌, ◌++◌, length, take, drop, get_or, slice_range, refl, arith, ap, sym, ◌∙◌, append-nil, length-drop, ⊎_elim, Result, Ok, Err, IsOk, is_ok, if◌then◌else◌}
 use Rattle.std.proofs.lemmas.Bool.{cases_lt}
-use Rattle.std.proofs.lemmas.List.{get_or_append_left, get_or_push, length_push, length-take-le, take_all, take-append-drop}
+use Rattle.std.proofs.lemmas.List.{get_or_append_left, get_or_push, length_push, length-take-le, take_all}
 use Rattle.std.proofs.lemmas.Grind.{flat_map-append}
 use Rattle.std.proofs.Math.Seq.{take-add}
 use Rattle.block_list.specs.declared.status.Status.{Status}
@@ -9,13 +10,15 @@ use Rattle.block_list.specs.declared.block.Block.{Block}
 use Rattle.block_list.specs.Stretches.{covered, stretches}
 use Rattle.block_list.specs.Edits.{IsTiled}
 use Rattle.block_list.specs.Tiling.{AreTiles}
-use Rattle.block_list.proofs.TileLemmas.{covered-append, length_first, tiled_from_tiles, start_le_end}
+use Rattle.block_list.proofs.TileLemmas.{length_first, tiled_from_tiles}
 use Rattle.block_list.proofs.ApartLemmas.{merged_from_apart, apart_from_merged}
 use Rattle.block_list.proofs.StretchLemmas.{stretches_of_tiles, stretches_tiles, stretches_covered, stretches_apart}
-use Rattle.paged_blocks.specs.declared.entry.PageEntry.{PageEntry}
-use Rattle.paged_blocks.specs.Paging.{blocks_of, flat, before, IsEntryOf, IsEntry, IsAdded, IsKeptInPages, IsPaging, short_pages, naming}
+use Rattle.block_pages.specs.declared.page_entry.PageEntry.{PageEntry}
+use Rattle.block_pages.specs.PageEntries.{IsEntryOf}
+use Rattle.block_pages.proofs.RangeLemmas.{part_short}
+use Rattle.paged_blocks.specs.Paging.{blocks_of, flat, before, IsEntry, IsAdded, IsKeptInPages, IsPaging, short_pages, naming}
 use Rattle.paged_blocks.proofs.PagingLemmas.{no_entry, before_le, before_more, before_all}
-use Rattle.paged_blocks.proofs.FilingLemmas.{naming-push, shorts-push, names_other, names_one, is_long, other_number, number_one, standing-push}
+use Rattle.paged_blocks.proofs.RefillLemmas.{naming-push, shorts-push, names_other, names_one, is_long, other_number, number_one, standing-push}
 
 -- an entry means the same where there are more pages
 pub blocks_kept : (pages : List (List Block)) (page : List Block) (e : PageEntry) → e.page < length pages
@@ -166,15 +169,6 @@ pub filled_statuses : (pages : List (List Block)) (es : List PageEntry) (map : L
     → IsFilling pages es (stretches map) made → length (stretches map) ≤ made → flat_map covered (flat pages es) ≡ map
 filled_statuses pages es map made f h =
     ap (λ r. flat_map covered r) (f.same ∙ take_all made (stretches map) h) ∙ stretches_covered 0 map
-
--- some of a list's blocks have no more positions than all
-pub part_short : (bs : List Block) (made to : ℕ) → length (flat_map covered (slice_range bs made to)) ≤ length (flat_map covered bs)
-part_short bs made to =
-    let back : List Block = drop made bs in
-    let a = start_le_end back (to - made) in
-    let b = ap length (covered-append (take made bs) back) in
-    let c = ap (λ r. length (flat_map covered r)) (take-append-drop made bs) in
-    omega (arith, a, b, c, length-append (flat_map covered (take made bs)) (flat_map covered back))
 
 pub range_short : (map : List Status) (made to : ℕ) (page : List Block) → page ≡ slice_range (stretches map) made to
     → length (flat_map covered page) ≤ length map

@@ -1,5 +1,6 @@
-use Rattle.std.proofs.Common.{◌≡◌, ℕ, ◌+◌, ◌-◌, ◌<◌, ◌≤◌, ◌^◌, List, [], ◌∷◌, ◌++◌, length, take, drop, get_or, replicate, Option, Some, None, max, refl, subst, arith, ap, sym, ◌∙◌, append_assoc, append-nil, length-append, option_to_list}
+-- A mark, and what is left of the blocks on its sides.
 use Rattle.std.specs.List.{flat_map}
+use Rattle.std.proofs.Common.{◌≡◌, ℕ, ◌+◌, ◌-◌, ◌<◌, ◌≤◌, ◌^◌, List, [], ◌∷◌, ◌++◌, length, take, drop, get_or, replicate, Option, Some, None, max, refl, subst, arith, ap, sym, ◌∙◌, append_assoc, append-nil, length-append, option_to_list}
 use Rattle.std.proofs.lemmas.List.{length_push, take-append-drop, take_more, drop_more, take_at, drop_at, drop_all, replicate-append-replicate, length-replicate}
 use Rattle.block_list.specs.declared.status.Status.{Status}
 use Rattle.block_list.specs.declared.block.Block.{Block}
@@ -9,7 +10,8 @@ use Rattle.block_list.specs.Tiling.{AreTiles, IsMerged}
 use Rattle.block_list.specs.Edits.{IsTiled, IsPlace, start_of}
 use Rattle.block_list.proofs.TileLemmas.{covered-append, tiles_join, tiled_from_tiles, parts_of, start_all, index_before, IsTile, tile_read}
 use Rattle.block_list.proofs.ApartLemmas.{AreApart, apart_from_merged, merged_from_apart, apart_last, apart_first, apart_push, apart_meet, merged_front, merged_back}
-use Rattle.paged_blocks.specs.Marks.{IsJoinedFront, IsJoinedBack, spliced, AreOfMap}
+use Rattle.block_pages.specs.Splice.{spliced}
+use Rattle.paged_blocks.specs.Marks.{IsJoinedFront, IsJoinedBack, AreOfMap}
 
 -- a list with the block that was read in it
 around : (bs : List Block) (k : ℕ) (b : Block) → k < length bs → b ≡ get_or bs k b → bs ≡ take k bs ++ b ∷ drop (k + 1) bs

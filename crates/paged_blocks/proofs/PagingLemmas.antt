@@ -1,21 +1,23 @@
-use Rattle.std.proofs.Common.{◌≡◌, ℕ, ◌+◌, ◌-◌, ◌<◌, ◌≤◌, List, [], ◌∷◌, ◌++◌, All, length, take, drop, get_or, arith, ap, sym, ◌∙◌, refl, Some, length-append, ⊎_elim}
+-- The pages and their entries as one list of blocks.
 use Rattle.std.specs.List.{flat_map, slice_get}
 use Rattle.std.specs.List.Sorted.{IsNonDecreasingBy}
+use Rattle.std.proofs.Common.{◌≡◌, ℕ, ◌+◌, ◌-◌, ◌<◌, ◌≤◌, List, [], ◌∷◌, ◌++◌, All, length, take, drop, get_or, arith, ap, sym, ◌∙◌, refl, Some, length-append, ⊎_elim}
 use Rattle.std.proofs.lemmas.Bool.{cases_lt}
 use Rattle.std.proofs.lemmas.List.{take-append-drop, take-take, take_more, take_all, get_or_default}
 use Rattle.std.proofs.lemmas.List.Concat.{get_or-flat_map}
 use Rattle.std.proofs.lemmas.Grind.{flat_map-append}
-use Rattle.block_list.specs.declared.block.Block.{Block}
 use Rattle.std.proofs.lemmas.Option.{get_or_from_slice_get, slice_get_within, slice_get_read}
+use Rattle.block_list.specs.declared.block.Block.{Block}
 use Rattle.block_list.specs.Stretches.{covered, IsStretchAt}
 use Rattle.block_list.specs.Edits.{IsPlace, start_of}
 use Rattle.block_list.proofs.TileLemmas.{tile_at, start_mono, start_all}
 use Rattle.block_list.proofs.EditLemmas.{no_block, rising}
 use Rattle.block_list.proofs.LookupLemmas.{stretch_held, place_held}
-use Rattle.paged_blocks.specs.declared.entry.PageEntry.{PageEntry}
-use Rattle.paged_blocks.specs.Search.{IsSearched}
-use Rattle.paged_blocks.specs.Paging.{blocks_of, flat, before, IsEntry, IsEntryOf, IsPaging, IsHeld}
-use Rattle.paged_blocks.proofs.SearchLemmas.{block_begins}
+use Rattle.block_pages.specs.declared.page_entry.PageEntry.{PageEntry}
+use Rattle.block_pages.specs.Search.{IsSearched}
+use Rattle.block_pages.specs.PageEntries.{IsEntryOf}
+use Rattle.block_pages.proofs.SearchLemmas.{block_begins}
+use Rattle.paged_blocks.specs.Paging.{blocks_of, flat, before, IsEntry, IsPaging, IsHeld}
 
 -- an entry to read a list with
 abbrev pub no_entry : PageEntry

@@ -1,19 +1,22 @@
+-- A page that an edit writes anew.
 use Rattle.std.proofs.Common.{◌≡◌, ℕ, ◌+◌, ◌-◌, ◌*◌, ◌<◌, ◌≤◌, ◌∙◌, List, ◌++◌, All, length, take, drop, get_or, set, min, refl, subst, ap, sym, arith, length-append, length-drop}
 use Rattle.std.proofs.lemmas.List.{length-set, length-take-le}
 use Rattle.std.proofs.lemmas.List.Elements.{All-append, All-take, All-drop}
 use Rattle.block_list.specs.declared.block.Block.{Block}
 use Rattle.block_list.specs.Tiling.{IsMerged}
 use Rattle.block_list.specs.Edits.{IsTiled}
-use Rattle.paged_blocks.specs.declared.entry.PageEntry.{PageEntry}
-use Rattle.paged_blocks.specs.declared.marks.Edit.{Edit}
-use Rattle.paged_blocks.specs.declared.regions.Region.{Region}
-use Rattle.paged_blocks.specs.Paging.{blocks_of, flat, before, IsEntry, IsEntryOf, IsKeptInPages, AreFiled, IsRewritten}
-use Rattle.paged_blocks.specs.Marks.{spliced, edited, IsEdit}
-use Rattle.paged_blocks.specs.Regions.{IsRegion, StaysInPage, refilled}
+use Rattle.block_pages.specs.declared.page_entry.PageEntry.{PageEntry}
+use Rattle.block_pages.specs.PageEntries.{IsEntryOf}
+use Rattle.block_pages.specs.Splice.{spliced}
+use Rattle.paged_blocks.specs.declared.marks.edit.Edit.{Edit}
+use Rattle.paged_blocks.specs.declared.marks.touched_pages.Region.{Region}
+use Rattle.paged_blocks.specs.Paging.{blocks_of, flat, before, IsEntry, IsKeptInPages, AreFiled, IsRewritten}
+use Rattle.paged_blocks.specs.Marks.{edited, IsEdit}
+use Rattle.paged_blocks.specs.TouchedPages.{IsRegion, StaysInPage, refilled}
 use Rattle.paged_blocks.specs.Room.{room_for}
 use Rattle.paged_blocks.proofs.PagingLemmas.{no_entry}
-use Rattle.paged_blocks.proofs.FilingLemmas.{rewritten, rewritten_flat, kept_long, kept_fits}
-use Rattle.paged_blocks.proofs.RegionLemmas.{page_edited, page_len, edit_len, region_few}
+use Rattle.paged_blocks.proofs.RefillLemmas.{rewritten, rewritten_flat, kept_long, kept_fits}
+use Rattle.paged_blocks.proofs.TouchedLemmas.{page_edited, page_len, edit_len, region_few}
 
 -- a page was written, with the entry that says what it holds
 pub written_page : (pages : List (List Block)) (es : List PageEntry) (k : ℕ) (old entry : PageEntry) (page new : List Block)

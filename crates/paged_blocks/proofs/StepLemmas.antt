@@ -1,12 +1,13 @@
+-- How much a search looks at.
 use Rattle.std.proofs.Common.{◌≡◌, ℕ, zero, suc, ◌+◌, ◌-◌, ◌*◌, ◌/◌, ◌<◌, ◌≤◌, ◌^◌, List, length, get_or, arith, ⊎_elim}
 use Rattle.std.proofs.lemmas.Bool.{cases_lt}
 use Rattle.block_list.specs.declared.block.Block.{Block}
-use Rattle.paged_blocks.specs.declared.entry.PageEntry.{PageEntry}
-use Rattle.paged_blocks.specs.Search.{IsWalk}
+use Rattle.block_pages.specs.declared.page_entry.PageEntry.{PageEntry}
+use Rattle.block_pages.proofs.HalvingLemmas.{below_power}
+use Rattle.paged_blocks.specs.Walks.{IsWalk}
 use Rattle.paged_blocks.specs.Paging.{blocks_of, flat, before, IsPaging, AreHalfFull}
 use Rattle.paged_blocks.proofs.PagingLemmas.{no_entry, before_more, before_all}
-use Rattle.paged_blocks.proofs.FilingLemmas.{long_at}
-use Rattle.paged_blocks.proofs.HalvingLemmas.{below_power}
+use Rattle.paged_blocks.proofs.RefillLemmas.{long_at}
 
 -- pages have at least 32 blocks each
 pub half_between : (pages : List (List Block)) (es : List PageEntry) (i n : ℕ) → IsPaging pages es → AreHalfFull es
@@ -57,7 +58,7 @@ one_page pages es p f u =
 
 -- what a search costs that looks into one page, and one that looks into two
 pub looks_one : (entries total old found new : ℕ) → 0 < entries → (1 < entries → 32 * entries ≤ total)
-    → ((n : ℕ) → entries ≤ 2 ^ n → found ≤ old + n + 7) → new ≤ found + 1 + 64 + (entries - 1)
+    → ((n : ℕ) → entries ≤ 2 ^ n → found ≤ old + n + 7) → new ≤ found + 1 + 65 + (entries - 1)
     → new ≤ old + total / 16 + 130
 looks_one entries total old found new h f c l =
     let e : entries - 1 + 1 ≡ entries = omega arith in
@@ -65,8 +66,8 @@ looks_one entries total old found new h f c l =
     ⊎_elim (λ (u : 1 < entries). omega (arith, f u, a)) (λ (u : entries ≤ 1). omega (arith, a)) (cases_lt 1 entries)
 
 pub looks_two : (entries total old found left past new n m : ℕ) → 1 < entries → 32 * (entries - 2) + n + m ≤ total
-    → ((n : ℕ) → entries ≤ 2 ^ n → found ≤ old + n + 7) → IsWalk (found + 1) left n → past ≤ left + (entries - 1)
+    → ((n : ℕ) → entries ≤ 2 ^ n → found ≤ old + n + 7) → n ≤ 64 → left < found + 1 + n → past ≤ left + (entries - 1)
     → IsWalk past new m → new ≤ old + total / 16 + 130
-looks_two entries total old found left past new n m h f c v l w =
+looks_two entries total old found left past new n m h f c b v l w =
     let a : found ≤ old + (entries - 1) + 7 = c (entries - 1) (omega (arith, below_power (entries - 1))) in
-    omega (arith, a, v.within, v.few, w.within, w.few)
+    omega (arith, a, w.within, w.few)

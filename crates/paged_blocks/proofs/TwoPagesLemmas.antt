@@ -4,16 +4,18 @@ use Rattle.std.proofs.lemmas.List.{take-append-drop, take_at, drop_at, drop_all,
 use Rattle.block_list.specs.declared.block.Block.{Block}
 use Rattle.block_list.specs.Tiling.{IsMerged}
 use Rattle.block_list.specs.Edits.{IsTiled}
-use Rattle.paged_blocks.specs.declared.entry.PageEntry.{PageEntry}
-use Rattle.paged_blocks.specs.declared.marks.Edit.{Edit}
+use Rattle.block_pages.specs.declared.page_entry.PageEntry.{PageEntry}
+use Rattle.block_pages.specs.Splice.{spliced}
+use Rattle.block_pages.specs.Rows.{AreRow}
+use Rattle.block_pages.proofs.RangeLemmas.{range_front, range_back}
+use Rattle.block_pages.proofs.RowLemmas.{row_middle, row_split}
+use Rattle.paged_blocks.specs.declared.marks.edit.Edit.{Edit}
 use Rattle.paged_blocks.specs.Paging.{blocks_of, flat, short_pages, IsEntry, IsPaging, IsKeptInPages, IsRewritten, AreFiled, AreHalfFull}
-use Rattle.paged_blocks.specs.Marks.{spliced, edited, IsEdit}
-use Rattle.paged_blocks.specs.Regions.{StaysInTwoPages}
+use Rattle.paged_blocks.specs.Marks.{edited, IsEdit}
+use Rattle.paged_blocks.specs.TouchedPages.{StaysInTwoPages}
 use Rattle.paged_blocks.proofs.PagingLemmas.{no_entry}
-use Rattle.paged_blocks.proofs.FilingLemmas.{IsPlaced, rewritten, rewritten_flat, kept_long, long_at}
-use Rattle.paged_blocks.specs.Rows.{AreRow}
-use Rattle.paged_blocks.proofs.RegionLemmas.{touched_same, range_front, range_back}
-use Rattle.paged_blocks.proofs.RowLemmas.{row_middle, row_split}
+use Rattle.paged_blocks.proofs.RefillLemmas.{IsPlaced, rewritten, rewritten_flat, kept_long, long_at}
+use Rattle.paged_blocks.proofs.TouchedLemmas.{touched_same}
 
 -- a list with as many blocks in the place of others
 pub alike_len : (bs : List Block) (from to : ℕ) (new : List Block) → from ≤ to → to ≤ length bs → from + length new ≡ to

@@ -1,10 +1,8 @@
-pub mod Tally
-pub mod Listed
-pub mod Rows
-pub mod Search
+pub mod EntryList
+pub mod Walks
 pub mod Paging
 pub mod Marks
-pub mod Regions
+pub mod TouchedPages
 pub mod Room
-pub mod Paged
+pub mod PageTree
 pub mod Forms

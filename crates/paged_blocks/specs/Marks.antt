@@ -1,13 +1,14 @@
 -- What comes in the place of the blocks that a mark covers, and of the parts of blocks on its sides.
-use Rattle.std.specs.Prelude.{◌≡◌, ℕ, ◌+◌, ◌<◌, ◌≤◌, List, [], ◌∷◌, ◌++◌, Option, None, length, take, drop, max, min, option_to_list, slice_index_or}
+use Rattle.std.specs.Prelude.{◌≡◌, ℕ, ◌+◌, ◌<◌, ◌≤◌, ◌^◌, List, [], ◌∷◌, ◌++◌, Option, None, length, take, drop, max, min, option_to_list, slice_index_or}
 use Rattle.std.specs.List.{flat_map}
 use Rattle.block_list.specs.declared.block.Block.{Block}
 use Rattle.block_list.specs.declared.status.Status.{Status}
 use Rattle.block_list.specs.Stretches.{covered}
 use Rattle.block_list.specs.Tiling.{AreTiles, IsMerged}
 use Rattle.block_list.specs.Edits.{IsTiled, start_of}
-use Rattle.paged_blocks.specs.declared.entry.PageEntry.{PageEntry}
-use Rattle.paged_blocks.specs.declared.marks.Edit.{Edit}
+use Rattle.block_pages.specs.declared.page_entry.PageEntry.{PageEntry}
+use Rattle.block_pages.specs.Splice.{spliced}
+use Rattle.paged_blocks.specs.declared.marks.edit.Edit.{Edit}
 use Rattle.paged_blocks.specs.Paging.{blocks_of, flat, before}
 
 -- wide is a block, with what comes before it if that has its status; rest is what is left of the one that it begins in.
@@ -40,9 +41,11 @@ pub record IsJoinedBack (bs : List Block) (block : Block) (high : ℕ) (rest : O
   pub same : flat_map covered (whole ∷ option_to_list rest ++ drop high bs)
       ≡ covered block ++ drop (block.pos + block.size) (flat_map covered bs)
 
--- the list with new blocks in the place of those from one index up to another
-abbrev pub spliced : List Block → ℕ → ℕ → List Block → List Block
-spliced bs from to new = take from bs ++ new ++ drop to bs
+-- the positions of a block may be marked: there is one, and the first is the map's end or before it
+pub record IsMarkable (end : ℕ) (block : Block) : Type 0 where
+  pub some : 0 < block.size
+  pub begins : block.pos ≤ end
+  pub short : block.pos + block.size < 2 ^ 63
 
 -- the indexes among all blocks between which an edit takes out blocks
 abbrev pub edit_from : List (List Block) → List PageEntry → Edit → ℕ
@@ -71,3 +74,8 @@ pub record AreOfMap (bs : List Block) (map : List Status) : Type 0 where
   pub tiled : IsTiled bs
   pub merged : IsMerged bs
   pub statuses : flat_map covered bs ≡ map
+
+-- blocks are a map's: each begins where the one before ends, and has another status
+pub record AreMapBlocks (bs : List Block) : Type 0 where
+  pub tiled : IsTiled bs
+  pub merged : IsMerged bs

@@ -7,8 +7,9 @@ use Rattle.block_list.specs.Status.{same}
 use Rattle.block_list.specs.Stretches.{covered}
 use Rattle.block_list.specs.Tiling.{IsMerged}
 use Rattle.block_list.specs.Edits.{IsTiled, IsPlace}
-use Rattle.paged_blocks.specs.declared.entry.PageEntry.{PageEntry}
-use Rattle.paged_blocks.specs.Tally.{tallied}
+use Rattle.block_pages.specs.declared.page_entry.PageEntry.{PageEntry}
+use Rattle.block_pages.specs.Tally.{tallied}
+use Rattle.block_pages.specs.PageEntries.{IsEntryOf}
 
 -- the blocks of the page that an entry names
 abbrev pub blocks_of : List (List Block) → PageEntry → List Block
@@ -21,14 +22,6 @@ flat pages entries = flat_map (blocks_of pages) entries
 -- how many blocks the pages of the first i entries have
 abbrev pub before : List (List Block) → List PageEntry → ℕ → ℕ
 before pages entries i = length (flat pages (take i entries))
-
--- an entry says what a page with a number holds
-pub record IsEntryOf (blocks : List Block) (number : ℕ) (e : PageEntry) : Type 0 where
-  pub page : e.page ≡ number
-  pub len : e.len ≡ length blocks
-  pub fits : length blocks ≤ 64
-  pub begins : (d : Block) → (slice_index_or blocks 0 d).pos ≡ e.pos
-  pub tally : (s : Status) → tallied e.tally s ≡ count_by (λ z. same z s) (flat_map covered blocks)
 
 -- an entry says what its page holds: at least one block, and at most 64
 pub record IsEntry (pages : List (List Block)) (e : PageEntry) : Type 0 where

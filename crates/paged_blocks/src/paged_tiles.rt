@@ -4,14 +4,14 @@ ghost use Rattle.block_list.specs.Map.{Has};
 ghost use Rattle.block_list.specs.Places.{IsFirst, IsLast, IsRangeUp, IsRangeDown};
 ghost use Rattle.block_list.specs.Stretches.{stretches};
 
-use crate::few;
-use crate::pages::Pages;
-use crate::steps::Steps;
+use crate::page_tree::Pages;
+use crate::short_list;
 use block_list::block::{Block, Range};
 use block_list::near::Near;
 use block_list::plain_tiles::PlainTiles;
 use block_list::status::Status;
 use block_list::tiles::{NoMemory, Tiles};
+use block_pages::steps::Steps;
 use std::alloc::Global;
 use std::marker::{Brand, Model};
 use std::sync::ledger::{Blank, Ledger};
@@ -47,8 +47,8 @@ impl PagedTiles {
     pub fn from_plain(alloc: Global, tiles: &PlainTiles) -> Result<PagedTiles, NoMemory>
         ensures { IfOk result (λ t. t.statuses ≡ tiles.now.statuses) }
     {
-        let form = if tiles.blocks() <= few::FEW {
-            Form::Few(few::copied(alloc, tiles)?)
+        let form = if tiles.blocks() <= short_list::FEW {
+            Form::Few(short_list::copied(alloc, tiles)?)
         } else {
             Form::Many(Pages::from_plain(alloc, tiles)?)
         };
@@ -103,7 +103,7 @@ impl PagedTiles {
         ensures there { Has self.now.statuses status from → steps.new ≤ steps.old + 130 }
     {
         match &self.form {
-            Form::Few(tiles) => few::first_with(tiles, from, status, steps),
+            Form::Few(tiles) => short_list::first_with(tiles, from, status, steps),
             Form::Many(pages) => pages.find_forward(from, status, steps),
         }
     }
@@ -122,7 +122,7 @@ impl PagedTiles {
         ensures there { Has self.now.statuses status (before - 1) → steps.new ≤ steps.old + 130 }
     {
         match &self.form {
-            Form::Few(tiles) => few::last_with(tiles, before, status, steps),
+            Form::Few(tiles) => short_list::last_with(tiles, before, status, steps),
             Form::Many(pages) => pages.find_backward(before, status, steps),
         }
     }
@@ -215,7 +215,7 @@ impl Tiles for PagedTiles {
     fn reserve(&mut self, n: usize) -> Result<(), NoMemory> {
         match &mut self.form {
             Form::Few(tiles) => {
-                if n <= few::FEW && tiles.blocks() <= few::FEW - n {
+                if n <= short_list::FEW && tiles.blocks() <= short_list::FEW - n {
                     return tiles.reserve(n);
                 }
             }

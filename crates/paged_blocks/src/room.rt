@@ -1,23 +1,12 @@
 //! Room for more blocks.
 ghost use Rattle.std.specs.Prelude.{◌≡◌, ◌≤◌, length, vec_len, vec_capacity, OnOk};
-ghost use Rattle.paged_blocks.specs.Paging.{flat, IsPaging, IsKeptInPages};
+ghost use Rattle.paged_blocks.specs.Paging.{flat, IsKeptInPages};
 ghost use Rattle.paged_blocks.specs.Room.{room_for};
 
-use crate::entries::Entries;
-use crate::page::Page;
+use crate::counts::blocks;
+use crate::entry_list::Entries;
 use block_list::tiles::NoMemory;
-
-/// How many blocks the pages have.
-pub fn blocks(pages: &[Page], entries: &Entries) -> usize
-    requires { IsPaging pages.now entries.now.items }
-    ensures { result ≡ length (flat pages.now entries.now.items) }
-{
-    let mut blocks = 0;
-    for k in 0..entries.len() {
-        blocks += entries.at(k).len;
-    }
-    blocks
-}
+use block_pages::page::Page;
 
 /// Makes pages, and room for their entries, for n more blocks: a page for each, or if that is less, as many as hold all
 /// blocks if each is only half full. If enough pages are free it looks at none.

@@ -1,6 +1,6 @@
 use Rattle.std.proofs.Common.{arith}
 use Rattle.paged_blocks.proofs.GainLemmas.{extended_pieces}
-use Rattle.paged_blocks.proofs.FewLemmas.{formed_few, formed_many, few_room, few_spare, many_spare}
+use Rattle.paged_blocks.proofs.ShortListLemmas.{formed_few, formed_many, few_room, few_spare, many_spare}
 use Rattle.paged_blocks.proofs.paged_tiles.PagedTilesTiles.extend_to.Goals.{in-Few, in-Many}
 use Rattle.paged_blocks.proofs.paged_tiles.PagedTilesTiles.extend_to.Goals as goal
 

@@ -1,0 +1,5 @@
+pub mod Tally
+pub mod Splice
+pub mod Rows
+pub mod Search
+pub mod PageEntries

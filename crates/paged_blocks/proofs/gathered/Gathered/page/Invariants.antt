@@ -1,5 +1,0 @@
-use Rattle.std.proofs.Common.{◌≡◌, slice_range}
-use Rattle.paged_blocks.proofs.gathered.Gathered.page.Given as goal
-
-abbrev pub invariant-loop-i : goal.invariant-loop-i
-invariant-loop-i l = l.page ≡ slice_range l.self l.from l.i

@@ -1,0 +1,11 @@
+use Rattle.std.proofs.Common.{◌+◌, ◌≤◌}
+use Rattle.block_list.specs.Stretches.{stretches}
+use Rattle.block_list.specs.Edits.{start_of}
+use Rattle.block_list.proofs.LookupLemmas.{IsClear}
+use Rattle.paged_blocks.proofs.short_list.last_with.Given as goal
+
+abbrev pub invariant-loop-i : goal.invariant-loop-i
+invariant-loop-i g l = record {
+  clear : IsClear l.tiles.statuses l.status (start_of (stretches l.tiles.statuses) l.i) l.to;
+  cost : l.steps + l.i ≤ l.initial.steps + l.begun;
+}
