@@ -3,12 +3,12 @@ ghost use Rattle.ddrescue_words.specs.Asking.{AreInLimits};
 
 use ddrescue_words::command::{Command, Task, read_command};
 use option_words::words::Words;
-use program_advice::advice::due_advice;
-use program_advice::facts::{Facts, Work};
-use program_advice::look::{has_no_journal, is_link, look_at_file};
-use program_advice::tail::look_at_map;
-use program_advice::warning::{Names, line_of_advice};
-use rescue_console::console::{Channel, Console};
+use rescue_console::console::Console;
+use rescue_warnings::advice::due_advice;
+use rescue_warnings::facts::{Facts, Work};
+use rescue_warnings::look::{has_no_journal, is_link, look_at_file};
+use rescue_warnings::tail::look_at_map;
+use rescue_warnings::warning::{Names, put_warnings};
 use task_files::checked::PROGRAM;
 
 /// What is known before the work of a command. Nothing is known of a mapfile that isn't named.
@@ -50,12 +50,8 @@ fn warn_of<P: Console>(rt: &HostRuntime, work: Work, command: &Command<'_>, cons
         outfile: command.outfile,
         mapfile: command.mapfile.unwrap_or(""),
     };
-    for advice in &due_advice(&facts_of(rt, work, command)) {
-        let line = line_of_advice(PROGRAM, names, *advice);
-        if console.put(Channel::Err, &line).is_err() {
-            return;
-        }
-    }
+    let advices = due_advice(&facts_of(rt, work, command));
+    put_warnings(PROGRAM, names, &advices, console);
 }
 
 /// Puts the lines before the work that words ask for. Nothing else changes.

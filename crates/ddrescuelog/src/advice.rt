@@ -1,16 +1,14 @@
 //! The line after the message: why an answer came, by the files that the arguments name.
 use crash_site::folder::FolderSite;
-use crash_site::site::SiteCall;
 use ddrescuelog_cli::ending::{LogEnding, Which};
 use ddrescuelog_words::command::{Command, read_command};
 use ddrescuelog_words::options::ROWS;
-use option_values::command_error::CommandError;
 use option_words::words::Words;
 use program_advice::cause::{Cause, Fact, Hint, Named, Role, Stream};
+use program_advice::files::stream_cause;
 use program_advice::line::{Line, line_of};
-use program_advice::reason::reason_text;
-use program_advice::site::{SiteFiles, site_cause};
-use program_advice::usage::{Manual, usage_cause};
+use program_advice::site::{SiteFiles, fault_cause};
+use program_advice::usage::{Manual, line_on_words};
 use std::alloc::Global;
 use std::io;
 
@@ -58,25 +56,13 @@ fn unread_map<'a>(command: &Command<'a>, site: &FolderSite) -> Named<'a> {
     }
 }
 
-/// Why a call on a map or its folder failed.
-fn fault_cause<'a>(command: &Command<'a>, call: SiteCall, site: &FolderSite) -> Option<Cause<'a>> {
-    let trouble = site.trouble()?;
-    if trouble.call != call {
-        return None;
-    }
-    let files = SiteFiles {
+/// The files that a command's calls reach.
+fn files_of<'a>(command: &Command<'a>, site: &FolderSite) -> SiteFiles<'a> {
+    SiteFiles {
         outfile: "",
         mapfile: Some(command.mapfile),
         read: unread_map(command, site),
-    };
-    Some(site_cause(trouble, files))
-}
-
-/// Why a standard stream failed.
-fn stream_cause<'a>(stream: Stream, trouble: Option<io::Error>) -> Option<Cause<'a>> {
-    let error = trouble?;
-    let reason = reason_text(&error);
-    Some(Cause::Stream { stream, reason })
+    }
 }
 
 /// Why a command that was read ended so, if that helps.
@@ -94,7 +80,10 @@ fn cause_of<'a>(
         | LogEnding::Usage(_)
         | LogEnding::ListTooLong => return None,
         LogEnding::BadNumber { .. } => return Some(Cause::Hint(Hint::BlockNumbers)),
-        LogEnding::SiteFault { call } => return fault_cause(command, call, site),
+        LogEnding::SiteFault { call } => {
+            let files = files_of(command, site);
+            return fault_cause(site.trouble(), call, files);
+        }
         LogEnding::FeedFault => return stream_cause(Stream::Input, fed),
         LogEnding::ConsoleFault => return stream_cause(Stream::Output, put),
         LogEnding::NoMemory => return Some(Cause::Hint(Hint::NoMemory)),
@@ -117,16 +106,7 @@ pub fn advise(
 ) -> Option<Line> {
     let command = match read_command(alloc, words) {
         Ok(command) => command,
-        Err(
-            CommandError::Usage {
-                fault,
-                quiet: false,
-            },
-        ) => {
-            let cause = usage_cause(alloc, words, fault, manual())?;
-            return Some(line_of(PROGRAM, cause));
-        }
-        Err(_) => return None,
+        Err(error) => return line_on_words(PROGRAM, alloc, words, error, manual()),
     };
     if command.options.quiet {
         return None;

@@ -2,13 +2,12 @@
 use ddrescuepart_cli::ending::PartEnding;
 use ddrescuepart_words::command::{ROWS, read_command};
 use faulty_source::file::FileSource;
-use option_values::command_error::CommandError;
 use option_words::words::Words;
 use partition_domain::stop::Refusal;
-use program_advice::cause::{Cause, Doing, Hint, Named, Role, Stream};
+use program_advice::cause::{Cause, Hint, Named, Role, Stream};
+use program_advice::files::{open_cause, stream_cause};
 use program_advice::line::{Line, line_of};
-use program_advice::reason::reason_text;
-use program_advice::usage::{Manual, usage_cause};
+use program_advice::usage::{Manual, line_on_words};
 use std::alloc::Global;
 use std::io;
 
@@ -25,26 +24,6 @@ fn manual() -> Manual {
 /// The program's name, which begins its lines.
 const PROGRAM: &str = "ddrescuepart";
 
-/// Why the infile couldn't be opened.
-fn open_cause<'a>(name: &'a str, source: &FileSource) -> Option<Cause<'a>> {
-    let error = source.trouble()?;
-    let role = Role::Infile;
-    Some(Cause::Refused {
-        doing: Doing::Open,
-        file: Named { role, name },
-        reason: reason_text(&error),
-    })
-}
-
-/// Why standard output failed.
-fn put_cause<'a>(put: Option<io::Error>) -> Option<Cause<'a>> {
-    let error = put?;
-    Some(Cause::Stream {
-        stream: Stream::Output,
-        reason: reason_text(&error),
-    })
-}
-
 /// What helps where what was read gives no partition.
 fn refusal_hint(refusal: Refusal) -> Hint {
     match refusal {
@@ -56,15 +35,15 @@ fn refusal_hint(refusal: Refusal) -> Hint {
 
 /// Why a search ended so, if that helps.
 fn cause_of<'a>(
-    infile: &'a str,
+    infile: Named<'a>,
     ending: PartEnding,
     source: &FileSource,
     put: Option<io::Error>,
 ) -> Option<Cause<'a>> {
     let hint = match ending {
         PartEnding::Done | PartEnding::Usage(_) => return None,
-        PartEnding::SourceFault => return open_cause(infile, source),
-        PartEnding::ConsoleFault => return put_cause(put),
+        PartEnding::SourceFault => return open_cause(infile, source.trouble()),
+        PartEnding::ConsoleFault => return stream_cause(Stream::Output, put),
         PartEnding::SourceLost => Hint::InputLost,
         PartEnding::Refused(refusal) => refusal_hint(refusal),
         PartEnding::NoMemory => Hint::NoMemory,
@@ -83,20 +62,15 @@ pub fn advise(
 ) -> Option<Line> {
     let command = match read_command(alloc, words) {
         Ok(command) => command,
-        Err(
-            CommandError::Usage {
-                fault,
-                quiet: false,
-            },
-        ) => {
-            let cause = usage_cause(alloc, words, fault, manual())?;
-            return Some(line_of(PROGRAM, cause));
-        }
-        Err(_) => return None,
+        Err(error) => return line_on_words(PROGRAM, alloc, words, error, manual()),
     };
     if command.quiet {
         return None;
     }
-    let cause = cause_of(command.infile, ending, source, put)?;
+    let infile = Named {
+        role: Role::Infile,
+        name: command.infile,
+    };
+    let cause = cause_of(infile, ending, source, put)?;
     Some(line_of(PROGRAM, cause))
 }

@@ -3,13 +3,12 @@ use crash_site::folder::FolderSite;
 use ddrescueplan_cli::ending::PlanEnding;
 use ddrescueplan_words::command::read_command;
 use ddrescueplan_words::options::ROWS;
-use option_values::command_error::CommandError;
 use option_words::words::Words;
 use program_advice::cause::{Cause, Fact, Hint, Named, Role, Stream};
+use program_advice::files::stream_cause;
 use program_advice::line::{Line, line_of};
-use program_advice::reason::reason_text;
-use program_advice::site::{SiteFiles, site_cause};
-use program_advice::usage::{Manual, usage_cause};
+use program_advice::site::{SiteFiles, fault_cause};
+use program_advice::usage::{Manual, line_on_words};
 use std::alloc::Global;
 use std::io;
 
@@ -26,15 +25,6 @@ fn manual() -> Manual {
 /// The program's name, which begins its lines.
 pub(crate) const PROGRAM: &str = "ddrescueplan";
 
-/// Why standard output failed.
-fn put_cause<'a>(put: Option<io::Error>) -> Option<Cause<'a>> {
-    let error = put?;
-    Some(Cause::Stream {
-        stream: Stream::Output,
-        reason: reason_text(&error),
-    })
-}
-
 /// Why a plan ended so, if that helps.
 fn cause_of<'a>(
     read: Named<'a>,
@@ -49,8 +39,8 @@ fn cause_of<'a>(
     };
     let fact = match ending {
         PlanEnding::Done | PlanEnding::Usage(_) => return None,
-        PlanEnding::SiteFault { .. } => return Some(site_cause(site.trouble()?, files)),
-        PlanEnding::ConsoleFault => return put_cause(put),
+        PlanEnding::SiteFault { call } => return fault_cause(site.trouble(), call, files),
+        PlanEnding::ConsoleFault => return stream_cause(Stream::Output, put),
         PlanEnding::NoMemory => return Some(Cause::Hint(Hint::NoMemory)),
         PlanEnding::NoMap => Fact::Absent,
         PlanEnding::MapRefused { .. } => Fact::NoMap,
@@ -69,16 +59,7 @@ pub fn advise(
 ) -> Option<Line> {
     let command = match read_command(alloc, words) {
         Ok(command) => command,
-        Err(
-            CommandError::Usage {
-                fault,
-                quiet: false,
-            },
-        ) => {
-            let cause = usage_cause(alloc, words, fault, manual())?;
-            return Some(line_of(PROGRAM, cause));
-        }
-        Err(_) => return None,
+        Err(error) => return line_on_words(PROGRAM, alloc, words, error, manual()),
     };
     if command.options.rescue.quiet {
         return None;

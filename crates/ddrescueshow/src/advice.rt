@@ -1,16 +1,14 @@
 //! The line after the message: why an answer came, by the files that the arguments name.
 use crash_site::folder::FolderSite;
-use crash_site::site::SiteCall;
 use ddrescueshow_cli::ending::{ShowEnding, Which};
 use ddrescueshow_words::command::{Command, read_command};
 use ddrescueshow_words::options::ROWS;
-use option_values::command_error::CommandError;
 use option_words::words::Words;
 use program_advice::cause::{Cause, Fact, Hint, Named, Role, Stream};
+use program_advice::files::stream_cause;
 use program_advice::line::{Line, line_of};
-use program_advice::reason::reason_text;
-use program_advice::site::{SiteFiles, site_cause};
-use program_advice::usage::{Manual, usage_cause};
+use program_advice::site::{SiteFiles, fault_cause};
+use program_advice::usage::{Manual, line_on_words};
 use std::alloc::Global;
 use std::io;
 
@@ -41,23 +39,18 @@ fn named_map<'a>(command: &Command<'a>, which: Which) -> Named<'a> {
     }
 }
 
-/// Why a call on a map failed.
-fn fault_cause<'a>(command: &Command<'a>, call: SiteCall, site: &FolderSite) -> Option<Cause<'a>> {
-    let trouble = site.trouble()?;
-    if trouble.call != call {
-        return None;
-    }
+/// The files that a command's calls reach.
+fn files_of<'a>(command: &Command<'a>, site: &FolderSite) -> SiteFiles<'a> {
     let which = if site.is_unread(command.mapfile) {
         Which::RunMap
     } else {
         Which::DomainMap
     };
-    let files = SiteFiles {
+    SiteFiles {
         outfile: "",
         mapfile: Some(command.mapfile),
         read: named_map(command, which),
-    };
-    Some(site_cause(trouble, files))
+    }
 }
 
 /// Why a command that was read ended so, if that helps.
@@ -69,14 +62,11 @@ fn cause_of<'a>(
 ) -> Option<Cause<'a>> {
     let (file, fact) = match ending {
         ShowEnding::Done | ShowEnding::Usage(_) => return None,
-        ShowEnding::SiteFault { call } => return fault_cause(command, call, site),
-        ShowEnding::ConsoleFault => {
-            let error = put?;
-            return Some(Cause::Stream {
-                stream: Stream::Output,
-                reason: reason_text(&error),
-            });
+        ShowEnding::SiteFault { call } => {
+            let files = files_of(command, site);
+            return fault_cause(site.trouble(), call, files);
         }
+        ShowEnding::ConsoleFault => return stream_cause(Stream::Output, put),
         ShowEnding::NoMemory => return Some(Cause::Hint(Hint::NoMemory)),
         ShowEnding::NoMap(which) => (named_map(command, which), Fact::Absent),
         ShowEnding::MapRefused { which, .. } => (named_map(command, which), Fact::NoMap),
@@ -95,16 +85,7 @@ pub fn advise(
 ) -> Option<Line> {
     let command = match read_command(alloc, words) {
         Ok(command) => command,
-        Err(
-            CommandError::Usage {
-                fault,
-                quiet: false,
-            },
-        ) => {
-            let cause = usage_cause(alloc, words, fault, manual())?;
-            return Some(line_of(PROGRAM, cause));
-        }
-        Err(_) => return None,
+        Err(error) => return line_on_words(PROGRAM, alloc, words, error, manual()),
     };
     if command.options.quiet {
         return None;

@@ -13,7 +13,7 @@ use itoa::Buffer;
 pub type Line = ArrayVec<u8, 512>;
 
 /// Adds a text for which there is room.
-pub(crate) fn add(line: &mut Line, text: &str)
+pub fn add(line: &mut Line, text: &str)
     requires { array_vec_len line.old + length text.now ≤ 511 }
     ensures text { line.new.items ≡ line.old.items ++ text.now }
     ensures len { array_vec_len line.new ≡ array_vec_len line.old + length text.now }
@@ -36,7 +36,7 @@ fn add_cut(line: &mut Line, text: &str, most: usize)
 }
 
 /// Adds a name of the command line in quotes.
-pub(crate) fn add_quoted(line: &mut Line, name: &str)
+pub fn add_quoted(line: &mut Line, name: &str)
     requires { array_vec_len line.old ≤ 350 }
     ensures text { line.new.items ≡ line.old.items ++ quoted name.now }
     ensures len { array_vec_len line.new ≤ array_vec_len line.old + 154 }
@@ -195,7 +195,7 @@ fn add_shown(line: &mut Line, bytes: &[u8])
 }
 
 /// The line of a text: each control character becomes a question mark.
-pub(crate) fn finished(text: &[u8]) -> Line
+pub fn finished(text: &[u8]) -> Line
     requires { length text.now ≤ 511 }
     ensures text { result.items ≡ map shown_byte text.now ++ 10 ∷ [] }
     ensures line { IsOneLine result.items }

@@ -1,13 +1,15 @@
-//! The line of a warning.
+//! The lines of warnings, and how they are put.
 ghost use Rattle.std.specs.Prelude.{◌≡◌, ◌+◌, ◌≤◌, ◌++◌, length};
 ghost use Rattle.std.specs.Fmt.{decimal};
 ghost use Rattle.arrayvec.specs.ArrayVec.{array_vec_len};
 ghost use Rattle.program_advice.specs.Lines.{IsOneLine};
-ghost use Rattle.program_advice.specs.Warnings.{advice_said, file_said, number_said, warning_text};
+ghost use Rattle.rescue_console.specs.Speaking.{Speaks};
+ghost use Rattle.rescue_warnings.specs.Warnings.{advice_said, file_said, number_said, warning_pieces, warning_text};
 
 use crate::advice::Advice;
-use crate::line::{Line, add, add_quoted, finished};
 use itoa::Buffer;
+use program_advice::line::{Line, add, add_quoted, finished};
+use rescue_console::console::{Channel, Console};
 
 /// The names of the command line; empty where there is none.
 #[derive(Clone, Copy)]
@@ -167,4 +169,22 @@ pub fn line_of_advice(program: &str, names: Names<'_>, advice: Advice) -> Line
     add(&mut text, ": warning: ");
     say(&mut text, names, advice);
     finished(&text)
+}
+
+/// Puts the lines of warnings on standard error, each by one put, up to the first put that fails. Nothing else is put.
+pub fn put_warnings<P: Console>(
+    program: &str,
+    names: Names<'_>,
+    advices: &[Advice],
+    console: &mut P,
+)
+    requires { length program.now ≤ 18 }
+    ensures { Speaks (warning_pieces program.now names.entry advices.now) (P.state console.old) (P.state console.new) }
+{
+    for advice in advices {
+        let line = line_of_advice(program, names, *advice);
+        if console.put(Channel::Err, &line).is_err() {
+            return;
+        }
+    }
 }

@@ -1,6 +1,6 @@
 -- All kinds are collected, each as it is due.
-use Rattle.program_advice.proofs.DueLemmas.{is_advice}
-use Rattle.program_advice.proofs.advice.due_advice.Goals as goal
+use Rattle.rescue_warnings.proofs.DueLemmas.{is_advice}
+use Rattle.rescue_warnings.proofs.advice.due_advice.Goals as goal
 
 pub returns : goal.returns
 returns c =

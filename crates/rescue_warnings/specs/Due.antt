@@ -1,18 +1,18 @@
 -- What a person is warned of before a run, and when.
 use Rattle.std.specs.Prelude.{ℕ, Bool, true, false, List, [], ◌∷◌, ◌≡◌, ◌+◌, ◌-◌, ◌/◌, ◌≤◌, ⊤, min, max, not, nat_lt, nat_le, nat_eq, Option, Some, None, All, Contains}
-use Rattle.program_advice.specs.declared.facts.Work.{Work}
-use Rattle.program_advice.specs.declared.facts.Work.TheVariants.{Rescue, Fill, Generate, Comparison, Plan}
-use Rattle.program_advice.specs.declared.facts.Found.{Found}
-use Rattle.program_advice.specs.declared.facts.Found.TheVariants.{Absent, Regular, Device}
-use Rattle.program_advice.specs.declared.facts.Mount.{Mount}
-use Rattle.program_advice.specs.declared.facts.Mount.TheVariants.{ReadOnly, Writable}
-use Rattle.program_advice.specs.declared.facts.MapText.{MapText}
-use Rattle.program_advice.specs.declared.facts.MapText.TheVariants.{NoFile, NoBlock, Blocks}
-use Rattle.program_advice.specs.declared.facts.Finished.{Finished}
-use Rattle.program_advice.specs.declared.facts.Finished.TheVariants.{Nowhere, UpTo}
-use Rattle.program_advice.specs.declared.facts.Facts.{Facts}
-use Rattle.program_advice.specs.declared.advice.Advice.{Advice}
-use Rattle.program_advice.specs.declared.advice.Advice.TheVariants.{OutfileShort, MapPastInfile, EmptyInfile, BeginsPastInfile, NothingAsked, NothingListed, NewMapfile, LinkedMapfile, UnsafeMapfile, NewOutfile, NothingToFill, LongPattern, OtherSector, MountedInfile, MountedOutfile, LongPlan, NothingToCompare, LateMapfile}
+use Rattle.rescue_warnings.specs.declared.facts.Work.{Work}
+use Rattle.rescue_warnings.specs.declared.facts.Work.TheVariants.{Rescue, Fill, Generate, Comparison, Plan}
+use Rattle.rescue_warnings.specs.declared.facts.Found.{Found}
+use Rattle.rescue_warnings.specs.declared.facts.Found.TheVariants.{Absent, Regular, Device}
+use Rattle.rescue_warnings.specs.declared.facts.Mount.{Mount}
+use Rattle.rescue_warnings.specs.declared.facts.Mount.TheVariants.{ReadOnly, Writable}
+use Rattle.rescue_warnings.specs.declared.facts.MapText.{MapText}
+use Rattle.rescue_warnings.specs.declared.facts.MapText.TheVariants.{NoFile, NoBlock, Blocks}
+use Rattle.rescue_warnings.specs.declared.facts.Finished.{Finished}
+use Rattle.rescue_warnings.specs.declared.facts.Finished.TheVariants.{Nowhere, UpTo}
+use Rattle.rescue_warnings.specs.declared.facts.Facts.{Facts}
+use Rattle.rescue_warnings.specs.declared.advice.Advice.{Advice}
+use Rattle.rescue_warnings.specs.declared.advice.Advice.TheVariants.{OutfileShort, MapPastInfile, EmptyInfile, BeginsPastInfile, NothingAsked, NothingListed, NewMapfile, LinkedMapfile, UnsafeMapfile, NewOutfile, NothingToFill, LongPattern, OtherSector, MountedInfile, MountedOutfile, LongPlan, NothingToCompare, LateMapfile}
 
 -- ---- what is known
 

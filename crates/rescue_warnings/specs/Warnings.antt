@@ -1,10 +1,12 @@
--- The line of a warning.
+-- The lines of warnings.
 use Rattle.std.specs.Prelude.{ℕ, List, [], ◌∷◌, ◌++◌, map, codes}
 use Rattle.std.specs.Fmt.{decimal}
-use Rattle.program_advice.specs.declared.advice.Advice.{Advice}
-use Rattle.program_advice.specs.declared.advice.Advice.TheVariants.{OutfileShort, MapPastInfile, EmptyInfile, BeginsPastInfile, NothingAsked, NothingListed, NewMapfile, LinkedMapfile, UnsafeMapfile, NewOutfile, NothingToFill, LongPattern, OtherSector, MountedInfile, MountedOutfile, LongPlan, NothingToCompare, LateMapfile}
-use Rattle.program_advice.specs.declared.warning.Names.{Names}
+use Rattle.rescue_warnings.specs.declared.advice.Advice.{Advice}
+use Rattle.rescue_warnings.specs.declared.advice.Advice.TheVariants.{OutfileShort, MapPastInfile, EmptyInfile, BeginsPastInfile, NothingAsked, NothingListed, NewMapfile, LinkedMapfile, UnsafeMapfile, NewOutfile, NothingToFill, LongPattern, OtherSector, MountedInfile, MountedOutfile, LongPlan, NothingToCompare, LateMapfile}
+use Rattle.rescue_warnings.specs.declared.warning.Names.{Names}
 use Rattle.program_advice.specs.Lines.{quoted, shown_byte}
+use Rattle.rescue_console.specs.declared.console.Channel.TheVariants.{Err}
+use Rattle.rescue_console.specs.Speaking.{SpokenPiece}
 
 -- a text, what a file is called, its name in quotes, and the text after it
 abbrev pub file_said : (front role name says : List ℕ) → List ℕ
@@ -65,3 +67,7 @@ advice_said front names LateMapfile =
 -- the line of a warning: the program's name, the text, each control character as a question mark, and a newline
 abbrev pub warning_text : List ℕ → Names → Advice → List ℕ
 warning_text program names advice = map shown_byte (advice_said (program ++ codes ": warning: ") names advice) ++ 10 ∷ []
+
+-- the lines of warnings, as pieces for standard error
+abbrev pub warning_pieces : List ℕ → Names → List Advice → List SpokenPiece
+warning_pieces program names advices = map (λ a. record { channel = Err; text = warning_text program names a }) advices

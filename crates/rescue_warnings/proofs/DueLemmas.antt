@@ -3,10 +3,10 @@ use Rattle.std.proofs.Common.{◌≡◌, ◌≤◌, ◌+◌, ℕ, zero, suc, Boo
 use Rattle.std.specs.Prelude.{⊤, ◌-◌, not, nat_lt, nat_le, nat_eq}
 use Rattle.std.specs.List.{Contains}
 use Rattle.std.proofs.lemmas.List.Elements.{All-nil, All-cons, Contains-append_left, Contains-append_right, Contains-push}
-use Rattle.program_advice.specs.declared.facts.Facts.{Facts}
-use Rattle.program_advice.specs.declared.advice.Advice.{Advice}
-use Rattle.program_advice.specs.declared.advice.Advice.TheVariants.{OutfileShort, MapPastInfile, EmptyInfile, BeginsPastInfile, NothingAsked, NothingListed, NewMapfile, LinkedMapfile, UnsafeMapfile, NewOutfile, NothingToFill, LongPattern, OtherSector, MountedInfile, MountedOutfile, LongPlan, NothingToCompare, LateMapfile}
-use Rattle.program_advice.specs.Due.{Ascends, IsAdvice, IsDue, asked_end, asks_infile, begins_past_infile, bytes_of, empty_infile, end_of, finished_of, finishes_nothing, if_known, if_so, is_absent, is_comparison, is_fill, is_mounted, is_new, is_plan, is_rescue, is_writable, kinds, late_mapfile, length_of, linked_mapfile, lists_nothing, long_pattern, long_plan, map_past_infile, mount_of, mounted_infile, mounted_outfile, new_mapfile, new_outfile, nothing_asked, nothing_listed, nothing_to_compare, nothing_to_fill, of_kind, other_sector, outfile_short, rank, saves, sector_of, sectors_past, somes, unsafe_mapfile, within}
+use Rattle.rescue_warnings.specs.declared.facts.Facts.{Facts}
+use Rattle.rescue_warnings.specs.declared.advice.Advice.{Advice}
+use Rattle.rescue_warnings.specs.declared.advice.Advice.TheVariants.{OutfileShort, MapPastInfile, EmptyInfile, BeginsPastInfile, NothingAsked, NothingListed, NewMapfile, LinkedMapfile, UnsafeMapfile, NewOutfile, NothingToFill, LongPattern, OtherSector, MountedInfile, MountedOutfile, LongPlan, NothingToCompare, LateMapfile}
+use Rattle.rescue_warnings.specs.Due.{Ascends, IsAdvice, IsDue, asked_end, asks_infile, begins_past_infile, bytes_of, empty_infile, end_of, finished_of, finishes_nothing, if_known, if_so, is_absent, is_comparison, is_fill, is_mounted, is_new, is_plan, is_rescue, is_writable, kinds, late_mapfile, length_of, linked_mapfile, lists_nothing, long_pattern, long_plan, map_past_infile, mount_of, mounted_infile, mounted_outfile, new_mapfile, new_outfile, nothing_asked, nothing_listed, nothing_to_compare, nothing_to_fill, of_kind, other_sector, outfile_short, rank, saves, sector_of, sectors_past, somes, unsafe_mapfile, within}
 
 -- what is due by it, if anything is, is so
 record Only (P : Advice → Type 0) (due : Option Advice) : Type 0 where

@@ -1,6 +1,6 @@
 //! What a person is warned of before a run.
 ghost use Rattle.std.specs.Prelude.{◌≡◌, ◌+◌, ◌-◌, ◌/◌, ◌<◌, ◌≤◌, max, ◌∷◌, [], length};
-ghost use Rattle.program_advice.specs.Due.{IsAdvice, asked_end, asks_infile, begins_past_infile, bytes_of, empty_infile, end_of, ends_by, finished_of, finishes_nothing, is_absent, is_comparison, is_fill, is_mounted, is_new, is_plan, is_rescue, is_writable, kinds, last_of, late_mapfile, length_of, linked_mapfile, lists_nothing, long_pattern, long_plan, map_past_infile, mount_of, mounted_infile, mounted_outfile, new_mapfile, new_outfile, nothing_asked, nothing_listed, nothing_to_compare, nothing_to_fill, other_sector, outfile_short, saves, sector_of, sectors_past, somes, unsafe_mapfile, within};
+ghost use Rattle.rescue_warnings.specs.Due.{IsAdvice, asked_end, asks_infile, begins_past_infile, bytes_of, empty_infile, end_of, ends_by, finished_of, finishes_nothing, is_absent, is_comparison, is_fill, is_mounted, is_new, is_plan, is_rescue, is_writable, kinds, last_of, late_mapfile, length_of, linked_mapfile, lists_nothing, long_pattern, long_plan, map_past_infile, mount_of, mounted_infile, mounted_outfile, new_mapfile, new_outfile, nothing_asked, nothing_listed, nothing_to_compare, nothing_to_fill, other_sector, outfile_short, saves, sector_of, sectors_past, somes, unsafe_mapfile, within};
 
 use crate::facts::{Facts, Finished, Found, MapText, Mount, Work};
 use arrayvec::ArrayVec;
