@@ -8,10 +8,10 @@ use program_advice::cause::{Cause, Fact, Hint, LimitOption, Named, Role};
 use program_advice::files::{open_cause, same_name_cause};
 use program_advice::left::left_by;
 use program_advice::line::{Line, line_of};
+use program_advice::mapfile::{line_on_map, line_on_memory};
 use program_advice::site::{SiteFiles, fault_cause};
 use program_advice::usage::{Manual, line_on_words};
 use rescue_rules::stop::Limit;
-use std::alloc::Global;
 use task_files::checked::PROGRAM;
 use task_files::ending::{Ending, Operand, Which};
 
@@ -114,7 +114,7 @@ fn cause_of<'a>(
         name: command.outfile,
     };
     let (file, fact) = match ending {
-        Ending::Usage(_) | Ending::PatternUnread => return None,
+        Ending::Usage(_) | Ending::PatternUnread | Ending::MapRefused { .. } => return None,
         Ending::Done => return left_cause(command, last),
         Ending::SameName { first, second } => {
             let (first, second) = (role_of(first), role_of(second));
@@ -129,7 +129,6 @@ fn cause_of<'a>(
         Ending::LimitMet(limit) => return Some(limit_cause(limit, command.mapfile.is_some())),
         Ending::NoMemory => return Some(Cause::Hint(Hint::NoMemory)),
         Ending::NoMap(which) => (named_map(command, which), Fact::Absent),
-        Ending::MapRefused { which, .. } => (named_map(command, which), Fact::NoMap),
         Ending::NotRegular => (outfile, Fact::NeedsForce),
         Ending::NoOutput => (outfile, Fact::Absent),
         Ending::EmptyPattern => (infile, Fact::Empty),
@@ -140,21 +139,27 @@ fn cause_of<'a>(
 /// The line that an answer's message is followed by. There is none where the arguments ask that nothing be said, and
 /// none of an answer whose message says all. After a rescue that is done it says what that left, by the `last` line.
 pub fn advise(
-    alloc: Global,
+    rt: &HostRuntime,
     words: &Words,
     ending: Ending,
     source: &FileSource,
     site: &FolderSite,
     last: &[u8],
 ) -> Option<Line> {
-    let (command, role) = match read_command(alloc, words) {
+    let (command, role) = match read_command(rt.alloc(), words) {
         Ok(Task::Rescue(command)) | Ok(Task::Generate(command)) => (command, Role::Infile),
         Ok(Task::Fill { command, .. }) => (command, Role::Pattern),
         Ok(Task::Sample { .. }) => return None,
-        Err(error) => return line_on_words(PROGRAM, alloc, words, error, manual()),
+        Err(error) => return line_on_words(PROGRAM, rt.alloc(), words, error, manual()),
     };
     if command.options.quiet {
         return None;
+    }
+    if let Ending::MapRefused { which, error } = ending {
+        return Some(line_on_map(rt, PROGRAM, named_map(&command, which), error));
+    }
+    if ending == Ending::NoMemory && command.mapfile.is_some() {
+        return Some(line_on_memory(rt, PROGRAM, named_map(&command, Which::RunMap)));
     }
     let cause = cause_of(&command, role, ending, source, site, last)?;
     Some(line_of(PROGRAM, cause))

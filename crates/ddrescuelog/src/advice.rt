@@ -7,9 +7,9 @@ use option_words::words::Words;
 use program_advice::cause::{Cause, Fact, Hint, Named, Role, Stream};
 use program_advice::files::stream_cause;
 use program_advice::line::{Line, line_of};
+use program_advice::mapfile::{line_on_map, line_on_memory};
 use program_advice::site::{SiteFiles, fault_cause};
 use program_advice::usage::{Manual, line_on_words};
-use std::alloc::Global;
 use std::io;
 
 /// What is told of the arguments.
@@ -78,7 +78,9 @@ fn cause_of<'a>(
         | LogEnding::NotDone
         | LogEnding::Differ
         | LogEnding::Usage(_)
-        | LogEnding::ListTooLong => return None,
+        | LogEnding::ListTooLong
+        | LogEnding::MapRefused { .. }
+        | LogEnding::NoMemory => return None,
         LogEnding::BadNumber { .. } => return Some(Cause::Hint(Hint::BlockNumbers)),
         LogEnding::SiteFault { call } => {
             let files = files_of(command, site);
@@ -86,10 +88,8 @@ fn cause_of<'a>(
         }
         LogEnding::FeedFault => return stream_cause(Stream::Input, fed),
         LogEnding::ConsoleFault => return stream_cause(Stream::Output, put),
-        LogEnding::NoMemory => return Some(Cause::Hint(Hint::NoMemory)),
         LogEnding::Exists => (named_map(command, Which::RunMap), Fact::Exists),
         LogEnding::NoMap(which) => (named_map(command, which), Fact::Absent),
-        LogEnding::MapRefused { which, .. } => (named_map(command, which), Fact::NoMap),
     };
     Some(Cause::File { file, fact })
 }
@@ -97,19 +97,33 @@ fn cause_of<'a>(
 /// The line that an answer's message is followed by. There is none where the arguments ask that nothing be said, and
 /// none of an answer whose message says all. `fed` and `put` are the errors of the standard streams.
 pub fn advise(
-    alloc: Global,
+    rt: &HostRuntime,
     words: &Words,
     ending: LogEnding,
     site: &FolderSite,
     fed: Option<io::Error>,
     put: Option<io::Error>,
 ) -> Option<Line> {
-    let command = match read_command(alloc, words) {
+    let command = match read_command(rt.alloc(), words) {
         Ok(command) => command,
-        Err(error) => return line_on_words(PROGRAM, alloc, words, error, manual()),
+        Err(error) => return line_on_words(PROGRAM, rt.alloc(), words, error, manual()),
     };
     if command.options.quiet {
         return None;
+    }
+    match ending {
+        LogEnding::MapRefused { which, error } => return Some(line_on_map(
+            rt,
+            PROGRAM,
+            named_map(&command, which),
+            error,
+        )),
+        LogEnding::NoMemory => return Some(line_on_memory(
+            rt,
+            PROGRAM,
+            named_map(&command, Which::RunMap),
+        )),
+        _ => {}
     }
     let cause = cause_of(&command, ending, site, fed, put)?;
     Some(line_of(PROGRAM, cause))

@@ -23,10 +23,7 @@ fn run(rt: HostRuntime) -> io::Result<u8> {
     let mut console = StdConsole::new(rt.clone()?);
     let ending = ddrescuelog(rt.alloc(), &words, &mut site, &mut feed, &mut console);
     let (fed, put) = (feed.trouble(), console.trouble(Channel::Out));
-    put_line(
-        &mut console,
-        advise(rt.alloc(), &words, ending, &site, fed, put),
-    );
+    put_line(&mut console, advise(&rt, &words, ending, &site, fed, put));
     Ok(ending.code())
 }
 

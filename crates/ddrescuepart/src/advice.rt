@@ -8,7 +8,6 @@ use program_advice::cause::{Cause, Hint, Named, Role, Stream};
 use program_advice::files::{open_cause, stream_cause};
 use program_advice::line::{Line, line_of};
 use program_advice::usage::{Manual, line_on_words};
-use std::alloc::Global;
 use std::io;
 
 /// What is told of the arguments.
@@ -54,15 +53,15 @@ fn cause_of<'a>(
 /// The line that an answer's message is followed by. There is none where the arguments ask that nothing be said, and
 /// none of an answer whose message says all. `put` is the error of standard output.
 pub fn advise(
-    alloc: Global,
+    rt: &HostRuntime,
     words: &Words,
     ending: PartEnding,
     source: &FileSource,
     put: Option<io::Error>,
 ) -> Option<Line> {
-    let command = match read_command(alloc, words) {
+    let command = match read_command(rt.alloc(), words) {
         Ok(command) => command,
-        Err(error) => return line_on_words(PROGRAM, alloc, words, error, manual()),
+        Err(error) => return line_on_words(PROGRAM, rt.alloc(), words, error, manual()),
     };
     if command.quiet {
         return None;

@@ -22,10 +22,7 @@ fn run(rt: HostRuntime) -> io::Result<u8> {
     let mut console = StdConsole::new(rt.clone()?);
     let ending = ddrescuepart(rt.alloc(), &words, &mut source, &mut console);
     let put = console.trouble(Channel::Out);
-    put_line(
-        &mut console,
-        advise(rt.alloc(), &words, ending, &source, put),
-    );
+    put_line(&mut console, advise(&rt, &words, ending, &source, put));
     Ok(ending.code())
 }
 

@@ -25,7 +25,7 @@ fn run(rt: HostRuntime) -> io::Result<u8> {
     warn(&rt, &words, &mut console);
     let ending = ddrescueplan(rt.alloc(), &words, &mut site, &mut console);
     let put = console.trouble(Channel::Out);
-    put_line(&mut console, advise(rt.alloc(), &words, ending, &site, put));
+    put_line(&mut console, advise(&rt, &words, ending, &site, put));
     Ok(ending.code())
 }
 

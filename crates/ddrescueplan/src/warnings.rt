@@ -21,6 +21,7 @@ fn facts_of(rt: &HostRuntime, command: &Command<'_>) -> Facts {
         cluster: options.sector,
         complete_only: false,
         domain_map: false,
+        domain: None,
         scrapes: !options.no_trim && !options.no_scrape,
         infile: Some(Found::Regular {
             length: command.length,
@@ -44,6 +45,7 @@ pub fn warn<P: Console>(rt: &HostRuntime, words: &Words, console: &mut P) {
         infile: "",
         outfile: "",
         mapfile: command.test_map,
+        domain: "",
     };
     let advices = due_advice(&facts_of(rt, &command));
     put_warnings(PROGRAM, names, &advices, console);

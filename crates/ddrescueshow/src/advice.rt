@@ -4,12 +4,12 @@ use ddrescueshow_cli::ending::{ShowEnding, Which};
 use ddrescueshow_words::command::{Command, read_command};
 use ddrescueshow_words::options::ROWS;
 use option_words::words::Words;
-use program_advice::cause::{Cause, Fact, Hint, Named, Role, Stream};
+use program_advice::cause::{Cause, Fact, Named, Role, Stream};
 use program_advice::files::stream_cause;
 use program_advice::line::{Line, line_of};
+use program_advice::mapfile::{line_on_map, line_on_memory};
 use program_advice::site::{SiteFiles, fault_cause};
 use program_advice::usage::{Manual, line_on_words};
-use std::alloc::Global;
 use std::io;
 
 /// What is told of the arguments.
@@ -61,15 +61,16 @@ fn cause_of<'a>(
     put: Option<io::Error>,
 ) -> Option<Cause<'a>> {
     let (file, fact) = match ending {
-        ShowEnding::Done | ShowEnding::Usage(_) => return None,
+        ShowEnding::Done
+        | ShowEnding::Usage(_)
+        | ShowEnding::MapRefused { .. }
+        | ShowEnding::NoMemory => return None,
         ShowEnding::SiteFault { call } => {
             let files = files_of(command, site);
             return fault_cause(site.trouble(), call, files);
         }
         ShowEnding::ConsoleFault => return stream_cause(Stream::Output, put),
-        ShowEnding::NoMemory => return Some(Cause::Hint(Hint::NoMemory)),
         ShowEnding::NoMap(which) => (named_map(command, which), Fact::Absent),
-        ShowEnding::MapRefused { which, .. } => (named_map(command, which), Fact::NoMap),
     };
     Some(Cause::File { file, fact })
 }
@@ -77,18 +78,32 @@ fn cause_of<'a>(
 /// The line that an answer's message is followed by. There is none where the arguments ask that nothing be said, and
 /// none of an answer whose message says all. `put` is the error of standard output.
 pub fn advise(
-    alloc: Global,
+    rt: &HostRuntime,
     words: &Words,
     ending: ShowEnding,
     site: &FolderSite,
     put: Option<io::Error>,
 ) -> Option<Line> {
-    let command = match read_command(alloc, words) {
+    let command = match read_command(rt.alloc(), words) {
         Ok(command) => command,
-        Err(error) => return line_on_words(PROGRAM, alloc, words, error, manual()),
+        Err(error) => return line_on_words(PROGRAM, rt.alloc(), words, error, manual()),
     };
     if command.options.quiet {
         return None;
+    }
+    match ending {
+        ShowEnding::MapRefused { which, error } => return Some(line_on_map(
+            rt,
+            PROGRAM,
+            named_map(&command, which),
+            error,
+        )),
+        ShowEnding::NoMemory => return Some(line_on_memory(
+            rt,
+            PROGRAM,
+            named_map(&command, Which::RunMap),
+        )),
+        _ => {}
     }
     let cause = cause_of(&command, ending, site, put)?;
     Some(line_of(PROGRAM, cause))

@@ -22,7 +22,7 @@ fn run(rt: HostRuntime) -> io::Result<u8> {
     let mut console = StdConsole::new(rt.clone()?);
     let ending = ddrescueshow(rt.alloc(), &words, &mut site, &mut console);
     let put = console.trouble(Channel::Out);
-    put_line(&mut console, advise(rt.alloc(), &words, ending, &site, put));
+    put_line(&mut console, advise(&rt, &words, ending, &site, put));
     Ok(ending.code())
 }
 

@@ -8,9 +8,9 @@ use option_words::words::Words;
 use program_advice::cause::{Cause, Fact, Hint, Named, Role, Stream};
 use program_advice::files::{open_cause, same_name_cause, stream_cause};
 use program_advice::line::{Line, line_of};
+use program_advice::mapfile::{line_on_map, line_on_memory};
 use program_advice::site::{SiteFiles, fault_cause};
 use program_advice::usage::{Manual, line_on_words};
-use std::alloc::Global;
 use std::io;
 
 /// What is told of the arguments.
@@ -36,6 +36,14 @@ fn role_of(operand: Operand) -> Role {
     }
 }
 
+/// The mapfile that a command names.
+fn named_map<'a>(command: &Command<'a>) -> Named<'a> {
+    Named {
+        role: Role::Mapfile,
+        name: command.mapfile,
+    }
+}
+
 /// Why a command that was read ended so, if that helps.
 fn cause_of<'a>(
     command: &Command<'a>,
@@ -52,17 +60,18 @@ fn cause_of<'a>(
         role: Role::Outfile,
         name: command.outfile,
     };
-    let mapfile = Named {
-        role: Role::Mapfile,
-        name: command.mapfile,
-    };
+    let mapfile = named_map(command);
     let files = SiteFiles {
         outfile: command.outfile,
         mapfile: Some(command.mapfile),
         read: mapfile,
     };
     let (file, fact) = match ending {
-        VerifyEnding::Done | VerifyEnding::Differs { .. } | VerifyEnding::Usage(_) => return None,
+        VerifyEnding::Done
+        | VerifyEnding::Differs { .. }
+        | VerifyEnding::Usage(_)
+        | VerifyEnding::MapRefused { .. }
+        | VerifyEnding::NoMemory => return None,
         VerifyEnding::SameName { first, second } => {
             let (first, second) = (role_of(first), role_of(second));
             return Some(same_name_cause(first, second, command.infile, command.outfile));
@@ -71,9 +80,7 @@ fn cause_of<'a>(
         VerifyEnding::SourceLost => return Some(Cause::Hint(Hint::InputLost)),
         VerifyEnding::SiteFault { call } => return fault_cause(site.trouble(), call, files),
         VerifyEnding::ConsoleFault => return stream_cause(Stream::Output, put),
-        VerifyEnding::NoMemory => return Some(Cause::Hint(Hint::NoMemory)),
         VerifyEnding::NoMap => (mapfile, Fact::Absent),
-        VerifyEnding::MapRefused { .. } => (mapfile, Fact::NoMap),
         VerifyEnding::NoOutput => (outfile, Fact::Absent),
     };
     Some(Cause::File { file, fact })
@@ -82,19 +89,29 @@ fn cause_of<'a>(
 /// The line that an answer's message is followed by. There is none where the arguments ask that nothing be said, and
 /// none of an answer whose message says all. `put` is the error of standard output.
 pub fn advise(
-    alloc: Global,
+    rt: &HostRuntime,
     words: &Words,
     ending: VerifyEnding,
     source: &FileSource,
     site: &FolderSite,
     put: Option<io::Error>,
 ) -> Option<Line> {
-    let command = match read_command(alloc, words) {
+    let command = match read_command(rt.alloc(), words) {
         Ok(command) => command,
-        Err(error) => return line_on_words(PROGRAM, alloc, words, error, manual()),
+        Err(error) => return line_on_words(PROGRAM, rt.alloc(), words, error, manual()),
     };
     if command.options.quiet {
         return None;
+    }
+    match ending {
+        VerifyEnding::MapRefused { error, .. } => return Some(line_on_map(
+            rt,
+            PROGRAM,
+            named_map(&command),
+            error,
+        )),
+        VerifyEnding::NoMemory => return Some(line_on_memory(rt, PROGRAM, named_map(&command))),
+        _ => {}
     }
     let cause = cause_of(&command, ending, source, site, put)?;
     Some(line_of(PROGRAM, cause))

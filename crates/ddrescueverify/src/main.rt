@@ -42,7 +42,7 @@ fn run(rt: HostRuntime) -> io::Result<u8> {
     let put = console.trouble(Channel::Out);
     put_line(
         &mut console,
-        advise(rt.alloc(), &words, ending, &source, &site, put),
+        advise(&rt, &words, ending, &source, &site, put),
     );
     Ok(ending.code())
 }

@@ -22,6 +22,7 @@ fn facts_of(rt: &HostRuntime, command: &Command<'_>) -> Facts {
         cluster: options.sector,
         complete_only: false,
         domain_map: false,
+        domain: None,
         scrapes: false,
         infile: None,
         outfile: None,
@@ -44,6 +45,7 @@ pub fn warn<P: Console>(rt: &HostRuntime, words: &Words, console: &mut P) {
         infile: command.infile,
         outfile: command.outfile,
         mapfile: command.mapfile,
+        domain: "",
     };
     let advices = due_advice(&facts_of(rt, &command));
     put_warnings(PROGRAM, names, &advices, console);

@@ -6,6 +6,7 @@ pub mod cause;
 pub mod files;
 pub mod left;
 pub mod line;
+pub mod mapfile;
 pub mod put;
 pub mod reason;
 pub mod site;

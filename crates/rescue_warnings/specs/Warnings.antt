@@ -2,7 +2,7 @@
 use Rattle.std.specs.Prelude.{ℕ, List, [], ◌∷◌, ◌++◌, map, codes}
 use Rattle.std.specs.Fmt.{decimal}
 use Rattle.rescue_warnings.specs.declared.advice.Advice.{Advice}
-use Rattle.rescue_warnings.specs.declared.advice.Advice.TheVariants.{OutfileShort, MapPastInfile, EmptyInfile, BeginsPastInfile, NothingAsked, NothingListed, NewMapfile, LinkedMapfile, UnsafeMapfile, NewOutfile, NothingToFill, LongPattern, OtherSector, MountedInfile, MountedOutfile, LongPlan, NothingToCompare, LateMapfile}
+use Rattle.rescue_warnings.specs.declared.advice.Advice.TheVariants.{OutfileShort, MapPastInfile, EmptyInfile, BeginsPastInfile, NothingAsked, NothingListed, NewMapfile, LinkedMapfile, UnsafeMapfile, NewOutfile, NothingToFill, LongPattern, OtherSector, MountedInfile, MountedOutfile, LongPlan, NothingToCompare, LateMapfile, EmptyDomain}
 use Rattle.rescue_warnings.specs.declared.warning.Names.{Names}
 use Rattle.program_advice.specs.Lines.{quoted, shown_byte}
 use Rattle.rescue_console.specs.declared.console.Channel.TheVariants.{Err}
@@ -63,6 +63,8 @@ advice_said front names NothingToCompare =
     mapfile_said front names (codes " calls nothing finished that is to be compared")
 advice_said front names LateMapfile =
     mapfile_said front names (codes " is saved for the first time after 30 s: a stop before that leaves none")
+advice_said front names EmptyDomain =
+    file_said front (codes "domain mapfile ") names.domain.now (codes " calls nothing finished that is to be read")
 
 -- the line of a warning: the program's name, the text, each control character as a question mark, and a newline
 abbrev pub warning_text : List ℕ → Names → Advice → List ℕ

@@ -18,6 +18,7 @@ pub struct Names<'a> {
     pub outfile: &'a str,
     /// Of a plan its test map.
     pub mapfile: &'a str,
+    pub domain: &'a str,
 }
 
 /// Adds the part of a line on a file.
@@ -153,6 +154,12 @@ fn say(line: &mut Line, names: Names<'_>, advice: Advice)
             "mapfile ",
             names.mapfile,
             " is saved for the first time after 30 s: a stop before that leaves none",
+        ),
+        Advice::EmptyDomain => say_of(
+            line,
+            "domain mapfile ",
+            names.domain,
+            " calls nothing finished that is to be read",
         ),
     }
 }

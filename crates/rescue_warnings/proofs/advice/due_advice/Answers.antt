@@ -23,6 +23,7 @@ returns c =
       c.long_plan.ensures,
       c.nothing_to_compare.ensures,
       c.late_mapfile.ensures,
+      c.empty_domain.ensures,
     )
     at c.collect.ensures in
     is_advice c.args.facts.now c.collect.result.items said
