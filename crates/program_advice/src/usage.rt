@@ -103,7 +103,11 @@ fn wanted_by(option: &str) -> &'static str {
     } else if option == "sample" {
         "a number from 1 to 65536"
     } else if option == "timeout" {
-        "a time that fits here"
+        "a time that fits here (90 is 90 s, 2m is 120 s)"
+    } else if option == "change-types" {
+        "two lists of types, such as */,-"
+    } else if option == "fill-mode" || option == "list-blocks" {
+        "a list of types, such as - or */-"
     } else {
         "a value that fits here"
     }

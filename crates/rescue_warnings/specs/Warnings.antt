@@ -36,11 +36,11 @@ advice_said front names (MapPastInfile e n) =
     (codes ", and the mapfile reaches to ")) e (codes ": is it the same disk?")
 advice_said front names EmptyInfile = infile_said front names (codes " has no bytes")
 advice_said front names (BeginsPastInfile n) = number_said (infile_said front names (codes " ends at ")) n
-    (codes ", and option -i begins no earlier: there is nothing to read")
+    (codes ", and option -i begins there or past it: there is nothing to read")
 advice_said front names NothingAsked = front ++ codes "option -s asks for 0 B"
 advice_said front names NothingListed = front ++ codes "option -C takes only what the mapfile lists, and it lists nothing"
 advice_said front names (NewMapfile n) =
-    number_said (mapfile_said front names (codes " doesn't exist yet, but the outfile has ")) n (codes " B: is its name right?")
+    number_said (mapfile_said front names (codes " doesn't exist yet, but the outfile has ")) n (codes " B: is the mapfile's name right?")
 advice_said front names LinkedMapfile =
     mapfile_said front names (codes " is a link, and the first save puts a file in its place")
 advice_said front names UnsafeMapfile =
@@ -51,14 +51,14 @@ advice_said front names (LongPattern n c) =
     number_said (number_said (infile_said front names (codes " has ")) n
     (codes " B, and fill mode repeats only the first ")) c (codes ": are infile and outfile swapped?")
 advice_said front names (OtherSector n b) =
-    number_said (number_said (infile_said front names (codes " has sectors of ")) n
-    (codes " B, and option -b takes them for ")) b (codes " B")
+    number_said (number_said (number_said (infile_said front names (codes " has sectors of ")) n
+    (codes " B, and option -b takes them for ")) b (codes " B: give option -b ")) n []
 advice_said front names MountedInfile = infile_said front names (codes " is mounted for writing: unmount it")
 advice_said front names MountedOutfile =
     outfile_said front names (codes " is mounted: unmount it, or its file system will be damaged")
 advice_said front names (LongPlan e n) =
     number_said (number_said (mapfile_said (front ++ codes "test ") names (codes " ends at ")) e
-    (codes ", and nothing past it can be read: the plan has at least ")) n (codes " reads")
+    (codes ", and nothing past it can be read: the plan has at least ")) n (codes " reads; a smaller length or option -n makes fewer")
 advice_said front names NothingToCompare =
     mapfile_said front names (codes " calls nothing finished that is to be compared")
 advice_said front names LateMapfile =

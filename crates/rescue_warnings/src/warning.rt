@@ -70,7 +70,7 @@ fn say(line: &mut Line, names: Names<'_>, advice: Advice)
             say_number(
                 line,
                 length,
-                ", and option -i begins no earlier: there is nothing to read",
+                ", and option -i begins there or past it: there is nothing to read",
             );
         }
         Advice::NothingAsked => add(line, "option -s asks for 0 B"),
@@ -85,7 +85,7 @@ fn say(line: &mut Line, names: Names<'_>, advice: Advice)
                 names.mapfile,
                 " doesn't exist yet, but the outfile has ",
             );
-            say_number(line, length, " B: is its name right?");
+            say_number(line, length, " B: is the mapfile's name right?");
         }
         Advice::LinkedMapfile => say_of(
             line,
@@ -119,7 +119,8 @@ fn say(line: &mut Line, names: Names<'_>, advice: Advice)
         Advice::OtherSector { own, sector } => {
             say_of(line, "infile ", names.infile, " has sectors of ");
             say_number(line, own, " B, and option -b takes them for ");
-            say_number(line, sector, " B");
+            say_number(line, sector, " B: give option -b ");
+            say_number(line, own, "");
         }
         Advice::MountedInfile => say_of(
             line,
@@ -141,7 +142,11 @@ fn say(line: &mut Line, names: Names<'_>, advice: Advice)
                 end,
                 ", and nothing past it can be read: the plan has at least ",
             );
-            say_number(line, reads, " reads");
+            say_number(
+                line,
+                reads,
+                " reads; a smaller length or option -n makes fewer",
+            );
         }
         Advice::NothingToCompare => say_of(
             line,
