@@ -193,10 +193,10 @@ pub fn put_warnings<P: Console>(
     requires { length program.now ≤ 18 }
     ensures { Speaks (warning_pieces program.now names.entry advices.now) (P.state console.old) (P.state console.new) }
 {
-    for advice in advices {
+    'lines: for advice in advices {
         let line = line_of_advice(program, names, *advice);
-        if console.put(Channel::Err, &line).is_err() {
+        let Ok(()) = console.put(Channel::Err, line.as_slice()) else {
             return;
-        }
+        };
     }
 }
