@@ -1,19 +1,17 @@
 //! The line after the message: why an answer came, by the files that the arguments name.
 use crash_site::folder::FolderSite;
-use crash_site::site::SiteCall;
 use ddrescue_words::command::{Command, Task, read_command};
 use ddrescue_words::options::ROWS;
 use faulty_source::file::FileSource;
-use option_values::command_error::CommandError;
 use option_words::words::Words;
-use program_advice::cause::{Cause, Doing, Fact, Hint, LimitOption, Named, Role};
+use program_advice::cause::{Cause, Fact, Hint, LimitOption, Named, Role};
+use program_advice::files::{open_cause, same_name_cause};
 use program_advice::left::left_by;
 use program_advice::line::{Line, line_of};
-use program_advice::reason::reason_text;
-use program_advice::site::{SiteFiles, site_cause};
-use program_advice::usage::{Manual, usage_cause};
+use program_advice::mapfile::{line_on_map, line_on_memory};
+use program_advice::site::{SiteFiles, fault_cause};
+use program_advice::usage::{Manual, line_on_words};
 use rescue_rules::stop::Limit;
-use std::alloc::Global;
 use task_files::checked::PROGRAM;
 use task_files::ending::{Ending, Operand, Which};
 
@@ -63,18 +61,13 @@ fn unread_map<'a>(command: &Command<'a>, site: &FolderSite) -> Named<'a> {
     }
 }
 
-/// Why a call on the outfile, a mapfile or its folder failed.
-fn fault_cause<'a>(command: &Command<'a>, call: SiteCall, site: &FolderSite) -> Option<Cause<'a>> {
-    let trouble = site.trouble()?;
-    if trouble.call != call {
-        return None;
-    }
-    let files = SiteFiles {
+/// The files that a command's calls reach.
+fn files_of<'a>(command: &Command<'a>, site: &FolderSite) -> SiteFiles<'a> {
+    SiteFiles {
         outfile: command.outfile,
         mapfile: command.mapfile,
         read: unread_map(command, site),
-    };
-    Some(site_cause(trouble, files))
+    }
 }
 
 /// Which limit a run met, and whether the same command goes on.
@@ -85,16 +78,6 @@ fn limit_cause<'a>(limit: Limit, resumes: bool) -> Cause<'a> {
         Limit::TimedOut(_) => LimitOption::Timeout,
     };
     Cause::Limit { option, resumes }
-}
-
-/// The file that couldn't be opened, and why.
-fn open_cause<'a>(infile: Named<'a>, source: &FileSource) -> Option<Cause<'a>> {
-    let error = source.trouble()?;
-    Some(Cause::Refused {
-        doing: Doing::Open,
-        file: infile,
-        reason: reason_text(&error),
-    })
 }
 
 /// What a rescue that is done left, by its last line, if it left anything.
@@ -131,25 +114,21 @@ fn cause_of<'a>(
         name: command.outfile,
     };
     let (file, fact) = match ending {
-        Ending::Usage(_) | Ending::PatternUnread => return None,
+        Ending::Usage(_) | Ending::PatternUnread | Ending::MapRefused { .. } => return None,
         Ending::Done => return left_cause(command, last),
         Ending::SameName { first, second } => {
-            return Some(Cause::OneName {
-                first: role_of(first),
-                second: role_of(second),
-                name: match first {
-                    Operand::Infile => command.infile,
-                    _ => command.outfile,
-                },
-            });
+            let (first, second) = (role_of(first), role_of(second));
+            return Some(same_name_cause(first, second, command.infile, command.outfile));
         }
-        Ending::SourceFault => return open_cause(infile, source),
+        Ending::SourceFault => return open_cause(infile, source.trouble()),
         Ending::SourceLost => return Some(Cause::Hint(Hint::InputLost)),
-        Ending::SiteFault { call, .. } => return fault_cause(command, call, site),
+        Ending::SiteFault { call, .. } => {
+            let files = files_of(command, site);
+            return fault_cause(site.trouble(), call, files);
+        }
         Ending::LimitMet(limit) => return Some(limit_cause(limit, command.mapfile.is_some())),
         Ending::NoMemory => return Some(Cause::Hint(Hint::NoMemory)),
         Ending::NoMap(which) => (named_map(command, which), Fact::Absent),
-        Ending::MapRefused { which, .. } => (named_map(command, which), Fact::NoMap),
         Ending::NotRegular => (outfile, Fact::NeedsForce),
         Ending::NoOutput => (outfile, Fact::Absent),
         Ending::EmptyPattern => (infile, Fact::Empty),
@@ -160,30 +139,27 @@ fn cause_of<'a>(
 /// The line that an answer's message is followed by. There is none where the arguments ask that nothing be said, and
 /// none of an answer whose message says all. After a rescue that is done it says what that left, by the `last` line.
 pub fn advise(
-    alloc: Global,
+    rt: &HostRuntime,
     words: &Words,
     ending: Ending,
     source: &FileSource,
     site: &FolderSite,
     last: &[u8],
 ) -> Option<Line> {
-    let (command, role) = match read_command(alloc, words) {
+    let (command, role) = match read_command(rt.alloc(), words) {
         Ok(Task::Rescue(command)) | Ok(Task::Generate(command)) => (command, Role::Infile),
         Ok(Task::Fill { command, .. }) => (command, Role::Pattern),
         Ok(Task::Sample { .. }) => return None,
-        Err(
-            CommandError::Usage {
-                fault,
-                quiet: false,
-            },
-        ) => {
-            let cause = usage_cause(alloc, words, fault, manual())?;
-            return Some(line_of(PROGRAM, cause));
-        }
-        Err(_) => return None,
+        Err(error) => return line_on_words(PROGRAM, rt.alloc(), words, error, manual()),
     };
     if command.options.quiet {
         return None;
+    }
+    if let Ending::MapRefused { which, error } = ending {
+        return Some(line_on_map(rt, PROGRAM, named_map(&command, which), error));
+    }
+    if ending == Ending::NoMemory && command.mapfile.is_some() {
+        return Some(line_on_memory(rt, PROGRAM, named_map(&command, Which::RunMap)));
     }
     let cause = cause_of(&command, role, ending, source, site, last)?;
     Some(line_of(PROGRAM, cause))

@@ -3,15 +3,20 @@ ghost use Rattle.ddrescue_words.specs.Asking.{AreInLimits};
 
 use ddrescue_words::command::{Command, Task, read_command};
 use option_words::words::Words;
-use program_advice::advice::due_advice;
-use program_advice::facts::{Facts, Work};
-use program_advice::look::{has_no_journal, is_link, look_at_file};
-use program_advice::tail::look_at_map;
-use program_advice::warning::{Names, line_of_advice};
-use rescue_console::console::{Channel, Console};
+use rescue_console::console::Console;
+use rescue_warnings::advice::due_advice;
+use rescue_warnings::facts::{Facts, MapText, Work};
+use rescue_warnings::look::{has_no_journal, is_link, look_at_file};
+use rescue_warnings::tail::look_at_map;
+use rescue_warnings::warning::{Names, put_warnings};
 use task_files::checked::PROGRAM;
 
-/// What is known before the work of a command. Nothing is known of a mapfile that isn't named.
+/// What a mapfile says. Nothing is known of one that isn't named.
+fn look_at_named(rt: &HostRuntime, name: Option<&str>) -> Option<MapText> {
+    look_at_map(rt, name?)
+}
+
+/// What is known before the work of a command.
 fn facts_of(rt: &HostRuntime, work: Work, command: &Command<'_>) -> Facts
     requires { AreInLimits command.now.options }
 {
@@ -26,13 +31,11 @@ fn facts_of(rt: &HostRuntime, work: Work, command: &Command<'_>) -> Facts
         cluster: options.cluster(),
         complete_only: options.complete_only,
         domain_map: command.domain_map.is_some(),
+        domain: look_at_named(rt, command.domain_map),
         scrapes: !options.no_trim && !options.no_scrape,
         infile: look_at_file(rt, command.infile),
         outfile: look_at_file(rt, command.outfile),
-        map: match command.mapfile {
-            Some(name) => look_at_map(rt, name),
-            None => None,
-        },
+        map: look_at_named(rt, command.mapfile),
         map_is_link: command.mapfile.is_some_and(|name| is_link(rt, name)),
         map_has_no_journal: command.mapfile.is_some_and(|name| has_no_journal(rt, name)),
     }
@@ -49,13 +52,10 @@ fn warn_of<P: Console>(rt: &HostRuntime, work: Work, command: &Command<'_>, cons
         infile: command.infile,
         outfile: command.outfile,
         mapfile: command.mapfile.unwrap_or(""),
+        domain: command.domain_map.unwrap_or(""),
     };
-    for advice in &due_advice(&facts_of(rt, work, command)) {
-        let line = line_of_advice(PROGRAM, names, *advice);
-        if console.put(Channel::Err, &line).is_err() {
-            return;
-        }
-    }
+    let advices = due_advice(&facts_of(rt, work, command));
+    put_warnings(PROGRAM, names, &advices, console);
 }
 
 /// Puts the lines before the work that words ask for. Nothing else changes.

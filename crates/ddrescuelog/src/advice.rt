@@ -1,17 +1,15 @@
 //! The line after the message: why an answer came, by the files that the arguments name.
 use crash_site::folder::FolderSite;
-use crash_site::site::SiteCall;
 use ddrescuelog_cli::ending::{LogEnding, Which};
 use ddrescuelog_words::command::{Command, read_command};
 use ddrescuelog_words::options::ROWS;
-use option_values::command_error::CommandError;
 use option_words::words::Words;
 use program_advice::cause::{Cause, Fact, Hint, Named, Role, Stream};
+use program_advice::files::stream_cause;
 use program_advice::line::{Line, line_of};
-use program_advice::reason::reason_text;
-use program_advice::site::{SiteFiles, site_cause};
-use program_advice::usage::{Manual, usage_cause};
-use std::alloc::Global;
+use program_advice::mapfile::{line_on_map, line_on_memory};
+use program_advice::site::{SiteFiles, fault_cause};
+use program_advice::usage::{Manual, line_on_words};
 use std::io;
 
 /// What is told of the arguments.
@@ -58,25 +56,13 @@ fn unread_map<'a>(command: &Command<'a>, site: &FolderSite) -> Named<'a> {
     }
 }
 
-/// Why a call on a map or its folder failed.
-fn fault_cause<'a>(command: &Command<'a>, call: SiteCall, site: &FolderSite) -> Option<Cause<'a>> {
-    let trouble = site.trouble()?;
-    if trouble.call != call {
-        return None;
-    }
-    let files = SiteFiles {
+/// The files that a command's calls reach.
+fn files_of<'a>(command: &Command<'a>, site: &FolderSite) -> SiteFiles<'a> {
+    SiteFiles {
         outfile: "",
         mapfile: Some(command.mapfile),
         read: unread_map(command, site),
-    };
-    Some(site_cause(trouble, files))
-}
-
-/// Why a standard stream failed.
-fn stream_cause<'a>(stream: Stream, trouble: Option<io::Error>) -> Option<Cause<'a>> {
-    let error = trouble?;
-    let reason = reason_text(&error);
-    Some(Cause::Stream { stream, reason })
+    }
 }
 
 /// Why a command that was read ended so, if that helps.
@@ -92,15 +78,18 @@ fn cause_of<'a>(
         | LogEnding::NotDone
         | LogEnding::Differ
         | LogEnding::Usage(_)
-        | LogEnding::ListTooLong => return None,
+        | LogEnding::ListTooLong
+        | LogEnding::MapRefused { .. }
+        | LogEnding::NoMemory => return None,
         LogEnding::BadNumber { .. } => return Some(Cause::Hint(Hint::BlockNumbers)),
-        LogEnding::SiteFault { call } => return fault_cause(command, call, site),
+        LogEnding::SiteFault { call } => {
+            let files = files_of(command, site);
+            return fault_cause(site.trouble(), call, files);
+        }
         LogEnding::FeedFault => return stream_cause(Stream::Input, fed),
         LogEnding::ConsoleFault => return stream_cause(Stream::Output, put),
-        LogEnding::NoMemory => return Some(Cause::Hint(Hint::NoMemory)),
         LogEnding::Exists => (named_map(command, Which::RunMap), Fact::Exists),
         LogEnding::NoMap(which) => (named_map(command, which), Fact::Absent),
-        LogEnding::MapRefused { which, .. } => (named_map(command, which), Fact::NoMap),
     };
     Some(Cause::File { file, fact })
 }
@@ -108,28 +97,33 @@ fn cause_of<'a>(
 /// The line that an answer's message is followed by. There is none where the arguments ask that nothing be said, and
 /// none of an answer whose message says all. `fed` and `put` are the errors of the standard streams.
 pub fn advise(
-    alloc: Global,
+    rt: &HostRuntime,
     words: &Words,
     ending: LogEnding,
     site: &FolderSite,
     fed: Option<io::Error>,
     put: Option<io::Error>,
 ) -> Option<Line> {
-    let command = match read_command(alloc, words) {
+    let command = match read_command(rt.alloc(), words) {
         Ok(command) => command,
-        Err(
-            CommandError::Usage {
-                fault,
-                quiet: false,
-            },
-        ) => {
-            let cause = usage_cause(alloc, words, fault, manual())?;
-            return Some(line_of(PROGRAM, cause));
-        }
-        Err(_) => return None,
+        Err(error) => return line_on_words(PROGRAM, rt.alloc(), words, error, manual()),
     };
     if command.options.quiet {
         return None;
+    }
+    match ending {
+        LogEnding::MapRefused { which, error } => return Some(line_on_map(
+            rt,
+            PROGRAM,
+            named_map(&command, which),
+            error,
+        )),
+        LogEnding::NoMemory => return Some(line_on_memory(
+            rt,
+            PROGRAM,
+            named_map(&command, Which::RunMap),
+        )),
+        _ => {}
     }
     let cause = cause_of(&command, ending, site, fed, put)?;
     Some(line_of(PROGRAM, cause))

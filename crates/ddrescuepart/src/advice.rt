@@ -2,14 +2,12 @@
 use ddrescuepart_cli::ending::PartEnding;
 use ddrescuepart_words::command::{ROWS, read_command};
 use faulty_source::file::FileSource;
-use option_values::command_error::CommandError;
 use option_words::words::Words;
 use partition_domain::stop::Refusal;
-use program_advice::cause::{Cause, Doing, Hint, Named, Role, Stream};
+use program_advice::cause::{Cause, Hint, Named, Role, Stream};
+use program_advice::files::{open_cause, stream_cause};
 use program_advice::line::{Line, line_of};
-use program_advice::reason::reason_text;
-use program_advice::usage::{Manual, usage_cause};
-use std::alloc::Global;
+use program_advice::usage::{Manual, line_on_words};
 use std::io;
 
 /// What is told of the arguments.
@@ -25,26 +23,6 @@ fn manual() -> Manual {
 /// The program's name, which begins its lines.
 const PROGRAM: &str = "ddrescuepart";
 
-/// Why the infile couldn't be opened.
-fn open_cause<'a>(name: &'a str, source: &FileSource) -> Option<Cause<'a>> {
-    let error = source.trouble()?;
-    let role = Role::Infile;
-    Some(Cause::Refused {
-        doing: Doing::Open,
-        file: Named { role, name },
-        reason: reason_text(&error),
-    })
-}
-
-/// Why standard output failed.
-fn put_cause<'a>(put: Option<io::Error>) -> Option<Cause<'a>> {
-    let error = put?;
-    Some(Cause::Stream {
-        stream: Stream::Output,
-        reason: reason_text(&error),
-    })
-}
-
 /// What helps where what was read gives no partition.
 fn refusal_hint(refusal: Refusal) -> Hint {
     match refusal {
@@ -56,15 +34,15 @@ fn refusal_hint(refusal: Refusal) -> Hint {
 
 /// Why a search ended so, if that helps.
 fn cause_of<'a>(
-    infile: &'a str,
+    infile: Named<'a>,
     ending: PartEnding,
     source: &FileSource,
     put: Option<io::Error>,
 ) -> Option<Cause<'a>> {
     let hint = match ending {
         PartEnding::Done | PartEnding::Usage(_) => return None,
-        PartEnding::SourceFault => return open_cause(infile, source),
-        PartEnding::ConsoleFault => return put_cause(put),
+        PartEnding::SourceFault => return open_cause(infile, source.trouble()),
+        PartEnding::ConsoleFault => return stream_cause(Stream::Output, put),
         PartEnding::SourceLost => Hint::InputLost,
         PartEnding::Refused(refusal) => refusal_hint(refusal),
         PartEnding::NoMemory => Hint::NoMemory,
@@ -75,28 +53,23 @@ fn cause_of<'a>(
 /// The line that an answer's message is followed by. There is none where the arguments ask that nothing be said, and
 /// none of an answer whose message says all. `put` is the error of standard output.
 pub fn advise(
-    alloc: Global,
+    rt: &HostRuntime,
     words: &Words,
     ending: PartEnding,
     source: &FileSource,
     put: Option<io::Error>,
 ) -> Option<Line> {
-    let command = match read_command(alloc, words) {
+    let command = match read_command(rt.alloc(), words) {
         Ok(command) => command,
-        Err(
-            CommandError::Usage {
-                fault,
-                quiet: false,
-            },
-        ) => {
-            let cause = usage_cause(alloc, words, fault, manual())?;
-            return Some(line_of(PROGRAM, cause));
-        }
-        Err(_) => return None,
+        Err(error) => return line_on_words(PROGRAM, rt.alloc(), words, error, manual()),
     };
     if command.quiet {
         return None;
     }
-    let cause = cause_of(command.infile, ending, source, put)?;
+    let infile = Named {
+        role: Role::Infile,
+        name: command.infile,
+    };
+    let cause = cause_of(infile, ending, source, put)?;
     Some(line_of(PROGRAM, cause))
 }

@@ -4,10 +4,11 @@
 use advice::advise;
 use ddrescuepart_cli::part::ddrescuepart;
 use faulty_source::file::FileSource;
+use program_advice::put::put_line;
 use program_start::status::status_of;
 use program_start::streams::{ClosedStream, fill_streams};
 use program_start::words::collect_words;
-use rescue_console::console::{Channel, Console};
+use rescue_console::console::Channel;
 use rescue_console::system::StdConsole;
 use std::io;
 use std::process::ExitCode;
@@ -20,13 +21,8 @@ fn run(rt: HostRuntime) -> io::Result<u8> {
     let mut source = FileSource::new(rt.clone()?);
     let mut console = StdConsole::new(rt.clone()?);
     let ending = ddrescuepart(rt.alloc(), &words, &mut source, &mut console);
-    if console.trouble(Channel::Err).is_none() {
-        let put = console.trouble(Channel::Out);
-        if let Some(line) = advise(rt.alloc(), &words, ending, &source, put) {
-            // A console that fails changes no status.
-            let _put = console.put(Channel::Err, &line);
-        }
-    }
+    let put = console.trouble(Channel::Out);
+    put_line(&mut console, advise(&rt, &words, ending, &source, put));
     Ok(ending.code())
 }
 

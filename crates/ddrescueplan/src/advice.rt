@@ -3,14 +3,13 @@ use crash_site::folder::FolderSite;
 use ddrescueplan_cli::ending::PlanEnding;
 use ddrescueplan_words::command::read_command;
 use ddrescueplan_words::options::ROWS;
-use option_values::command_error::CommandError;
 use option_words::words::Words;
 use program_advice::cause::{Cause, Fact, Hint, Named, Role, Stream};
+use program_advice::files::stream_cause;
 use program_advice::line::{Line, line_of};
-use program_advice::reason::reason_text;
-use program_advice::site::{SiteFiles, site_cause};
-use program_advice::usage::{Manual, usage_cause};
-use std::alloc::Global;
+use program_advice::mapfile::line_on_map;
+use program_advice::site::{SiteFiles, fault_cause};
+use program_advice::usage::{Manual, line_on_words};
 use std::io;
 
 /// What is told of the arguments.
@@ -26,15 +25,6 @@ fn manual() -> Manual {
 /// The program's name, which begins its lines.
 pub(crate) const PROGRAM: &str = "ddrescueplan";
 
-/// Why standard output failed.
-fn put_cause<'a>(put: Option<io::Error>) -> Option<Cause<'a>> {
-    let error = put?;
-    Some(Cause::Stream {
-        stream: Stream::Output,
-        reason: reason_text(&error),
-    })
-}
-
 /// Why a plan ended so, if that helps.
 fn cause_of<'a>(
     read: Named<'a>,
@@ -47,38 +37,30 @@ fn cause_of<'a>(
         mapfile: None,
         read,
     };
-    let fact = match ending {
-        PlanEnding::Done | PlanEnding::Usage(_) => return None,
-        PlanEnding::SiteFault { .. } => return Some(site_cause(site.trouble()?, files)),
-        PlanEnding::ConsoleFault => return put_cause(put),
-        PlanEnding::NoMemory => return Some(Cause::Hint(Hint::NoMemory)),
-        PlanEnding::NoMap => Fact::Absent,
-        PlanEnding::MapRefused { .. } => Fact::NoMap,
-    };
-    Some(Cause::File { file: read, fact })
+    match ending {
+        PlanEnding::Done | PlanEnding::Usage(_) | PlanEnding::MapRefused { .. } => None,
+        PlanEnding::SiteFault { call } => fault_cause(site.trouble(), call, files),
+        PlanEnding::ConsoleFault => stream_cause(Stream::Output, put),
+        PlanEnding::NoMemory => Some(Cause::Hint(Hint::NoMemory)),
+        PlanEnding::NoMap => Some(Cause::File {
+            file: read,
+            fact: Fact::Absent,
+        }),
+    }
 }
 
 /// The line that an answer's message is followed by. There is none where the arguments ask that nothing be said, and
 /// none of an answer whose message says all. `put` is the error of standard output.
 pub fn advise(
-    alloc: Global,
+    rt: &HostRuntime,
     words: &Words,
     ending: PlanEnding,
     site: &FolderSite,
     put: Option<io::Error>,
 ) -> Option<Line> {
-    let command = match read_command(alloc, words) {
+    let command = match read_command(rt.alloc(), words) {
         Ok(command) => command,
-        Err(
-            CommandError::Usage {
-                fault,
-                quiet: false,
-            },
-        ) => {
-            let cause = usage_cause(alloc, words, fault, manual())?;
-            return Some(line_of(PROGRAM, cause));
-        }
-        Err(_) => return None,
+        Err(error) => return line_on_words(PROGRAM, rt.alloc(), words, error, manual()),
     };
     if command.options.rescue.quiet {
         return None;
@@ -87,6 +69,9 @@ pub fn advise(
         role: Role::TestMap,
         name: command.test_map,
     };
+    if let PlanEnding::MapRefused { error } = ending {
+        return Some(line_on_map(rt, PROGRAM, read, error));
+    }
     let cause = cause_of(read, ending, site, put)?;
     Some(line_of(PROGRAM, cause))
 }

@@ -4,10 +4,11 @@
 use advice::advise;
 use crash_site::folder::FolderSite;
 use ddrescueplan_cli::plan::ddrescueplan;
+use program_advice::put::put_line;
 use program_start::status::status_of;
 use program_start::streams::{ClosedStream, fill_streams};
 use program_start::words::collect_words;
-use rescue_console::console::{Channel, Console};
+use rescue_console::console::Channel;
 use rescue_console::system::StdConsole;
 use std::io;
 use std::process::ExitCode;
@@ -23,13 +24,8 @@ fn run(rt: HostRuntime) -> io::Result<u8> {
     let mut console = StdConsole::new(rt.clone()?);
     warn(&rt, &words, &mut console);
     let ending = ddrescueplan(rt.alloc(), &words, &mut site, &mut console);
-    if console.trouble(Channel::Err).is_none() {
-        let put = console.trouble(Channel::Out);
-        if let Some(line) = advise(rt.alloc(), &words, ending, &site, put) {
-            // A console that fails changes no status.
-            let _put = console.put(Channel::Err, &line);
-        }
-    }
+    let put = console.trouble(Channel::Out);
+    put_line(&mut console, advise(&rt, &words, ending, &site, put));
     Ok(ending.code())
 }
 

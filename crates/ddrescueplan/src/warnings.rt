@@ -3,11 +3,11 @@
 use crate::advice::PROGRAM;
 use ddrescueplan_words::command::{Command, read_command};
 use option_words::words::Words;
-use program_advice::advice::due_advice;
-use program_advice::facts::{Facts, Found, Work};
-use program_advice::tail::look_at_map;
-use program_advice::warning::{Names, line_of_advice};
-use rescue_console::console::{Channel, Console};
+use rescue_console::console::Console;
+use rescue_warnings::advice::due_advice;
+use rescue_warnings::facts::{Facts, Found, Work};
+use rescue_warnings::tail::look_at_map;
+use rescue_warnings::warning::{Names, put_warnings};
 
 /// What is known before a plan.
 fn facts_of(rt: &HostRuntime, command: &Command<'_>) -> Facts {
@@ -21,6 +21,7 @@ fn facts_of(rt: &HostRuntime, command: &Command<'_>) -> Facts {
         cluster: options.sector,
         complete_only: false,
         domain_map: false,
+        domain: None,
         scrapes: !options.no_trim && !options.no_scrape,
         infile: Some(Found::Regular {
             length: command.length,
@@ -44,11 +45,8 @@ pub fn warn<P: Console>(rt: &HostRuntime, words: &Words, console: &mut P) {
         infile: "",
         outfile: "",
         mapfile: command.test_map,
+        domain: "",
     };
-    for advice in &due_advice(&facts_of(rt, &command)) {
-        let line = line_of_advice(PROGRAM, names, *advice);
-        if console.put(Channel::Err, &line).is_err() {
-            return;
-        }
-    }
+    let advices = due_advice(&facts_of(rt, &command));
+    put_warnings(PROGRAM, names, &advices, console);
 }

@@ -1,17 +1,15 @@
 //! The line after the message: why an answer came, by the files that the arguments name.
 use crash_site::folder::FolderSite;
-use crash_site::site::SiteCall;
 use ddrescueshow_cli::ending::{ShowEnding, Which};
 use ddrescueshow_words::command::{Command, read_command};
 use ddrescueshow_words::options::ROWS;
-use option_values::command_error::CommandError;
 use option_words::words::Words;
-use program_advice::cause::{Cause, Fact, Hint, Named, Role, Stream};
+use program_advice::cause::{Cause, Fact, Named, Role, Stream};
+use program_advice::files::stream_cause;
 use program_advice::line::{Line, line_of};
-use program_advice::reason::reason_text;
-use program_advice::site::{SiteFiles, site_cause};
-use program_advice::usage::{Manual, usage_cause};
-use std::alloc::Global;
+use program_advice::mapfile::{line_on_map, line_on_memory};
+use program_advice::site::{SiteFiles, fault_cause};
+use program_advice::usage::{Manual, line_on_words};
 use std::io;
 
 /// What is told of the arguments.
@@ -41,23 +39,18 @@ fn named_map<'a>(command: &Command<'a>, which: Which) -> Named<'a> {
     }
 }
 
-/// Why a call on a map failed.
-fn fault_cause<'a>(command: &Command<'a>, call: SiteCall, site: &FolderSite) -> Option<Cause<'a>> {
-    let trouble = site.trouble()?;
-    if trouble.call != call {
-        return None;
-    }
+/// The files that a command's calls reach.
+fn files_of<'a>(command: &Command<'a>, site: &FolderSite) -> SiteFiles<'a> {
     let which = if site.is_unread(command.mapfile) {
         Which::RunMap
     } else {
         Which::DomainMap
     };
-    let files = SiteFiles {
+    SiteFiles {
         outfile: "",
         mapfile: Some(command.mapfile),
         read: named_map(command, which),
-    };
-    Some(site_cause(trouble, files))
+    }
 }
 
 /// Why a command that was read ended so, if that helps.
@@ -68,18 +61,17 @@ fn cause_of<'a>(
     put: Option<io::Error>,
 ) -> Option<Cause<'a>> {
     let (file, fact) = match ending {
-        ShowEnding::Done | ShowEnding::Usage(_) | ShowEnding::TooManyCells => return None,
-        ShowEnding::SiteFault { call } => return fault_cause(command, call, site),
-        ShowEnding::ConsoleFault => {
-            let error = put?;
-            return Some(Cause::Stream {
-                stream: Stream::Output,
-                reason: reason_text(&error),
-            });
+        ShowEnding::Done
+        | ShowEnding::Usage(_)
+        | ShowEnding::TooManyCells
+        | ShowEnding::MapRefused { .. }
+        | ShowEnding::NoMemory => return None,
+        ShowEnding::SiteFault { call } => {
+            let files = files_of(command, site);
+            return fault_cause(site.trouble(), call, files);
         }
-        ShowEnding::NoMemory => return Some(Cause::Hint(Hint::NoMemory)),
+        ShowEnding::ConsoleFault => return stream_cause(Stream::Output, put),
         ShowEnding::NoMap(which) => (named_map(command, which), Fact::Absent),
-        ShowEnding::MapRefused { which, .. } => (named_map(command, which), Fact::NoMap),
     };
     Some(Cause::File { file, fact })
 }
@@ -87,27 +79,32 @@ fn cause_of<'a>(
 /// The line that an answer's message is followed by. There is none where the arguments ask that nothing be said, and
 /// none of an answer whose message says all. `put` is the error of standard output.
 pub fn advise(
-    alloc: Global,
+    rt: &HostRuntime,
     words: &Words,
     ending: ShowEnding,
     site: &FolderSite,
     put: Option<io::Error>,
 ) -> Option<Line> {
-    let command = match read_command(alloc, words) {
+    let command = match read_command(rt.alloc(), words) {
         Ok(command) => command,
-        Err(
-            CommandError::Usage {
-                fault,
-                quiet: false,
-            },
-        ) => {
-            let cause = usage_cause(alloc, words, fault, manual())?;
-            return Some(line_of(PROGRAM, cause));
-        }
-        Err(_) => return None,
+        Err(error) => return line_on_words(PROGRAM, rt.alloc(), words, error, manual()),
     };
     if command.options.quiet {
         return None;
+    }
+    match ending {
+        ShowEnding::MapRefused { which, error } => return Some(line_on_map(
+            rt,
+            PROGRAM,
+            named_map(&command, which),
+            error,
+        )),
+        ShowEnding::NoMemory => return Some(line_on_memory(
+            rt,
+            PROGRAM,
+            named_map(&command, Which::RunMap),
+        )),
+        _ => {}
     }
     let cause = cause_of(&command, ending, site, put)?;
     Some(line_of(PROGRAM, cause))

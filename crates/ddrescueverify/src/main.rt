@@ -5,11 +5,12 @@ use advice::advise;
 use crash_site::folder::FolderSite;
 use ddrescueverify_cli::verify::ddrescueverify;
 use faulty_source::file::FileSource;
+use program_advice::put::put_line;
 use program_start::status::status_of;
 use program_start::streams::{ClosedStream, fill_streams};
 use program_start::words::collect_words;
 use real_files::identity::OpenInput;
-use rescue_console::console::{Channel, Console};
+use rescue_console::console::Channel;
 use rescue_console::system::StdConsole;
 use std::io;
 use std::process::ExitCode;
@@ -38,13 +39,11 @@ fn run(rt: HostRuntime) -> io::Result<u8> {
     let mut console = StdConsole::new(rt.clone()?);
     warn(&rt, &words, &mut console);
     let ending = ddrescueverify(rt.alloc(), &words, &mut source, &mut site, &mut console);
-    if console.trouble(Channel::Err).is_none() {
-        let put = console.trouble(Channel::Out);
-        if let Some(line) = advise(rt.alloc(), &words, ending, &source, &site, put) {
-            // A console that fails changes no status.
-            let _put = console.put(Channel::Err, &line);
-        }
-    }
+    let put = console.trouble(Channel::Out);
+    put_line(
+        &mut console,
+        advise(&rt, &words, ending, &source, &site, put),
+    );
     Ok(ending.code())
 }
 

@@ -11,12 +11,17 @@ shown_from b = grind (arith, nat_tests)
 no_delete : (b : ℕ) → nat_eq (shown_byte b) 127 ≡ false
 no_delete b = grind (arith, nat_tests)
 
--- four pieces that are added one after another
+-- four pieces that are added one after another, and five
 pub four_added : (a b c d e w x y z : List ℕ) → w ≡ a ++ b → x ≡ w ++ c → y ≡ x ++ d → z ≡ y ++ e
     → z ≡ a ++ (b ++ c ++ d ++ e)
 four_added a b c d e w x y z f g h i =
     i ∙ ap (λ t. t ++ e) (h ∙ ap (λ t. t ++ d) (g ∙ ap (λ t. t ++ c) f ∙ append_assoc a b c) ∙ append_assoc a (b ++ c) d)
     ∙ append_assoc a (b ++ c ++ d) e
+
+pub five_added : (a b c d e f v w x y z : List ℕ) → v ≡ a ++ b → w ≡ v ++ c → x ≡ w ++ d → y ≡ x ++ e → z ≡ y ++ f
+    → z ≡ a ++ (b ++ c ++ d ++ e ++ f)
+five_added a b c d e f v w x y z g h i j k =
+    k ∙ ap (λ t. t ++ f) (four_added a b c d e v w x y g h i j) ∙ append_assoc a (b ++ c ++ d ++ e) f
 
 -- a text of up to 511 bytes and a newline
 pub one_line : (text line : List ℕ) → line ≡ map shown_byte text ++ 10 ∷ [] → length text ≤ 511 → IsOneLine line

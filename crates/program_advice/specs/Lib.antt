@@ -1,4 +1,2 @@
 pub mod Texts
 pub mod Lines
-pub mod Due
-pub mod Warnings

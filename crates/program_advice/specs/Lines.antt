@@ -3,7 +3,7 @@ use Rattle.std.specs.Prelude.{ℕ, Bool, true, false, List, [], ◌∷◌, ◌++
 use Rattle.std.specs.Fmt.{decimal}
 use Rattle.program_advice.specs.declared.cause.Named.{Named}
 use Rattle.program_advice.specs.declared.cause.Cause.{Cause}
-use Rattle.program_advice.specs.declared.cause.Cause.TheVariants.{Refused, Unsaved, Full, File, OneName, Limit, Stream, Argument, Usage, Left, Hint}
+use Rattle.program_advice.specs.declared.cause.Cause.TheVariants.{Refused, Unsaved, Full, File, BadLine, LargeMap, OneName, Limit, Stream, Argument, Usage, Left, Hint}
 use Rattle.program_advice.specs.Texts.{doing_text, fact_text, hint_text, option_text, role_text, stream_text}
 
 -- a byte as it is printed: a control character becomes a question mark
@@ -36,6 +36,16 @@ room_text true = codes ", which goes on from the last saved map"
 abbrev pub unsaved_text : (name reason : List ℕ) → List ℕ
 unsaved_text name reason = codes "cannot save " ++ quoted name ++ codes ": " ++ cut 60 reason
 
+-- the advice on a line that shows that a file's text is no map
+abbrev pub bad_line_text : Named → List ℕ → List ℕ
+bad_line_text file line = named_text file ++ codes " isn't a mapfile, or it was damaged: that line is '" ++ cut 80 line
+    ++ codes "'"
+
+-- the advice on want of memory for the map of a file
+abbrev pub large_map_text : Named → ℕ → List ℕ
+large_map_text file bytes = codes "memory is short, and " ++ named_text file ++ codes " has " ++ decimal bytes
+    ++ codes " B: end other programs and give the same command"
+
 -- the advice on bytes that a run left
 abbrev pub left_text : Bool → List ℕ
 left_text false = codes " B weren't read; with option -r 3 the same command tries the bad sectors again"
@@ -48,6 +58,8 @@ cause_text (Unsaved name reason) = unsaved_text name.now reason.now
 cause_text (Full file resumes) = codes "no space left for " ++ named_text file
     ++ codes ": make room and give the same command" ++ room_text resumes
 cause_text (File file fact) = named_text file ++ fact_text fact
+cause_text (BadLine file line) = bad_line_text file line.now
+cause_text (LargeMap file bytes) = large_map_text file bytes
 cause_text (OneName first second name) = role_text first ++ codes " and " ++ role_text second ++ codes " are both "
     ++ quoted name.now
 cause_text (Limit option resumes) = option_text option ++ resuming_text resumes

@@ -109,6 +109,16 @@ pub enum Cause<'a> {
         file: Named<'a>,
         fact: Fact,
     },
+    /// The file's text is no map, and this is the line that shows it.
+    BadLine {
+        file: Named<'a>,
+        line: &'a [u8],
+    },
+    /// Memory was short for the map of a file of this many bytes.
+    LargeMap {
+        file: Named<'a>,
+        bytes: u64,
+    },
     /// Two files have this name.
     OneName {
         first: Role,

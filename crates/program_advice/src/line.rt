@@ -2,7 +2,7 @@
 ghost use Rattle.std.specs.Prelude.{◌≡◌, ◌+◌, ◌≤◌, ◌++◌, [], ◌∷◌, length, map, codes};
 ghost use Rattle.std.specs.Fmt.{decimal};
 ghost use Rattle.arrayvec.specs.ArrayVec.{array_vec_len};
-ghost use Rattle.program_advice.specs.Lines.{IsOneLine, cause_text, cut, left_text, line_text, named_text, quoted, resuming_text, room_text, shown_byte, unsaved_text};
+ghost use Rattle.program_advice.specs.Lines.{IsOneLine, bad_line_text, cause_text, cut, large_map_text, left_text, line_text, named_text, quoted, resuming_text, room_text, shown_byte, unsaved_text};
 
 use crate::cause::{Cause, Named};
 use crate::texts::{doing_text, fact_text, hint_text, option_text, role_text, stream_text};
@@ -13,7 +13,7 @@ use itoa::Buffer;
 pub type Line = ArrayVec<u8, 512>;
 
 /// Adds a text for which there is room.
-pub(crate) fn add(line: &mut Line, text: &str)
+pub fn add(line: &mut Line, text: &str)
     requires { array_vec_len line.old + length text.now ≤ 511 }
     ensures text { line.new.items ≡ line.old.items ++ text.now }
     ensures len { array_vec_len line.new ≡ array_vec_len line.old + length text.now }
@@ -22,27 +22,27 @@ pub(crate) fn add(line: &mut Line, text: &str)
 }
 
 /// Adds a text, or its first `most` bytes and two dots.
-fn add_cut(line: &mut Line, text: &str, most: usize)
+fn add_cut(line: &mut Line, text: &[u8], most: usize)
     requires { array_vec_len line.old + most ≤ 509 }
     ensures text { line.new.items ≡ line.old.items ++ cut most text.now }
     ensures len { array_vec_len line.new ≤ array_vec_len line.old + most + 2 }
 {
     if text.len() <= most {
-        add(line, text);
+        let _fits = line.try_extend_from_slice(text);
         return;
     }
-    let _fits = line.try_extend_from_slice(&text.as_bytes()[..most]);
+    let _fits = line.try_extend_from_slice(&text[..most]);
     add(line, "..");
 }
 
 /// Adds a name of the command line in quotes.
-pub(crate) fn add_quoted(line: &mut Line, name: &str)
+pub fn add_quoted(line: &mut Line, name: &str)
     requires { array_vec_len line.old ≤ 350 }
     ensures text { line.new.items ≡ line.old.items ++ quoted name.now }
     ensures len { array_vec_len line.new ≤ array_vec_len line.old + 154 }
 {
     add(line, "'");
-    add_cut(line, name, 150);
+    add_cut(line, name.as_bytes(), 150);
     add(line, "'");
 }
 
@@ -88,7 +88,32 @@ fn add_unsaved(line: &mut Line, name: &str, reason: &str)
     add(line, "cannot save ");
     add_quoted(line, name);
     add(line, ": ");
-    add_cut(line, reason, 60);
+    add_cut(line, reason.as_bytes(), 60);
+}
+
+/// Adds the advice on a line of a mapfile, of which it shows up to 80 bytes.
+fn add_bad_line(line: &mut Line, file: Named<'_>, text: &[u8])
+    requires { array_vec_len line.old ≤ 20 }
+    ensures text { line.new.items ≡ line.old.items ++ bad_line_text file.entry text.now }
+    ensures len { array_vec_len line.new ≤ array_vec_len line.old + 350 }
+{
+    add_named(line, file);
+    add(line, " isn't a mapfile, or it was damaged: that line is '");
+    add_cut(line, text, 80);
+    add(line, "'");
+}
+
+/// Adds the advice on want of memory for a map.
+fn add_large_map(line: &mut Line, file: Named<'_>, bytes: u64)
+    requires { array_vec_len line.old ≤ 20 }
+    ensures text { line.new.items ≡ line.old.items ++ large_map_text file.entry bytes }
+    ensures len { array_vec_len line.new ≤ array_vec_len line.old + 350 }
+{
+    add(line, "memory is short, and ");
+    add_named(line, file);
+    add(line, " has ");
+    add(line, Buffer::new().format(bytes));
+    add(line, " B: end other programs and give the same command");
 }
 
 /// Adds the advice on bytes that a run left.
@@ -126,7 +151,7 @@ fn add_cause(line: &mut Line, cause: Cause<'_>)
             add(line, doing_text(doing));
             add_named(line, file);
             add(line, ": ");
-            add_cut(line, reason, 60);
+            add_cut(line, reason.as_bytes(), 60);
         }
         Cause::Unsaved { name, reason } => add_unsaved(line, name, reason),
         Cause::Full { file, resumes } => {
@@ -139,6 +164,8 @@ fn add_cause(line: &mut Line, cause: Cause<'_>)
             add_named(line, file);
             add(line, fact_text(fact));
         }
+        Cause::BadLine { file, line: text } => add_bad_line(line, file, text),
+        Cause::LargeMap { file, bytes } => add_large_map(line, file, bytes),
         Cause::OneName {
             first,
             second,
@@ -156,16 +183,16 @@ fn add_cause(line: &mut Line, cause: Cause<'_>)
         }
         Cause::Stream { stream, reason } => {
             add(line, stream_text(stream));
-            add_cut(line, reason, 60);
+            add_cut(line, reason.as_bytes(), 60);
         }
         Cause::Argument { word, wanted } => {
             add_quoted(line, word);
             add(line, " isn't ");
-            add_cut(line, wanted, 150);
+            add_cut(line, wanted.as_bytes(), 150);
         }
         Cause::Usage { usage } => {
             add(line, "usage: ");
-            add_cut(line, usage, 150);
+            add_cut(line, usage.as_bytes(), 150);
         }
         Cause::Left { bytes, skips } => add_left(line, bytes, skips),
         Cause::Hint(hint) => add(line, hint_text(hint)),
@@ -195,7 +222,7 @@ fn add_shown(line: &mut Line, bytes: &[u8])
 }
 
 /// The line of a text: each control character becomes a question mark.
-pub(crate) fn finished(text: &[u8]) -> Line
+pub fn finished(text: &[u8]) -> Line
     requires { length text.now ≤ 511 }
     ensures text { result.items ≡ map shown_byte text.now ++ 10 ∷ [] }
     ensures line { IsOneLine result.items }

@@ -1,4 +1,6 @@
 //! Causes of calls on the output, on a mapfile or on its folder.
+ghost use Rattle.std.specs.Prelude.{◌≡◌, IfSome};
+
 use crate::cause::{Cause, Doing, Fact, Hint, Named, Role};
 use crate::reason::reason_text;
 use crash_site::folder::SiteTrouble;
@@ -138,7 +140,7 @@ fn remove_cause<'a>(error: &io::Error, name: &'a str) -> Cause<'a> {
 }
 
 /// Why a call failed, by the error that it met.
-pub fn site_cause<'a>(trouble: SiteTrouble, files: SiteFiles<'a>) -> Cause<'a> {
+fn site_cause<'a>(trouble: SiteTrouble, files: SiteFiles<'a>) -> Cause<'a> {
     let error = &trouble.error;
     let mapfile = files.mapfile.unwrap_or("");
     match trouble.call {
@@ -154,4 +156,19 @@ pub fn site_cause<'a>(trouble: SiteTrouble, files: SiteFiles<'a>) -> Cause<'a> {
         | SiteCall::DraftPublish
         | SiteCall::MapSettle => save_cause(error, mapfile),
     }
+}
+
+/// Why this call failed, if it is the one whose error was kept.
+pub fn fault_cause<'a>(
+    trouble: Option<SiteTrouble>,
+    call: SiteCall,
+    files: SiteFiles<'a>,
+) -> Option<Cause<'a>>
+    ensures { IfSome result (λ _. IfSome trouble (λ kept. kept.call ≡ call)) }
+{
+    let trouble = trouble?;
+    if trouble.call != call {
+        return None;
+    }
+    Some(site_cause(trouble, files))
 }

@@ -92,9 +92,10 @@ pub(crate) fn hint_text(hint: Hint) -> &'static str
             "reconnect the disk and give the same command (its name may have changed)"
         }
         Hint::NoMemory => "memory is short: end other programs and give the same command",
-        Hint::BlockNumbers => "each line of the list is one block number, as 17 or 0x11",
+        Hint::BlockNumbers => "each line of the list is one block number, such as 17 or 0x11",
         Hint::NoTable => "the infile has no DOS partition table that can be read there",
-        Hint::OtherTable => "the infile has a GPT, which this program doesn't read",
+        Hint::OtherTable =>
+            "the infile has a GPT: 'fdisk -l' shows the places for options -i and -s of ddrescue",
         Hint::NoPartition => "'fdisk -l' lists the partitions of a disk or an image",
     }
 }

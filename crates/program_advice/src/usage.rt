@@ -1,6 +1,10 @@
 //! Causes of arguments that ask for nothing that can be done.
+ghost use Rattle.std.specs.Prelude.{◌≤◌, IfSome, length};
+ghost use Rattle.program_advice.specs.Lines.{IsOneLine};
 
 use crate::cause::Cause;
+use crate::line::{Line, line_of};
+use option_values::command_error::CommandError;
 use option_words::fault::{UsageFault, WordFault};
 use option_words::reader::read_words;
 use option_words::row::Row;
@@ -99,14 +103,18 @@ fn wanted_by(option: &str) -> &'static str {
     } else if option == "sample" {
         "a number from 1 to 65536"
     } else if option == "timeout" {
-        "a time that fits here"
+        "a time that fits here (90 is 90 s, 2m is 120 s)"
+    } else if option == "change-types" {
+        "two lists of types, such as */,-"
+    } else if option == "fill-mode" || option == "list-blocks" {
+        "a list of types, such as - or */-"
     } else {
         "a value that fits here"
     }
 }
 
 /// Why arguments ask for nothing that can be done, if that helps.
-pub fn usage_cause<'a>(
+fn usage_cause<'a>(
     alloc: Global,
     words: &'a Words,
     fault: UsageFault,
@@ -130,5 +138,26 @@ pub fn usage_cause<'a>(
             wanted: "an option that goes with the others",
         }),
         UsageFault::PlaceTooLarge => None,
+    }
+}
+
+/// The line that follows the message on arguments that ask for nothing. There is none where they ask that nothing be
+/// said, and none where it wouldn't help.
+pub fn line_on_words(
+    program: &str,
+    alloc: Global,
+    words: &Words,
+    error: CommandError,
+    manual: Manual,
+) -> Option<Line>
+    requires { length program.now ≤ 18 }
+    ensures { IfSome result (λ line. IsOneLine line.items) }
+{
+    match error {
+        CommandError::Usage { fault, quiet } if !quiet => {
+            let cause = usage_cause(alloc, words, fault, manual)?;
+            Some(line_of(program, cause))
+        }
+        _ => None,
     }
 }

@@ -1,6 +1,6 @@
 -- All kinds are collected, each as it is due.
-use Rattle.program_advice.proofs.DueLemmas.{is_advice}
-use Rattle.program_advice.proofs.advice.due_advice.Goals as goal
+use Rattle.rescue_warnings.proofs.DueLemmas.{is_advice}
+use Rattle.rescue_warnings.proofs.advice.due_advice.Goals as goal
 
 pub returns : goal.returns
 returns c =
@@ -23,6 +23,7 @@ returns c =
       c.long_plan.ensures,
       c.nothing_to_compare.ensures,
       c.late_mapfile.ensures,
+      c.empty_domain.ensures,
     )
     at c.collect.ensures in
     is_advice c.args.facts.now c.collect.result.items said

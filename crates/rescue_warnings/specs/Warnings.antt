@@ -1,10 +1,12 @@
--- The line of a warning.
+-- The lines of warnings.
 use Rattle.std.specs.Prelude.{ℕ, List, [], ◌∷◌, ◌++◌, map, codes}
 use Rattle.std.specs.Fmt.{decimal}
-use Rattle.program_advice.specs.declared.advice.Advice.{Advice}
-use Rattle.program_advice.specs.declared.advice.Advice.TheVariants.{OutfileShort, MapPastInfile, EmptyInfile, BeginsPastInfile, NothingAsked, NothingListed, NewMapfile, LinkedMapfile, UnsafeMapfile, NewOutfile, NothingToFill, LongPattern, OtherSector, MountedInfile, MountedOutfile, LongPlan, NothingToCompare, LateMapfile}
-use Rattle.program_advice.specs.declared.warning.Names.{Names}
+use Rattle.rescue_warnings.specs.declared.advice.Advice.{Advice}
+use Rattle.rescue_warnings.specs.declared.advice.Advice.TheVariants.{OutfileShort, MapPastInfile, EmptyInfile, BeginsPastInfile, NothingAsked, NothingListed, NewMapfile, LinkedMapfile, UnsafeMapfile, NewOutfile, NothingToFill, LongPattern, OtherSector, MountedInfile, MountedOutfile, LongPlan, NothingToCompare, LateMapfile, EmptyDomain}
+use Rattle.rescue_warnings.specs.declared.warning.Names.{Names}
 use Rattle.program_advice.specs.Lines.{quoted, shown_byte}
+use Rattle.rescue_console.specs.declared.console.Channel.TheVariants.{Err}
+use Rattle.rescue_console.specs.Speaking.{SpokenPiece}
 
 -- a text, what a file is called, its name in quotes, and the text after it
 abbrev pub file_said : (front role name says : List ℕ) → List ℕ
@@ -34,11 +36,11 @@ advice_said front names (MapPastInfile e n) =
     (codes ", and the mapfile reaches to ")) e (codes ": is it the same disk?")
 advice_said front names EmptyInfile = infile_said front names (codes " has no bytes")
 advice_said front names (BeginsPastInfile n) = number_said (infile_said front names (codes " ends at ")) n
-    (codes ", and option -i begins no earlier: there is nothing to read")
+    (codes ", and option -i begins there or past it: there is nothing to read")
 advice_said front names NothingAsked = front ++ codes "option -s asks for 0 B"
 advice_said front names NothingListed = front ++ codes "option -C takes only what the mapfile lists, and it lists nothing"
 advice_said front names (NewMapfile n) =
-    number_said (mapfile_said front names (codes " doesn't exist yet, but the outfile has ")) n (codes " B: is its name right?")
+    number_said (mapfile_said front names (codes " doesn't exist yet, but the outfile has ")) n (codes " B: is the mapfile's name right?")
 advice_said front names LinkedMapfile =
     mapfile_said front names (codes " is a link, and the first save puts a file in its place")
 advice_said front names UnsafeMapfile =
@@ -49,19 +51,25 @@ advice_said front names (LongPattern n c) =
     number_said (number_said (infile_said front names (codes " has ")) n
     (codes " B, and fill mode repeats only the first ")) c (codes ": are infile and outfile swapped?")
 advice_said front names (OtherSector n b) =
-    number_said (number_said (infile_said front names (codes " has sectors of ")) n
-    (codes " B, and option -b takes them for ")) b (codes " B")
+    number_said (number_said (number_said (infile_said front names (codes " has sectors of ")) n
+    (codes " B, and option -b takes them for ")) b (codes " B: give option -b ")) n []
 advice_said front names MountedInfile = infile_said front names (codes " is mounted for writing: unmount it")
 advice_said front names MountedOutfile =
     outfile_said front names (codes " is mounted: unmount it, or its file system will be damaged")
 advice_said front names (LongPlan e n) =
     number_said (number_said (mapfile_said (front ++ codes "test ") names (codes " ends at ")) e
-    (codes ", and nothing past it can be read: the plan has at least ")) n (codes " reads")
+    (codes ", and nothing past it can be read: the plan has at least ")) n (codes " reads; a smaller length or option -n makes fewer")
 advice_said front names NothingToCompare =
     mapfile_said front names (codes " calls nothing finished that is to be compared")
 advice_said front names LateMapfile =
     mapfile_said front names (codes " is saved for the first time after 30 s: a stop before that leaves none")
+advice_said front names EmptyDomain =
+    file_said front (codes "domain mapfile ") names.domain.now (codes " calls nothing finished that is to be read")
 
 -- the line of a warning: the program's name, the text, each control character as a question mark, and a newline
 abbrev pub warning_text : List ℕ → Names → Advice → List ℕ
 warning_text program names advice = map shown_byte (advice_said (program ++ codes ": warning: ") names advice) ++ 10 ∷ []
+
+-- the lines of warnings, as pieces for standard error
+abbrev pub warning_pieces : List ℕ → Names → List Advice → List SpokenPiece
+warning_pieces program names advices = map (λ a. record { channel = Err; text = warning_text program names a }) advices

@@ -72,6 +72,8 @@ pub struct Facts {
     pub complete_only: bool,
     /// Only what is finished in another map is asked for.
     pub domain_map: bool,
+    /// The text of that map.
+    pub domain: Option<MapText>,
     /// Each bad sector is read by itself: nothing leaves out trimming or scraping.
     pub scrapes: bool,
     /// The infile, or of a plan a file of its length.

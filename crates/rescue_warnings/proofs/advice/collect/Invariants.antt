@@ -1,6 +1,6 @@
 use Rattle.std.proofs.Common.{◌≡◌, ◌≤◌, ◌++◌, drop, length}
-use Rattle.program_advice.specs.Due.{somes}
-use Rattle.program_advice.proofs.advice.collect.Given as goal
+use Rattle.rescue_warnings.specs.Due.{somes}
+use Rattle.rescue_warnings.proofs.advice.collect.Given as goal
 
 -- what was added is what is due so far
 abbrev pub invariant-loop-due : goal.invariant-loop-due

@@ -1,18 +1,18 @@
 -- What a person is warned of before a run, and when.
 use Rattle.std.specs.Prelude.{ℕ, Bool, true, false, List, [], ◌∷◌, ◌≡◌, ◌+◌, ◌-◌, ◌/◌, ◌≤◌, ⊤, min, max, not, nat_lt, nat_le, nat_eq, Option, Some, None, All, Contains}
-use Rattle.program_advice.specs.declared.facts.Work.{Work}
-use Rattle.program_advice.specs.declared.facts.Work.TheVariants.{Rescue, Fill, Generate, Comparison, Plan}
-use Rattle.program_advice.specs.declared.facts.Found.{Found}
-use Rattle.program_advice.specs.declared.facts.Found.TheVariants.{Absent, Regular, Device}
-use Rattle.program_advice.specs.declared.facts.Mount.{Mount}
-use Rattle.program_advice.specs.declared.facts.Mount.TheVariants.{ReadOnly, Writable}
-use Rattle.program_advice.specs.declared.facts.MapText.{MapText}
-use Rattle.program_advice.specs.declared.facts.MapText.TheVariants.{NoFile, NoBlock, Blocks}
-use Rattle.program_advice.specs.declared.facts.Finished.{Finished}
-use Rattle.program_advice.specs.declared.facts.Finished.TheVariants.{Nowhere, UpTo}
-use Rattle.program_advice.specs.declared.facts.Facts.{Facts}
-use Rattle.program_advice.specs.declared.advice.Advice.{Advice}
-use Rattle.program_advice.specs.declared.advice.Advice.TheVariants.{OutfileShort, MapPastInfile, EmptyInfile, BeginsPastInfile, NothingAsked, NothingListed, NewMapfile, LinkedMapfile, UnsafeMapfile, NewOutfile, NothingToFill, LongPattern, OtherSector, MountedInfile, MountedOutfile, LongPlan, NothingToCompare, LateMapfile}
+use Rattle.rescue_warnings.specs.declared.facts.Work.{Work}
+use Rattle.rescue_warnings.specs.declared.facts.Work.TheVariants.{Rescue, Fill, Generate, Comparison, Plan}
+use Rattle.rescue_warnings.specs.declared.facts.Found.{Found}
+use Rattle.rescue_warnings.specs.declared.facts.Found.TheVariants.{Absent, Regular, Device}
+use Rattle.rescue_warnings.specs.declared.facts.Mount.{Mount}
+use Rattle.rescue_warnings.specs.declared.facts.Mount.TheVariants.{ReadOnly, Writable}
+use Rattle.rescue_warnings.specs.declared.facts.MapText.{MapText}
+use Rattle.rescue_warnings.specs.declared.facts.MapText.TheVariants.{NoFile, NoBlock, Blocks}
+use Rattle.rescue_warnings.specs.declared.facts.Finished.{Finished}
+use Rattle.rescue_warnings.specs.declared.facts.Finished.TheVariants.{Nowhere, UpTo}
+use Rattle.rescue_warnings.specs.declared.facts.Facts.{Facts}
+use Rattle.rescue_warnings.specs.declared.advice.Advice.{Advice}
+use Rattle.rescue_warnings.specs.declared.advice.Advice.TheVariants.{OutfileShort, MapPastInfile, EmptyInfile, BeginsPastInfile, NothingAsked, NothingListed, NewMapfile, LinkedMapfile, UnsafeMapfile, NewOutfile, NothingToFill, LongPattern, OtherSector, MountedInfile, MountedOutfile, LongPlan, NothingToCompare, LateMapfile, EmptyDomain}
 
 -- ---- what is known
 
@@ -264,6 +264,10 @@ late_mapfile f = if_so (is_rescue f.work) (if_so (is_new f.map) (if_so (not f.co
     (if_known (length_of f.infile) (λ n.
     if_so (nat_le 1_073_741_824 (asked_end f n - f.input_position)) (Some LateMapfile))))))
 
+-- only what another map calls finished is asked for, and that is nothing
+abbrev pub empty_domain : Facts → Option Advice
+empty_domain f = if_so (asks_infile f.work) (if_so (finishes_nothing f.input_position f.domain) (Some EmptyDomain))
+
 -- when an advice of its kind is due, and with which numbers
 abbrev pub of_kind : Advice → Facts → Option Advice
 of_kind (OutfileShort _ _) = outfile_short
@@ -284,6 +288,7 @@ of_kind MountedOutfile = mounted_outfile
 of_kind (LongPlan _ _) = long_plan
 of_kind NothingToCompare = nothing_to_compare
 of_kind LateMapfile = late_mapfile
+of_kind EmptyDomain = empty_domain
 
 -- an advice is due
 abbrev pub IsDue : Facts → Advice → Type 0
@@ -311,13 +316,14 @@ rank MountedOutfile = 14
 rank (LongPlan _ _) = 15
 rank NothingToCompare = 16
 rank LateMapfile = 17
+rank EmptyDomain = 18
 
 -- the kinds in the order of the enum, each as it is due
 abbrev pub kinds : Facts → List (Option Advice)
 kinds f = outfile_short f ∷ map_past_infile f ∷ empty_infile f ∷ begins_past_infile f ∷ nothing_asked f
     ∷ nothing_listed f ∷ new_mapfile f ∷ linked_mapfile f ∷ unsafe_mapfile f ∷ new_outfile f ∷ nothing_to_fill f
     ∷ long_pattern f ∷ other_sector f ∷ mounted_infile f ∷ mounted_outfile f ∷ long_plan f ∷ nothing_to_compare f
-    ∷ late_mapfile f ∷ []
+    ∷ late_mapfile f ∷ empty_domain f ∷ []
 
 -- those that are due
 abbrev pub somes : List (Option Advice) → List Advice

@@ -1,13 +1,15 @@
-//! The line of a warning.
+//! The lines of warnings, and how they are put.
 ghost use Rattle.std.specs.Prelude.{◌≡◌, ◌+◌, ◌≤◌, ◌++◌, length};
 ghost use Rattle.std.specs.Fmt.{decimal};
 ghost use Rattle.arrayvec.specs.ArrayVec.{array_vec_len};
 ghost use Rattle.program_advice.specs.Lines.{IsOneLine};
-ghost use Rattle.program_advice.specs.Warnings.{advice_said, file_said, number_said, warning_text};
+ghost use Rattle.rescue_console.specs.Speaking.{Speaks};
+ghost use Rattle.rescue_warnings.specs.Warnings.{advice_said, file_said, number_said, warning_pieces, warning_text};
 
 use crate::advice::Advice;
-use crate::line::{Line, add, add_quoted, finished};
 use itoa::Buffer;
+use program_advice::line::{Line, add, add_quoted, finished};
+use rescue_console::console::{Channel, Console};
 
 /// The names of the command line; empty where there is none.
 #[derive(Clone, Copy)]
@@ -16,6 +18,7 @@ pub struct Names<'a> {
     pub outfile: &'a str,
     /// Of a plan its test map.
     pub mapfile: &'a str,
+    pub domain: &'a str,
 }
 
 /// Adds the part of a line on a file.
@@ -67,7 +70,7 @@ fn say(line: &mut Line, names: Names<'_>, advice: Advice)
             say_number(
                 line,
                 length,
-                ", and option -i begins no earlier: there is nothing to read",
+                ", and option -i begins there or past it: there is nothing to read",
             );
         }
         Advice::NothingAsked => add(line, "option -s asks for 0 B"),
@@ -82,7 +85,7 @@ fn say(line: &mut Line, names: Names<'_>, advice: Advice)
                 names.mapfile,
                 " doesn't exist yet, but the outfile has ",
             );
-            say_number(line, length, " B: is its name right?");
+            say_number(line, length, " B: is the mapfile's name right?");
         }
         Advice::LinkedMapfile => say_of(
             line,
@@ -116,7 +119,8 @@ fn say(line: &mut Line, names: Names<'_>, advice: Advice)
         Advice::OtherSector { own, sector } => {
             say_of(line, "infile ", names.infile, " has sectors of ");
             say_number(line, own, " B, and option -b takes them for ");
-            say_number(line, sector, " B");
+            say_number(line, sector, " B: give option -b ");
+            say_number(line, own, "");
         }
         Advice::MountedInfile => say_of(
             line,
@@ -138,7 +142,11 @@ fn say(line: &mut Line, names: Names<'_>, advice: Advice)
                 end,
                 ", and nothing past it can be read: the plan has at least ",
             );
-            say_number(line, reads, " reads");
+            say_number(
+                line,
+                reads,
+                " reads; a smaller length or option -n makes fewer",
+            );
         }
         Advice::NothingToCompare => say_of(
             line,
@@ -151,6 +159,12 @@ fn say(line: &mut Line, names: Names<'_>, advice: Advice)
             "mapfile ",
             names.mapfile,
             " is saved for the first time after 30 s: a stop before that leaves none",
+        ),
+        Advice::EmptyDomain => say_of(
+            line,
+            "domain mapfile ",
+            names.domain,
+            " calls nothing finished that is to be read",
         ),
     }
 }
@@ -167,4 +181,22 @@ pub fn line_of_advice(program: &str, names: Names<'_>, advice: Advice) -> Line
     add(&mut text, ": warning: ");
     say(&mut text, names, advice);
     finished(&text)
+}
+
+/// Puts the lines of warnings on standard error, each by one put, up to the first put that fails. Nothing else is put.
+pub fn put_warnings<P: Console>(
+    program: &str,
+    names: Names<'_>,
+    advices: &[Advice],
+    console: &mut P,
+)
+    requires { length program.now ≤ 18 }
+    ensures { Speaks (warning_pieces program.now names.entry advices.now) (P.state console.old) (P.state console.new) }
+{
+    'lines: for advice in advices {
+        let line = line_of_advice(program, names, *advice);
+        let Ok(()) = console.put(Channel::Err, line.as_slice()) else {
+            return;
+        };
+    }
 }

@@ -3,10 +3,10 @@ use Rattle.std.proofs.Common.{◌≡◌, ◌≤◌, ◌+◌, ℕ, zero, suc, Boo
 use Rattle.std.specs.Prelude.{⊤, ◌-◌, not, nat_lt, nat_le, nat_eq}
 use Rattle.std.specs.List.{Contains}
 use Rattle.std.proofs.lemmas.List.Elements.{All-nil, All-cons, Contains-append_left, Contains-append_right, Contains-push}
-use Rattle.program_advice.specs.declared.facts.Facts.{Facts}
-use Rattle.program_advice.specs.declared.advice.Advice.{Advice}
-use Rattle.program_advice.specs.declared.advice.Advice.TheVariants.{OutfileShort, MapPastInfile, EmptyInfile, BeginsPastInfile, NothingAsked, NothingListed, NewMapfile, LinkedMapfile, UnsafeMapfile, NewOutfile, NothingToFill, LongPattern, OtherSector, MountedInfile, MountedOutfile, LongPlan, NothingToCompare, LateMapfile}
-use Rattle.program_advice.specs.Due.{Ascends, IsAdvice, IsDue, asked_end, asks_infile, begins_past_infile, bytes_of, empty_infile, end_of, finished_of, finishes_nothing, if_known, if_so, is_absent, is_comparison, is_fill, is_mounted, is_new, is_plan, is_rescue, is_writable, kinds, late_mapfile, length_of, linked_mapfile, lists_nothing, long_pattern, long_plan, map_past_infile, mount_of, mounted_infile, mounted_outfile, new_mapfile, new_outfile, nothing_asked, nothing_listed, nothing_to_compare, nothing_to_fill, of_kind, other_sector, outfile_short, rank, saves, sector_of, sectors_past, somes, unsafe_mapfile, within}
+use Rattle.rescue_warnings.specs.declared.facts.Facts.{Facts}
+use Rattle.rescue_warnings.specs.declared.advice.Advice.{Advice}
+use Rattle.rescue_warnings.specs.declared.advice.Advice.TheVariants.{OutfileShort, MapPastInfile, EmptyInfile, BeginsPastInfile, NothingAsked, NothingListed, NewMapfile, LinkedMapfile, UnsafeMapfile, NewOutfile, NothingToFill, LongPattern, OtherSector, MountedInfile, MountedOutfile, LongPlan, NothingToCompare, LateMapfile, EmptyDomain}
+use Rattle.rescue_warnings.specs.Due.{Ascends, IsAdvice, IsDue, asked_end, asks_infile, begins_past_infile, bytes_of, empty_domain, empty_infile, end_of, finished_of, finishes_nothing, if_known, if_so, is_absent, is_comparison, is_fill, is_mounted, is_new, is_plan, is_rescue, is_writable, kinds, late_mapfile, length_of, linked_mapfile, lists_nothing, long_pattern, long_plan, map_past_infile, mount_of, mounted_infile, mounted_outfile, new_mapfile, new_outfile, nothing_asked, nothing_listed, nothing_to_compare, nothing_to_fill, of_kind, other_sector, outfile_short, rank, saves, sector_of, sectors_past, somes, unsafe_mapfile, within}
 
 -- what is due by it, if anything is, is so
 record Only (P : Advice → Type 0) (due : Option Advice) : Type 0 where
@@ -169,6 +169,12 @@ late_mapfile_only f =
     of P (length_of f.infile) _ (λ n. so P (nat_le 1_073_741_824 (asked_end f n - f.input_position)) _ (
     one P LateMapfile (refl, refl)))))))
 
+empty_domain_only : (f : Facts) → Only (IsOf f 18 (empty_domain f)) (empty_domain f)
+empty_domain_only f =
+    let P = IsOf f 18 (empty_domain f) in
+    so P (asks_infile f.work) _ (so P (finishes_nothing f.input_position f.domain) _ (
+    one P EmptyDomain (refl, refl)))
+
 are_kinds : (f : Facts) → AreKinds f 0 (kinds f)
 are_kinds f = (
   outfile_short_only f,
@@ -198,7 +204,7 @@ are_kinds f = (
                           other_sector_only f,
                           (
                             mounted_infile_only f,
-                            (mounted_outfile_only f, (long_plan_only f, (nothing_to_compare_only f, (late_mapfile_only f, tt)))),
+                            (mounted_outfile_only f, (long_plan_only f, (nothing_to_compare_only f, (late_mapfile_only f, (empty_domain_only f, tt))))),
                           ),
                         ),
                       ),
@@ -233,6 +239,7 @@ each_said f MountedOutfile h = contained 14 (kinds f) MountedOutfile h
 each_said f (LongPlan e n) h = contained 15 (kinds f) (LongPlan e n) h
 each_said f NothingToCompare h = contained 16 (kinds f) NothingToCompare h
 each_said f LateMapfile h = contained 17 (kinds f) LateMapfile h
+each_said f EmptyDomain h = contained 18 (kinds f) EmptyDomain h
 
 -- all kinds, each as it is due
 pub is_advice : (f : Facts) (said : List Advice) → said ≡ somes (kinds f) → IsAdvice f said

@@ -1,6 +1,6 @@
 //! What a person is warned of before a run.
 ghost use Rattle.std.specs.Prelude.{◌≡◌, ◌+◌, ◌-◌, ◌/◌, ◌<◌, ◌≤◌, max, ◌∷◌, [], length};
-ghost use Rattle.program_advice.specs.Due.{IsAdvice, asked_end, asks_infile, begins_past_infile, bytes_of, empty_infile, end_of, ends_by, finished_of, finishes_nothing, is_absent, is_comparison, is_fill, is_mounted, is_new, is_plan, is_rescue, is_writable, kinds, last_of, late_mapfile, length_of, linked_mapfile, lists_nothing, long_pattern, long_plan, map_past_infile, mount_of, mounted_infile, mounted_outfile, new_mapfile, new_outfile, nothing_asked, nothing_listed, nothing_to_compare, nothing_to_fill, other_sector, outfile_short, saves, sector_of, sectors_past, somes, unsafe_mapfile, within};
+ghost use Rattle.rescue_warnings.specs.Due.{IsAdvice, asked_end, asks_infile, begins_past_infile, bytes_of, empty_domain, empty_infile, end_of, ends_by, finished_of, finishes_nothing, is_absent, is_comparison, is_fill, is_mounted, is_new, is_plan, is_rescue, is_writable, kinds, last_of, late_mapfile, length_of, linked_mapfile, lists_nothing, long_pattern, long_plan, map_past_infile, mount_of, mounted_infile, mounted_outfile, new_mapfile, new_outfile, nothing_asked, nothing_listed, nothing_to_compare, nothing_to_fill, other_sector, outfile_short, saves, sector_of, sectors_past, somes, unsafe_mapfile, within};
 
 use crate::facts::{Facts, Finished, Found, MapText, Mount, Work};
 use arrayvec::ArrayVec;
@@ -34,10 +34,12 @@ pub enum Advice {
     NothingToCompare,
     /// The mapfile is absent, and isn't saved soon.
     LateMapfile,
+    /// Only what another map calls finished is asked for, and that is nothing.
+    EmptyDomain,
 }
 
 /// Warnings in the order of the enum.
-pub type Advices = ArrayVec<Advice, 18>;
+pub type Advices = ArrayVec<Advice, 19>;
 
 /// The least number of reads past a test map's end of which a plan warns.
 const MANY_READS: u64 = 10_000_000;
@@ -474,9 +476,18 @@ fn late_mapfile(facts: &Facts) -> Option<Advice>
     Some(Advice::LateMapfile)
 }
 
+fn empty_domain(facts: &Facts) -> Option<Advice>
+    ensures { result ≡ empty_domain facts.now }
+{
+    if !asks_infile(facts.work) || !finishes_nothing(facts.input_position, facts.domain) {
+        return None;
+    }
+    Some(Advice::EmptyDomain)
+}
+
 /// Those that are due.
 fn collect(kinds: &[Option<Advice>]) -> Advices
-    requires { length kinds.now ≤ 18 }
+    requires { length kinds.now ≤ 19 }
     ensures { result.items ≡ somes kinds.now }
 {
     let mut list = Advices::new();
@@ -512,5 +523,6 @@ pub fn due_advice(facts: &Facts) -> Advices
         long_plan(facts),
         nothing_to_compare(facts),
         late_mapfile(facts),
+        empty_domain(facts),
     ])
 }
