@@ -1,5 +1,5 @@
 -- Blocks that come in the place of others.
-use Rattle.std.specs.Prelude.{ℕ, ◌+◌, List, ◌++◌, take, drop}
+use Rattle.std.specs.Prelude.{ℕ, List, ◌++◌, take, drop}
 use Rattle.block_list.specs.declared.block.Block.{Block}
 
 -- the list with new blocks in the place of those from one index up to another
