@@ -1,5 +1,5 @@
 -- The lines of warnings are put one after another, up to the first put that fails.
-use Rattle.std.proofs.Common.{◌≡◌, ◌+◌, ◌<◌, ◌≤◌, refl, ℕ, Bool, IsTrue, List, Result, Ok, Err, inl, inr, ◌∷◌, length, get_or, drop, drop-cons, add-one}
+use Rattle.std.proofs.Common.{◌≡◌, ◌+◌, ◌<◌, ◌≤◌, refl, ℕ, List, Ok, Err, inl, inr, ◌∷◌, length, get_or, drop, drop-cons, add-one}
 use Rattle.std.proofs.lemmas.List.{drop_all}
 use Rattle.rescue_console.specs.declared.console.Channel.TheVariants.{Err as ErrorChannel}
 use Rattle.rescue_console.specs.ConsoleState.{ConsoleState, Answers}
