@@ -1,5 +1,6 @@
 -- The lines of warnings are put one after another, up to the first put that fails.
-use Rattle.std.proofs.Common.{◌≡◌, ◌+◌, ◌<◌, ℕ, Bool, IsTrue, List, Result, Ok, Err, inl, inr, ◌∷◌, length, get_or, drop, drop-cons, add-one}
+use Rattle.std.proofs.Common.{◌≡◌, ◌+◌, ◌<◌, ◌≤◌, refl, ℕ, List, Ok, Err, inl, inr, ◌∷◌, length, get_or, drop, drop-cons, add-one}
+use Rattle.std.proofs.lemmas.List.{drop_all}
 use Rattle.rescue_console.specs.declared.console.Channel.TheVariants.{Err as ErrorChannel}
 use Rattle.rescue_console.specs.ConsoleState.{ConsoleState, Answers}
 use Rattle.rescue_console.specs.Speaking.{Speaks}
@@ -12,6 +13,15 @@ abbrev pub ArePutTo : (program : List ℕ) (names : Names) (advices : List Advic
 ArePutTo program names advices i old now = (end : ConsoleState)
     → Speaks (warning_pieces program names (drop i advices)) now end
     → Speaks (warning_pieces program names advices) old end
+
+pub none_yet : (program : List ℕ) (names : Names) (advices : List Advice) (now : ConsoleState)
+    → ArePutTo program names advices 0 now now
+none_yet program names advices now end said = said
+
+pub all_put : (program : List ℕ) (names : Names) (advices : List Advice) (i : ℕ) (old now : ConsoleState)
+    → length advices ≤ i → ArePutTo program names advices i old now
+    → Speaks (warning_pieces program names advices) old now
+all_put program names advices i old now whole before = before now (rw (drop_all i advices whole) refl)
 
 -- the lines from a place on, of which the first one is put
 first_said : (program : List ℕ) (names : Names) (advices : List Advice) (i : ℕ) (d : Advice) (now end : ConsoleState)
