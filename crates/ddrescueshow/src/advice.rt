@@ -2,6 +2,7 @@
 use crash_site::folder::FolderSite;
 use crash_site::site::SiteCall;
 use ddrescueshow_cli::ending::{ShowEnding, Which};
+use ddrescueshow_cli::follow::FollowEnding;
 use ddrescueshow_words::command::{Command, read_command};
 use ddrescueshow_words::options::ROWS;
 use option_values::command_error::CommandError;
@@ -60,6 +61,14 @@ fn fault_cause<'a>(command: &Command<'a>, call: SiteCall, site: &FolderSite) -> 
     Some(site_cause(trouble, files))
 }
 
+/// Why a standard stream failed.
+fn stream_cause(stream: Stream, error: Option<io::Error>) -> Option<Cause<'static>> {
+    Some(Cause::Stream {
+        stream,
+        reason: reason_text(&error?),
+    })
+}
+
 /// Why a command that was read ended so, if that helps.
 fn cause_of<'a>(
     command: &Command<'a>,
@@ -70,13 +79,7 @@ fn cause_of<'a>(
     let (file, fact) = match ending {
         ShowEnding::Done | ShowEnding::Usage(_) | ShowEnding::TooManyCells => return None,
         ShowEnding::SiteFault { call } => return fault_cause(command, call, site),
-        ShowEnding::ConsoleFault => {
-            let error = put?;
-            return Some(Cause::Stream {
-                stream: Stream::Output,
-                reason: reason_text(&error),
-            });
-        }
+        ShowEnding::ConsoleFault => return stream_cause(Stream::Output, put),
         ShowEnding::NoMemory => return Some(Cause::Hint(Hint::NoMemory)),
         ShowEnding::NoMap(which) => (named_map(command, which), Fact::Absent),
         ShowEnding::MapRefused { which, .. } => (named_map(command, which), Fact::NoMap),
@@ -110,5 +113,20 @@ pub fn advise(
         return None;
     }
     let cause = cause_of(&command, ending, site, put)?;
+    Some(line_of(PROGRAM, cause))
+}
+
+/// The same for a call that follows a rescue. `fed` and `put` are the errors of standard input and output.
+pub fn advise_follower(
+    ending: FollowEnding,
+    fed: Option<io::Error>,
+    put: Option<io::Error>,
+) -> Option<Line> {
+    let cause = match ending {
+        FollowEnding::Done | FollowEnding::NotAlone => return None,
+        FollowEnding::FeedFault => stream_cause(Stream::Input, fed)?,
+        FollowEnding::ConsoleFault => stream_cause(Stream::Output, put)?,
+        FollowEnding::NoMemory => Cause::Hint(Hint::NoMemory),
+    };
     Some(line_of(PROGRAM, cause))
 }

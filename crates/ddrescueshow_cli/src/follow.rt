@@ -1,0 +1,213 @@
+//! `ddrescueshow --progress`: follows a rescue by the lines that it prints.
+ghost use Rattle.std.specs.Prelude.{◌≡◌, ◌≤◌, ◌++◌, IfOk};
+ghost use Rattle.arrayvec.specs.ArrayVec.{array_vec_len};
+ghost use Rattle.ddrescueshow_cli.specs.Progress.{IsSaid};
+ghost use Rattle.ddrescueshow_cli.specs.Following.{follow_message, follow_status, follow_text, is_followed};
+
+use crate::message::PROGRAM;
+use crate::progress::{passed_text, text_of_figures};
+use crate::rate::{Lately, Sample};
+use block_list::tiles::NoMemory;
+use fault_texts::message::{Message, add, begin, end};
+use program_promise::answer::{Answer, say_ending};
+use rescue_console::console::{Channel, Console};
+use rescue_console::feed::Feed;
+use rescue_lines::lines::{read_line, read_opening};
+use std::alloc::Global;
+
+/// How many bytes are taken at once, and the longest line that is looked at: a longer one passes in pieces.
+const LONGEST: usize = 4096;
+
+/// How a call that follows a rescue ended.
+#[derive(Clone, Copy, Debug, PartialEq, Eq)]
+pub enum FollowEnding {
+    /// The lines ended, and each was put.
+    Done,
+    /// There are other arguments.
+    NotAlone,
+    /// Standard input couldn't be read.
+    FeedFault,
+    /// A line couldn't be put, or not all of it.
+    ConsoleFault,
+    /// There wasn't enough memory.
+    NoMemory,
+}
+
+impl FollowEnding {
+    /// The exit status.
+    pub fn code(&self) -> u8
+        ensures { result ≡ follow_status self.now }
+    {
+        match self {
+            FollowEnding::Done => 0,
+            FollowEnding::NoMemory => 4,
+            _ => 1,
+        }
+    }
+}
+
+/// Adds the message on an answer.
+fn add_ending(message: &mut Message, ending: FollowEnding)
+    requires { array_vec_len message.old ≤ 20 }
+    ensures text { message.new.items ≡ message.old.items ++ follow_text ending }
+    ensures len { array_vec_len message.new ≤ 120 }
+{
+    match ending {
+        FollowEnding::Done => {}
+        FollowEnding::NotAlone => add(message, "--progress takes no other argument"),
+        FollowEnding::FeedFault => add(message, "cannot read standard input"),
+        FollowEnding::ConsoleFault => add(message, "cannot write standard output"),
+        FollowEnding::NoMemory => add(message, "out of memory"),
+    }
+}
+
+impl Answer for FollowEnding {
+    ghost silent = { is_followed };
+
+    ghost said = { follow_message };
+
+    fn is_silent(self) -> bool {
+        matches!(self, FollowEnding::Done)
+    }
+
+    fn message(self) -> Message {
+        let mut message = begin(PROGRAM);
+        add_ending(&mut message, self);
+        end(&mut message);
+        message
+    }
+}
+
+/// A rescue that is followed.
+#[derive(Drop)]
+struct Follower {
+    alloc: Global,
+    /// Standard output is a terminal.
+    terminal: bool,
+    /// A line of figures is up there.
+    is_up: bool,
+    /// The size of the domain, if a line said it.
+    size: Option<u64>,
+    lately: Lately,
+    /// The line so far.
+    line: Vec<u8>,
+}
+
+impl Follower {
+    fn new(alloc: Global, terminal: bool) -> Follower {
+        Follower {
+            alloc,
+            terminal,
+            is_up: false,
+            size: None,
+            lately: Lately::new(),
+            line: Vec::new(alloc),
+        }
+    }
+
+    /// What is put of the line.
+    fn said(&mut self) -> Result<Vec<u8>, NoMemory>
+        ensures { IfOk result (λ text. IsSaid self.old.terminal self.old.is_up self.old.size self.old.line.items
+            text.items) }
+    {
+        let Some(figures) = read_line(&self.line) else {
+            let text = passed_text(self.alloc, self.is_up, &self.line);
+            self.is_up = false;
+            if let Some(size) = read_opening(&self.line) {
+                self.size = Some(size);
+            }
+            return text;
+        };
+        let rate = self.lately.rate_at(Sample {
+            seconds: figures.seconds,
+            rescued: figures.rescued,
+        });
+        self.is_up = self.terminal;
+        text_of_figures(self.alloc, self.terminal, self.size, rate, &figures)
+    }
+
+    /// Puts what is put of the line, and begins the next one.
+    fn put_line<P: Console>(&mut self, console: &mut P) -> Result<(), FollowEnding> {
+        let Ok(text) = self.said() else {
+            return Err(FollowEnding::NoMemory);
+        };
+        self.line.clear();
+        console
+            .put(Channel::Out, &text)
+            .map_err(|_| FollowEnding::ConsoleFault)
+    }
+
+    /// Goes on with a byte.
+    fn add<P: Console>(&mut self, byte: u8, console: &mut P) -> Result<(), FollowEnding> {
+        self.line.push(byte).map_err(|_| FollowEnding::NoMemory)?;
+        if byte == b'\n' || self.line.len() >= LONGEST {
+            self.put_line(console)?;
+        }
+        Ok(())
+    }
+
+    /// Takes what has come. Says whether more may come.
+    fn take_some<I: Feed, P: Console>(
+        &mut self,
+        feed: &mut I,
+        console: &mut P,
+    ) -> Result<bool, FollowEnding> {
+        let mut piece = [0u8; LONGEST];
+        let Ok(count) = feed.take(&mut piece) else {
+            return Err(FollowEnding::FeedFault);
+        };
+        for byte in &piece[..count] {
+            self.add(*byte, console)?;
+        }
+        Ok(count > 0)
+    }
+
+    /// Ends the last line.
+    fn finish<P: Console>(&mut self, console: &mut P) -> Result<(), FollowEnding> {
+        if !self.line.is_empty() {
+            self.put_line(console)?;
+        }
+        if self.is_up {
+            return console
+                .put(Channel::Out, b"\n")
+                .map_err(|_| FollowEnding::ConsoleFault);
+        }
+        Ok(())
+    }
+
+    /// Takes all lines, and puts what is put of each.
+    fn follow<I: Feed, P: Console>(
+        &mut self,
+        feed: &mut I,
+        console: &mut P,
+    ) -> Result<(), FollowEnding> {
+        for _ in 0..u64::MAX {
+            if !self.take_some(feed, console)? {
+                break;
+            }
+        }
+        self.finish(console)
+    }
+}
+
+/// Follows a rescue by the lines that it prints, which come on standard input. Of each line it puts what the line says;
+/// on a terminal over the one before it. Another line passes. Then one message says why, unless all was put. `alone`
+/// says whether there is no other argument; if there is one, nothing is taken.
+pub fn follow<I: Feed, P: Console>(
+    alloc: Global,
+    feed: &mut I,
+    console: &mut P,
+    terminal: bool,
+    alone: bool,
+) -> FollowEnding {
+    let ending = if !alone {
+        FollowEnding::NotAlone
+    } else {
+        match Follower::new(alloc, terminal).follow(feed, console) {
+            Ok(()) => FollowEnding::Done,
+            Err(ending) => ending,
+        }
+    };
+    say_ending(console, ending, false);
+    ending
+}
