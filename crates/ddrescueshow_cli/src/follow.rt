@@ -1,7 +1,7 @@
 //! `ddrescueshow --progress`: follows a rescue by the lines that it prints.
-ghost use Rattle.std.specs.Prelude.{◌≡◌, ◌≤◌, ◌++◌, IfOk};
+ghost use Rattle.std.specs.Prelude.{◌≡◌, ◌≤◌, ℕ, ◌++◌, Option, IfOk};
 ghost use Rattle.arrayvec.specs.ArrayVec.{array_vec_len};
-ghost use Rattle.ddrescueshow_cli.specs.Progress.{IsSaid};
+ghost use Rattle.ddrescueshow_cli.specs.Progress.{IsSaid, passed_text, progress_text, shown_text};
 ghost use Rattle.ddrescueshow_cli.specs.Following.{follow_message, follow_status, follow_text, is_followed};
 
 use crate::message::PROGRAM;
@@ -12,7 +12,7 @@ use fault_texts::message::{Message, add, begin, end};
 use program_promise::answer::{Answer, say_ending};
 use rescue_console::console::{Channel, Console};
 use rescue_console::feed::Feed;
-use rescue_lines::lines::{read_line, read_opening};
+use rescue_lines::lines::{Figures, read_line, read_opening};
 use std::alloc::Global;
 
 /// How many bytes are taken at once, and the longest line that is looked at: a longer one passes in pieces.
@@ -105,25 +105,43 @@ impl Follower {
         }
     }
 
+    /// What is put of the line, which is no rescue's. It may say the size of the domain.
+    fn passed(&mut self) -> Result<Vec<u8>, NoMemory>
+        ensures { IfOk result (λ text. text.items ≡ passed_text self.old.is_up self.old.line.items) }
+    {
+        let text = passed_text(self.alloc, self.is_up, &self.line)?;
+        self.is_up = false;
+        if let Some(size) = read_opening(&self.line) {
+            self.size = Some(size);
+        }
+        Ok(text)
+    }
+
+    /// What is put of the line, which is a rescue's.
+    fn shown(&mut self, figures: &Figures) -> Result<Vec<u8>, NoMemory>
+        ensures { IfOk result (λ text. (rate : Option ℕ)
+            × (text.items ≡ shown_text self.old.terminal (progress_text self.old.size rate figures.now))) }
+    {
+        let rate = self.lately.rate_at(Sample {
+            seconds: figures.seconds,
+            rescued: figures.rescued,
+        });
+        self.is_up = self.terminal;
+        let text = text_of_figures(self.alloc, self.terminal, self.size, rate, figures)?;
+        Ok(text)
+    }
+
     /// What is put of the line.
     fn said(&mut self) -> Result<Vec<u8>, NoMemory>
         ensures { IfOk result (λ text. IsSaid self.old.terminal self.old.is_up self.old.size self.old.line.items
             text.items) }
     {
         let Some(figures) = read_line(&self.line) else {
-            let text = passed_text(self.alloc, self.is_up, &self.line);
-            self.is_up = false;
-            if let Some(size) = read_opening(&self.line) {
-                self.size = Some(size);
-            }
-            return text;
+            let text = self.passed()?;
+            return Ok(text);
         };
-        let rate = self.lately.rate_at(Sample {
-            seconds: figures.seconds,
-            rescued: figures.rescued,
-        });
-        self.is_up = self.terminal;
-        text_of_figures(self.alloc, self.terminal, self.size, rate, &figures)
+        let text = self.shown(&figures)?;
+        Ok(text)
     }
 
     /// Puts what is put of the line, and begins the next one.

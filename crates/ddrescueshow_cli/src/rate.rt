@@ -9,7 +9,7 @@ use arrayvec::ArrayVec;
 const LATELY: u64 = 10;
 
 /// How much was rescued when.
-#[derive(Clone, Copy, Debug, PartialEq, Eq)]
+#[derive(Clone, Copy, Debug, Default, PartialEq, Eq)]
 pub struct Sample {
     pub seconds: u64,
     pub rescued: u64,
