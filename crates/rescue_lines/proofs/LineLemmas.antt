@@ -16,7 +16,7 @@ use Rattle.rescue_lines.specs.declared.lines.Head.{Head}
 use Rattle.rescue_lines.specs.declared.lines.Head.TheVariants.{Phase, Last}
 use Rattle.rescue_lines.specs.declared.lines.Start.{Start}
 use Rattle.rescue_lines.specs.declared.lines.Start.TheVariants.{InPhase, Over}
-use Rattle.rescue_lines.specs.Lines.{IsHead, IsReport, Strips, StripsHead, StripsNumber, begins_plain, figures_line, figures_of, head_text, most, number_at, start_of, start_with}
+use Rattle.rescue_lines.specs.Lines.{IsHead, IsReport, Strips, StripsHead, StripsNumber, begins_plain, figures_line, figures_of, head_text, most, number_at, opening_front, start_of, start_with}
 
 -- ---- a piece
 
@@ -180,13 +180,32 @@ rate_by : (written taken : ℕ) (none : Bool) → written < 2 ^ 64 → cond none
 rate_by written taken true few = omega arith
 rate_by written taken false few = omega (arith, div-le_self (written * 1000) taken, few)
 
+abbrev made : Head → (a b c d e s t : ℕ) → Figures
+made head a b c d e s t = record {
+  head = head;
+  position = a;
+  rescued = b;
+  failed = record { bytes = c; areas = d };
+  errors = e;
+  seconds = s;
+  rate = t;
+}
+
 same : (f q : Figures) → f.head ≡ q.head → f.position ≡ q.position → f.rescued ≡ q.rescued
     → f.failed.bytes ≡ q.failed.bytes → f.failed.areas ≡ q.failed.areas → f.errors ≡ q.errors → f.seconds ≡ q.seconds
     → f.rate ≡ q.rate → f ≡ q
-same f q a b c d e x y z = cc
+same f q a b c d e x y z =
+    ap (λ (h : Head). made h f.position f.rescued f.failed.bytes f.failed.areas f.errors f.seconds f.rate) a
+    ∙ ap (λ (n : ℕ). made q.head n f.rescued f.failed.bytes f.failed.areas f.errors f.seconds f.rate) b
+    ∙ ap (λ (n : ℕ). made q.head q.position n f.failed.bytes f.failed.areas f.errors f.seconds f.rate) c
+    ∙ ap (λ (n : ℕ). made q.head q.position q.rescued n f.failed.areas f.errors f.seconds f.rate) d
+    ∙ ap (λ (n : ℕ). made q.head q.position q.rescued q.failed.bytes n f.errors f.seconds f.rate) e
+    ∙ ap (λ (n : ℕ). made q.head q.position q.rescued q.failed.bytes q.failed.areas n f.seconds f.rate) x
+    ∙ ap (λ (n : ℕ). made q.head q.position q.rescued q.failed.bytes q.failed.areas q.errors n f.rate) y
+    ∙ ap (λ (n : ℕ). made q.head q.position q.rescued q.failed.bytes q.failed.areas q.errors q.seconds n) z
 
-module _ (line : List ℕ) (f : Figures) (o1 o2 o3 o4 o5 o6 o7 o8 : Option (List ℕ))
-    (head : StripsHead (λ h. IsHead h × (start_with h ≡ start_of line)) f.head (Some line) o1)
+module _ (line : List ℕ) (f : Figures) (o0 o1 o2 o3 o4 o5 o6 o7 o8 : Option (List ℕ)) (begin : o0 ≡ Some line)
+    (head : StripsHead (λ h. IsHead h × (start_with h ≡ start_of line)) f.head o0 o1)
     (n1 : StripsNumber (2 ^ 64) (codes ", rescued ") f.position o1 o2)
     (n2 : StripsNumber (2 ^ 64) (codes " B, failed ") f.rescued o2 o3)
     (n3 : StripsNumber (2 ^ 64) (codes " B in ") f.failed.bytes o3 o4)
@@ -198,7 +217,7 @@ module _ (line : List ℕ) (f : Figures) (o1 o2 o3 o4 o5 o6 o7 o8 : Option (List
   pub line_printed : o8 ≡ Some [] → line ≡ figures_line f
   line_printed end =
       let all : Some line ≡ Some (head_text f.head ++ (codes ": position " ++ later_text f))
-      = head.printed _ (n1.printed _ (n2.printed _ (n3.printed _ (n4.printed _ (n5.printed _ (n6.printed _ (n7.printed [] end))))))) in
+      = sym begin ∙ head.printed _ (n1.printed _ (n2.printed _ (n3.printed _ (n4.printed _ (n5.printed _ (n6.printed _ (n7.printed [] end))))))) in
       let is : line ≡ head_text f.head ++ (codes ": position " ++ later_text f) = cc in
       is ∙ sym (line_parts f)
 
@@ -209,7 +228,7 @@ module _ (line : List ℕ) (f : Figures) (o1 o2 o3 o4 o5 o6 o7 o8 : Option (List
       let q : Figures = figures_of h r in
       let parts : line ≡ head_text h ++ (codes ": position " ++ later_text q) = text ∙ line_parts q in
       let begins : start_with h ≡ start_of line = sym (ap start_of parts ∙ start_right h (later_text q)) in
-      let e0 = head.read h _ (is, begins) (ap (λ (l : List ℕ). Some l) parts) in
+      let e0 = head.read h _ (is, begins) (begin ∙ ap (λ (l : List ℕ). Some l) parts) in
       let e1 = n1.read q.position _ report.position e0.1 in
       let e2 = n2.read q.rescued _ report.rescued e1.1 in
       let e3 = n3.read q.failed.bytes _ report.bytes e2.1 in
@@ -218,3 +237,15 @@ module _ (line : List ℕ) (f : Figures) (o1 o2 o3 o4 o5 o6 o7 o8 : Option (List
       let e6 = n6.read q.seconds _ (omega (arith, report.taken)) e5.1 in
       let e7 = n7.read q.rate [] (rate_by r.written r.taken (nat_eq r.taken 0) report.written) e6.1 in
       (e7.1, same f q e0.0 e1.0 e2.0 e3.0 e4.0 e5.0 e6.0 e7.0)
+
+-- ---- the size of the domain
+
+pub opening_printed : (size : ℕ) (line : List ℕ) (o0 o1 o2 : Option (List ℕ)) → o0 ≡ Some line
+    → Strips (codes "domain of ") o0 o1 → StripsNumber (2 ^ 64) (codes " B from ") size o1 o2 → (o2 ≡ None → ⊥)
+    → (rest : List ℕ) × (line ≡ opening_front size ++ rest)
+opening_printed size line o0 o1 None begin first second some = absurd (some refl)
+opening_printed size line o0 o1 (Some rest) begin first second some =
+    let all : Some line ≡ Some (codes "domain of " ++ (decimal size ++ (codes " B from " ++ rest)))
+    = sym begin ∙ first.printed _ (second.printed rest refl) in
+    let is : line ≡ codes "domain of " ++ (decimal size ++ (codes " B from " ++ rest)) = cc in
+    (rest, is ∙ sym (group (codes "domain of ") (decimal size) (codes " B from ") rest))
