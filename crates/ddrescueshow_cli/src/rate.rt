@@ -58,6 +58,17 @@ impl Lately {
         }
     }
 
+    /// Keeps a line, unless there is one of the same second.
+    fn keep(&mut self, now: Sample) {
+        if let Some(last) = self.samples.as_slice().last() {
+            if last.seconds == now.seconds {
+                return;
+            }
+        }
+        // There is room: of each of the last ten seconds there is one line at most.
+        let _fits = self.samples.try_push(now);
+    }
+
     /// Goes on with a line. Says how many bytes a second were rescued from the earliest line up to this one, if it is
     /// later. No contract says which line is the earliest.
     pub(crate) fn rate_at(&mut self, now: Sample) -> Option<u64> {
@@ -71,8 +82,7 @@ impl Lately {
             Some(first) => *first,
             None => now,
         };
-        // There is room: of each of the last seconds there is one line at most.
-        let _fits = self.samples.try_push(now);
+        self.keep(now);
         rate_between(earliest, now)
     }
 }

@@ -10,11 +10,10 @@ use Rattle.std.proofs.Math.Nat.{div-le_self}
 use Rattle.mapfile_text.specs.declared.state.Current.{Current}
 use Rattle.mapfile_text.specs.declared.state.Current.TheVariants.{Copying, Trimming, Scraping, Retrying, Filling, Generating, Finished}
 use Rattle.rescue_rules.specs.declared.report.Report.{Report}
-use Rattle.rescue_rules.specs.Lines.{last_front, phase_text, rate_of, report_text}
+use Rattle.rescue_rules.specs.Lines.{last_front, phase_text, report_text}
 use Rattle.rescue_lines.specs.declared.lines.Figures.{Figures}
 use Rattle.rescue_lines.specs.declared.lines.Head.{Head}
 use Rattle.rescue_lines.specs.declared.lines.Head.TheVariants.{Phase, Last}
-use Rattle.rescue_lines.specs.declared.lines.Start.{Start}
 use Rattle.rescue_lines.specs.declared.lines.Start.TheVariants.{InPhase, Over}
 use Rattle.rescue_lines.specs.Lines.{IsHead, IsReport, Strips, StripsHead, StripsNumber, begins_plain, figures_line, figures_of, head_text, most, number_at, opening_front, start_of, start_with}
 

@@ -2,7 +2,6 @@
 use Rattle.std.specs.Prelude.{◌≡◌, ℕ, ◌+◌, ◌*◌, ◌/◌, ◌-◌, ◌^◌, ◌<◌, min, nat_eq, nat_lt, ⊤, Bool, true, false, List, [], ◌∷◌, ◌++◌, slice_index_or, Option, Some, codes, if◌then◌else◌}
 use Rattle.std.specs.Char.{digit_value}
 use Rattle.std.specs.Fmt.{decimal}
-use Rattle.mapfile_text.specs.declared.state.Current.{Current}
 use Rattle.mapfile_text.specs.declared.state.Current.TheVariants.{Copying, Trimming, Scraping, Retrying, Filling, Generating, Finished}
 use Rattle.rescue_rules.specs.declared.report.Report.{Report}
 use Rattle.rescue_rules.specs.Lines.{last_front, phase_text, rate_of, report_text}

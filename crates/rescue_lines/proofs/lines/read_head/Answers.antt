@@ -1,5 +1,5 @@
 -- By how the line begins.
-use Rattle.std.proofs.Common.{◌≡◌, sym, ◌∙◌}
+use Rattle.std.proofs.Common.{◌≡◌, ◌∙◌}
 use Rattle.rescue_lines.specs.declared.lines.Head.{Head}
 use Rattle.rescue_lines.specs.declared.lines.Start.TheVariants.{InPhase, Over}
 use Rattle.rescue_lines.specs.Lines.{IsHead, start_of, start_with}
