@@ -95,8 +95,8 @@ abbrev pub passed_text : (is_up : Bool) → (line : List ℕ) → List ℕ
 passed_text true line = over_text [] ++ 13 ∷ [] ++ line
 passed_text false line = line
 
--- What is put of a line: that of its figures, if a rescue prints such a line, and else the line itself. Of a rate no more
--- is said.
+-- What is put of a line: that of its figures, if a rescue prints such a line, and else the line itself. Nothing more is
+-- told of the rate.
 pub data IsSaid (terminal is_up : Bool) (size : Option ℕ) (line text : List ℕ) : Type 0 where
   OfFigures : (f : Figures) (rate : Option ℕ) → line ≡ figures_line f
       → text ≡ shown_text terminal (progress_text size rate f) → IsSaid terminal is_up size line text

@@ -1,8 +1,8 @@
 //! `ddrescueshow --progress`: follows a rescue by the lines that it prints.
-ghost use Rattle.std.specs.Prelude.{◌≡◌, ◌≤◌, ℕ, ◌++◌, Option, IfOk};
+ghost use Rattle.std.specs.Prelude.{◌≡◌, ◌≤◌, ℕ, ◌++◌, Option, IfErr, IfOk, OnOk};
 ghost use Rattle.arrayvec.specs.ArrayVec.{array_vec_len};
 ghost use Rattle.ddrescueshow_cli.specs.Progress.{IsSaid, passed_text, progress_text, shown_text};
-ghost use Rattle.ddrescueshow_cli.specs.Following.{follow_message, follow_status, follow_text, is_followed};
+ghost use Rattle.ddrescueshow_cli.specs.Following.{HasCause, IsPutCause, follow_message, follow_status, follow_text, is_followed};
 
 use crate::message::PROGRAM;
 use crate::progress::{passed_text, text_of_figures};
@@ -15,7 +15,7 @@ use rescue_console::feed::Feed;
 use rescue_lines::lines::{Figures, read_line, read_opening};
 use std::alloc::Global;
 
-/// How many bytes are taken at once, and the longest line that is looked at: a longer one passes in pieces.
+/// How many bytes are taken at once, and the length of the longest line. A longer one passes in pieces.
 const LONGEST: usize = 4096;
 
 /// How a call that follows a rescue ended.
@@ -75,6 +75,17 @@ impl Answer for FollowEnding {
         add_ending(&mut message, self);
         end(&mut message);
         message
+    }
+}
+
+/// Puts a text on standard output.
+fn put<P: Console>(console: &mut P, text: &[u8]) -> Result<(), FollowEnding>
+    ensures kept { OnOk result ((P.state console.new).out.faults ≡ (P.state console.old).out.faults) }
+    ensures cause { IfErr result (λ e. IsPutCause e (P.state console.old) (P.state console.new)) }
+{
+    match console.put(Channel::Out, text) {
+        Ok(()) => Ok(()),
+        Err(_) => Err(FollowEnding::ConsoleFault),
     }
 }
 
@@ -145,21 +156,38 @@ impl Follower {
     }
 
     /// Puts what is put of the line, and begins the next one.
-    fn put_line<P: Console>(&mut self, console: &mut P) -> Result<(), FollowEnding> {
+    fn put_line<P: Console>(&mut self, console: &mut P) -> Result<(), FollowEnding>
+        ensures kept { OnOk result ((P.state console.new).out.faults ≡ (P.state console.old).out.faults) }
+        ensures cause { IfErr result (λ e. IsPutCause e (P.state console.old) (P.state console.new)) }
+    {
         let Ok(text) = self.said() else {
             return Err(FollowEnding::NoMemory);
         };
         self.line.clear();
-        console
-            .put(Channel::Out, &text)
-            .map_err(|_| FollowEnding::ConsoleFault)
+        put(console, &text)
     }
 
     /// Goes on with a byte.
-    fn add<P: Console>(&mut self, byte: u8, console: &mut P) -> Result<(), FollowEnding> {
-        self.line.push(byte).map_err(|_| FollowEnding::NoMemory)?;
-        if byte == b'\n' || self.line.len() >= LONGEST {
-            self.put_line(console)?;
+    fn add<P: Console>(&mut self, byte: u8, console: &mut P) -> Result<(), FollowEnding>
+        ensures kept { OnOk result ((P.state console.new).out.faults ≡ (P.state console.old).out.faults) }
+        ensures cause { IfErr result (λ e. IsPutCause e (P.state console.old) (P.state console.new)) }
+    {
+        if self.line.push(byte).is_err() {
+            return Err(FollowEnding::NoMemory);
+        }
+        if byte != b'\n' && self.line.len() < LONGEST {
+            return Ok(());
+        }
+        self.put_line(console)
+    }
+
+    /// Goes on with bytes.
+    fn add_all<P: Console>(&mut self, bytes: &[u8], console: &mut P) -> Result<(), FollowEnding>
+        ensures kept { OnOk result ((P.state console.new).out.faults ≡ (P.state console.old).out.faults) }
+        ensures cause { IfErr result (λ e. IsPutCause e (P.state console.old) (P.state console.new)) }
+    {
+        for byte in bytes {
+            self.add(*byte, console)?;
         }
         Ok(())
     }
@@ -169,26 +197,39 @@ impl Follower {
         &mut self,
         feed: &mut I,
         console: &mut P,
-    ) -> Result<bool, FollowEnding> {
+    ) -> Result<bool, FollowEnding>
+        ensures takes { OnOk result ((I.state feed.new).faults ≡ (I.state feed.old).faults) }
+        ensures puts { OnOk result ((P.state console.new).out.faults ≡ (P.state console.old).out.faults) }
+        ensures cause { IfErr result (λ e. HasCause e (I.state feed.old) (I.state feed.new)
+            (P.state console.old) (P.state console.new)) }
+    {
         let mut piece = [0u8; LONGEST];
         let Ok(count) = feed.take(&mut piece) else {
             return Err(FollowEnding::FeedFault);
         };
-        for byte in &piece[..count] {
-            self.add(*byte, console)?;
-        }
+        self.add_all(&piece[..count], console)?;
         Ok(count > 0)
     }
 
-    /// Ends the last line.
-    fn finish<P: Console>(&mut self, console: &mut P) -> Result<(), FollowEnding> {
-        if !self.line.is_empty() {
-            self.put_line(console)?;
+    /// Puts the last line, if it isn't ended.
+    fn put_rest<P: Console>(&mut self, console: &mut P) -> Result<(), FollowEnding>
+        ensures kept { OnOk result ((P.state console.new).out.faults ≡ (P.state console.old).out.faults) }
+        ensures cause { IfErr result (λ e. IsPutCause e (P.state console.old) (P.state console.new)) }
+    {
+        if self.line.is_empty() {
+            return Ok(());
         }
+        self.put_line(console)
+    }
+
+    /// Ends the last line.
+    fn finish<P: Console>(&mut self, console: &mut P) -> Result<(), FollowEnding>
+        ensures kept { OnOk result ((P.state console.new).out.faults ≡ (P.state console.old).out.faults) }
+        ensures cause { IfErr result (λ e. IsPutCause e (P.state console.old) (P.state console.new)) }
+    {
+        self.put_rest(console)?;
         if self.is_up {
-            return console
-                .put(Channel::Out, b"\n")
-                .map_err(|_| FollowEnding::ConsoleFault);
+            return put(console, b"\n");
         }
         Ok(())
     }
@@ -198,13 +239,38 @@ impl Follower {
         &mut self,
         feed: &mut I,
         console: &mut P,
-    ) -> Result<(), FollowEnding> {
+    ) -> Result<(), FollowEnding>
+        ensures takes { OnOk result ((I.state feed.new).faults ≡ (I.state feed.old).faults) }
+        ensures puts { OnOk result ((P.state console.new).out.faults ≡ (P.state console.old).out.faults) }
+        ensures cause { IfErr result (λ e. HasCause e (I.state feed.old) (I.state feed.new)
+            (P.state console.old) (P.state console.new)) }
+    {
         for _ in 0..u64::MAX {
             if !self.take_some(feed, console)? {
                 break;
             }
         }
         self.finish(console)
+    }
+}
+
+/// The same without a message.
+fn answer<I: Feed, P: Console>(
+    alloc: Global,
+    feed: &mut I,
+    console: &mut P,
+    terminal: bool,
+    alone: bool,
+) -> FollowEnding
+    ensures cause { HasCause result (I.state feed.old) (I.state feed.new) (P.state console.old) (P.state console.new) }
+{
+    if !alone {
+        return FollowEnding::NotAlone;
+    }
+    let mut follower = Follower::new(alloc, terminal);
+    match follower.follow(feed, console) {
+        Ok(()) => FollowEnding::Done,
+        Err(ending) => ending,
     }
 }
 
@@ -217,15 +283,10 @@ pub fn follow<I: Feed, P: Console>(
     console: &mut P,
     terminal: bool,
     alone: bool,
-) -> FollowEnding {
-    let ending = if !alone {
-        FollowEnding::NotAlone
-    } else {
-        match Follower::new(alloc, terminal).follow(feed, console) {
-            Ok(()) => FollowEnding::Done,
-            Err(ending) => ending,
-        }
-    };
+) -> FollowEnding
+    ensures cause { HasCause result (I.state feed.old) (I.state feed.new) (P.state console.old) (P.state console.new) }
+{
+    let ending = answer(alloc, feed, console, terminal, alone);
     say_ending(console, ending, false);
     ending
 }

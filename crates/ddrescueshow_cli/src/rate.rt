@@ -58,6 +58,13 @@ impl Lately {
         }
     }
 
+    /// Drops the lines at the front that aren't needed any more.
+    fn drop_old(&mut self, now: Sample) {
+        while self.is_first_old(now) {
+            self.samples.remove(0);
+        }
+    }
+
     /// Keeps a line, unless there is one of the same second.
     fn keep(&mut self, now: Sample) {
         if let Some(last) = self.samples.as_slice().last() {
@@ -75,9 +82,7 @@ impl Lately {
         if self.is_of_another(now) {
             self.samples.clear();
         }
-        while self.is_first_old(now) {
-            self.samples.remove(0);
-        }
+        self.drop_old(now);
         let earliest = match self.samples.as_slice().first() {
             Some(first) => *first,
             None => now,

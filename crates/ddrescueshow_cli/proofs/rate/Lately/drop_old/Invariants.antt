@@ -1,0 +1,7 @@
+-- The lines become fewer.
+use Rattle.std.proofs.Common.{ℕ}
+use Rattle.arrayvec.specs.ArrayVec.{array_vec_len}
+use Rattle.ddrescueshow_cli.proofs.rate.Lately.drop_old.Given as goal
+
+abbrev pub decreases-loop-self : goal.decreases-loop-self
+decreases-loop-self l = array_vec_len l.self.samples
