@@ -250,7 +250,8 @@ impl Follower {
                 break;
             }
         }
-        self.finish(console)
+        self.finish(console)?;
+        Ok(())
     }
 }
 

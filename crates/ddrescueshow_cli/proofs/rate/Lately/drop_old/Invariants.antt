@@ -3,5 +3,5 @@ use Rattle.std.proofs.Common.{ℕ}
 use Rattle.arrayvec.specs.ArrayVec.{array_vec_len}
 use Rattle.ddrescueshow_cli.proofs.rate.Lately.drop_old.Given as goal
 
-abbrev pub decreases-loop-self : goal.decreases-loop-self
-decreases-loop-self l = array_vec_len l.self.samples
+abbrev pub decreases-loop-now : goal.decreases-loop-now
+decreases-loop-now l = array_vec_len l.self.samples
