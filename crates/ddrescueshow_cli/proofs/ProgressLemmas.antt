@@ -51,17 +51,17 @@ progress_fits size rate f is =
 -- ---- why it stopped
 
 -- after steps in which nothing failed
-pub stopped : (e : FollowEnding) (f f' f'' : FeedState) (c c' c'' : ConsoleState) → f'.faults ≡ f.faults
-    → c'.out.faults ≡ c.out.faults → HasCause e f' f'' c' c'' → HasCause e f f'' c c''
-stopped e f f' f'' c c' c'' takes puts why = record {
+pub stopped : (e : FollowEnding) (f f' f'' : FeedState) (c c' c'' : ConsoleState) → HasCause e f' f'' c' c''
+    → f'.faults ≡ f.faults → c'.out.faults ≡ c.out.faults → HasCause e f f'' c c''
+stopped e f f' f'' c c' c'' why takes puts = record {
   takes = why.takes ∙ ap (takes_after e) takes;
   puts = why.puts ∙ ap (puts_after e) puts;
 }
 
 -- and then a step that takes nothing
-pub ended : (e : FollowEnding) (f f' : FeedState) (c c' c'' : ConsoleState) → f'.faults ≡ f.faults
-    → c'.out.faults ≡ c.out.faults → IsPutCause e c' c'' → HasCause e f f' c c''
-ended e f f' c c' c'' takes puts why = record {
+pub ended : (e : FollowEnding) (f f' : FeedState) (c c' c'' : ConsoleState) → IsPutCause e c' c''
+    → f'.faults ≡ f.faults → c'.out.faults ≡ c.out.faults → HasCause e f f' c c''
+ended e f f' c c' c'' why takes puts = record {
   takes = takes ∙ sym (why.takes f.faults);
   puts = why.puts ∙ ap (puts_after e) puts;
 }

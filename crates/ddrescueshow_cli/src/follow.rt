@@ -234,6 +234,27 @@ impl Follower {
         Ok(())
     }
 
+    /// Takes all that comes.
+    fn take_all<I: Feed, P: Console>(
+        &mut self,
+        feed: &mut I,
+        console: &mut P,
+    ) -> Result<(), FollowEnding>
+        ensures takes { OnOk result ((I.state feed.new).faults ≡ (I.state feed.old).faults) }
+        ensures puts { OnOk result ((P.state console.new).out.faults ≡ (P.state console.old).out.faults) }
+        ensures cause { IfErr result (λ e. HasCause e (I.state feed.old) (I.state feed.new)
+            (P.state console.old) (P.state console.new)) }
+    {
+        for _ in 0..u64::MAX {
+            match self.take_some(feed, console) {
+                Ok(true) => {}
+                Ok(false) => return Ok(()),
+                Err(ending) => return Err(ending),
+            }
+        }
+        Ok(())
+    }
+
     /// Takes all lines, and puts what is put of each.
     fn follow<I: Feed, P: Console>(
         &mut self,
@@ -245,13 +266,13 @@ impl Follower {
         ensures cause { IfErr result (λ e. HasCause e (I.state feed.old) (I.state feed.new)
             (P.state console.old) (P.state console.new)) }
     {
-        for _ in 0..u64::MAX {
-            if !self.take_some(feed, console)? {
-                break;
-            }
+        match self.take_all(feed, console) {
+            Ok(()) => match self.finish(console) {
+                Ok(()) => Ok(()),
+                Err(ending) => Err(ending),
+            },
+            Err(ending) => Err(ending),
         }
-        self.finish(console)?;
-        Ok(())
     }
 }
 

@@ -1,11 +1,8 @@
--- What stopped it comes after steps in which nothing failed.
-use Rattle.ddrescueshow_cli.proofs.ProgressLemmas.{ended, stopped}
+-- What stopped it at last comes after steps in which nothing failed.
+use Rattle.ddrescueshow_cli.proofs.ProgressLemmas.{ended}
 use Rattle.ddrescueshow_cli.proofs.follow.Follower.follow.Goals as goal
 
-pub returns-in_err-take_some-clause-cause : goal.returns-in_err-take_some-clause-cause
-returns-in_err-take_some-clause-cause g c =
-    stopped _ _ _ _ _ _ _ c.loop.invariant.takes c.loop.invariant.puts c.in_err-take_some.ensures.cause
-
-pub returns-in_err-finish-clause-cause : goal.returns-in_err-finish-clause-cause
-returns-in_err-finish-clause-cause g c =
-    ended _ _ _ _ _ _ c.loop.invariant.takes c.loop.invariant.puts c.in_err-finish.ensures.cause
+pub returns-in-Err-finish-clause-cause : goal.returns-in-Err-finish-clause-cause
+returns-in-Err-finish-clause-cause g c =
+    ended c.in-Err-finish.ending (g.I.Feed.state c.args.feed.now) _ (g.P.Console.state c.args.console.now) _ _
+    c.in-Err-finish.ensures.cause c.in-Ok.ensures.takes c.in-Ok.ensures.puts

@@ -1,6 +1,6 @@
 -- No take and no put failed so far.
 use Rattle.std.proofs.Common.{◌≡◌}
-use Rattle.ddrescueshow_cli.proofs.follow.Follower.follow.Given as goal
+use Rattle.ddrescueshow_cli.proofs.follow.Follower.take_all.Given as goal
 
 abbrev pub invariant-loop : goal.invariant-loop
 invariant-loop g l = record {
