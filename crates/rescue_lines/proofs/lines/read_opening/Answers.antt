@@ -5,6 +5,6 @@ pub returns-clause-printed : goal.returns-clause-printed
 returns-clause-printed c =
     opening_printed _ _ _ _ _ c.new-cursor.ensures c.read.ensures c.read_number-size.ensures
     (λ none.
-      let lost = c.is_lost.ensures.1 none in
-      let no = c.if-is_lost.false in
-      cc)
+    let lost = c.is_lost.ensures.1 none in
+    let no = c.if-is_lost.false in
+    cc)
