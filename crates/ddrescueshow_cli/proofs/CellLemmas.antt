@@ -1,14 +1,14 @@
 -- The cells of a picture tile it, and are the least.
-use Rattle.std.proofs.Common.{◌≡◌, ℕ, zero, suc, ◌+◌, ◌-◌, ◌*◌, ◌/◌, ◌^◌, ◌<◌, ◌≤◌, min, max, Option, Some, None, refl, sym, ap, ◌∙◌, ⊎_elim, arith}
+use Rattle.std.proofs.Common.{◌≡◌, ℕ, suc, ◌+◌, ◌-◌, ◌*◌, ◌/◌, ◌^◌, ◌<◌, ◌≤◌, Option, Some, None, refl, ⊎_elim, arith}
 use Rattle.std.specs.Int.{div_ceil}
 use Rattle.std.proofs.lemmas.Bool.{cases_lt}
 use Rattle.std.proofs.lemmas.Grind.{div_ceil_times}
-use Rattle.std.proofs.Math.Nat.{div-mul-le_self, lt-div-mul-add, mul-le-mul_right, mul-le-mul_left, one-le-mul}
+use Rattle.std.proofs.Math.Nat.{div-mul-le_self, lt-div-mul-add, mul-le-mul_right, one-le-mul}
 use Rattle.ddrescueshow_words.specs.Command.{AreInLimits}
 use Rattle.ddrescueshow_words.specs.declared.options.ShowOptions.{ShowOptions}
 use Rattle.ddrescueshow_cli.specs.declared.frame.Frame.{Frame}
-use Rattle.ddrescueshow_cli.specs.Cells.{IsFrame, begin_of, cells_in, end_of, end_shown, frame_of, rows_in, sectors_of}
-use Rattle.ddrescueshow_cli.specs.Laws.{AllCellsTile, CellsAreLeast, CellsTile, IsInCell, IsLeastCell}
+use Rattle.ddrescueshow_cli.specs.Cells.{IsFrame, cells_in, end_shown, frame_of, rows_in, sectors_of}
+use Rattle.ddrescueshow_cli.specs.Laws.{AllCellsTile, CellsAreLeast, IsInCell}
 
 -- a number of whole parts that isn't less than what is needed holds all
 holds_all : (a b k : ℕ) → 0 < b → div_ceil a b ≤ k → a ≤ k * b

@@ -1,19 +1,17 @@
 -- The figures of a picture.
-use Rattle.std.proofs.Common.{◌≡◌, ℕ, zero, suc, ◌+◌, ◌*◌, ◌/◌, ◌<◌, ◌≤◌, nat_eq, Bool, true, false, cond, ◌&&◌, List, [], ◌∷◌, length, refl, sym, ap, subst, ◌∙◌, ⊎_elim, inl, inr, arith}
+use Rattle.std.proofs.Common.{◌≡◌, ℕ, zero, suc, ◌+◌, ◌*◌, ◌/◌, ◌<◌, ◌≤◌, nat_eq, Bool, true, false, cond, ◌&&◌, List, [], ◌∷◌, length, refl, sym, ap, subst, ◌∙◌, ⊎_elim, arith}
 use Rattle.std.specs.List.{count_by, range_with_len}
-use Rattle.std.proofs.lemmas.Bool.{and_parts, cases_lt}
+use Rattle.std.proofs.lemmas.Bool.{cases_lt}
 use Rattle.std.proofs.lemmas.Bool.Decides.{nat_tests}
 use Rattle.std.proofs.lemmas.List.Sums.{sum_by-cons}
 use Rattle.std.proofs.Math.Nat.{le-div_iff_mul-le, mul-div_left}
 use Rattle.block_list.specs.declared.status.Status.{Status}
 use Rattle.block_list.specs.declared.status.Status.TheVariants.{Finished}
 use Rattle.block_list.specs.Status.{same}
-use Rattle.rescue_domain.specs.Finished.{is_finished_at}
 use Rattle.map_algebra.specs.At.{status_at}
-use Rattle.map_algebra.specs.Compare.{IsDoneIn}
-use Rattle.map_algebra.specs.Summary.{has_status, summary_of}
+use Rattle.map_algebra.specs.Summary.{summary_of}
 use Rattle.map_algebra.proofs.MapLemmas.{finished_at}
-use Rattle.ddrescueshow_cli.specs.Picture.{line_of, share}
+use Rattle.ddrescueshow_cli.specs.Picture.{line_of}
 use Rattle.ddrescueshow_cli.specs.Laws.{AllIsFinishedAt100}
 
 abbrev one_if : Bool → ℕ

@@ -1,11 +1,9 @@
 -- The program is well made: its rows agree with its grammar and with its work. And maps lead to one verdict at most.
-use Rattle.std.proofs.Common.{◌≡◌, ℕ, Bool, false, List, [], ◌∷◌, ◌++◌, Option, Some, None, Result, Ok, Err, refl, sym, ap, ◌∙◌, inl, inr, subst, arith}
+use Rattle.std.proofs.Common.{◌≡◌, ℕ, Bool, false, List, [], ◌∷◌, ◌++◌, Option, Some, None, Result, Ok, Err, refl, sym, ap, ◌∙◌, inl, inr, subst}
 use Rattle.mapfile_text.specs.declared.read.MapError.{MapError}
 use Rattle.mapfile_text.specs.declared.read.Mode.{Mode}
 use Rattle.mapfile_text.specs.declared.read.Mode.TheVariants.{Tight}
 use Rattle.crash_site.specs.Files.{File}
-use Rattle.crash_site.specs.SiteState.{SiteState}
-use Rattle.crash_site.specs.SiteChanges.{Stays}
 use Rattle.save_resume.specs.Named.{map_mode}
 use Rattle.save_resume.proofs.AnswerLemmas.{not_there, refused_for_one}
 use Rattle.option_words.specs.declared.fault.UsageFault.{UsageFault}
@@ -27,7 +25,7 @@ use Rattle.ddrescueshow_words.specs.Command.{Command, IsAsked, command_by, comma
 use Rattle.ddrescueshow_cli.specs.declared.ending.Which.{Which}
 use Rattle.ddrescueshow_cli.specs.declared.ending.Which.TheVariants.{RunMap, DomainMap}
 use Rattle.ddrescueshow_cli.specs.declared.ending.ShowEnding.{ShowEnding}
-use Rattle.ddrescueshow_cli.specs.declared.ending.ShowEnding.TheVariants.{Done, MapRefused, ConsoleFault}
+use Rattle.ddrescueshow_cli.specs.declared.ending.ShowEnding.TheVariants.{Done, MapRefused}
 use Rattle.ddrescueshow_cli.specs.Answers.{row_of}
 use Rattle.ddrescueshow_cli.specs.Work.{Found, MapIsRefused, PutsAll, ShowWorks, map_rows, show_faults}
 use Rattle.ddrescueshow_cli.specs.Ddrescueshow.{ShowWorked, show_program}

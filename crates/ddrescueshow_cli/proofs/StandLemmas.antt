@@ -1,5 +1,5 @@
 -- All files read as they did, since maps are read and nothing else is called.
-use Rattle.std.proofs.Common.{◌≡◌, ℕ, Bool, IsTrue, List, [], ◌∷◌, ◌++◌, map, Option, Some, None, refl, sym, ap, ◌∙◌, inl, inr}
+use Rattle.std.proofs.Common.{◌≡◌, ℕ, Bool, List, [], ◌∷◌, ◌++◌, map, Option, Some, None, ap, ◌∙◌, inl, inr}
 use Rattle.mapfile_text.specs.declared.read.Mode.{Mode}
 use Rattle.mapfile_text.specs.declared.read.Mode.TheVariants.{Tight}
 use Rattle.crash_site.specs.declared.site.SiteCall.TheVariants.{MapRead}
@@ -13,7 +13,7 @@ use Rattle.save_resume.specs.Named.{map_mode}
 use Rattle.work_rules.specs.Work.{Deeds, Take, WorkStep, Works}
 use Rattle.work_rules.proofs.FrontLemmas.{broken_stands, load_reads, reads_stand}
 use Rattle.program_promise.specs.World.{WorldState, Told}
-use Rattle.program_promise.specs.Promise.{DoneFor, Says, Nothing, Message}
+use Rattle.program_promise.specs.Promise.{Says, Nothing, Message}
 use Rattle.ddrescueshow_words.specs.Command.{Command}
 use Rattle.ddrescueshow_cli.specs.declared.ending.Which.{Which}
 use Rattle.ddrescueshow_cli.specs.declared.ending.Which.TheVariants.{RunMap, DomainMap}

@@ -1,5 +1,5 @@
 -- A picture in SVG is short.
-use Rattle.std.proofs.Common.{◌≡◌, ◌⊎◌, ℕ, zero, suc, ◌+◌, ◌-◌, ◌*◌, ◌/◌, ◌%◌, ◌^◌, ◌<◌, ◌≤◌, min, max, nat_eq, nat_lt, Bool, true, false, cond, ◌&&◌, List, [], ◌∷◌, ◌++◌, length, map, replicate, codes, Option, Some, None, refl, sym, ap, ◌∙◌, inl, inr, arith}
+use Rattle.std.proofs.Common.{◌≡◌, ℕ, zero, suc, ◌+◌, ◌-◌, ◌*◌, ◌/◌, ◌%◌, ◌^◌, ◌<◌, ◌≤◌, nat_eq, nat_lt, Bool, true, false, cond, ◌&&◌, List, [], ◌∷◌, ◌++◌, length, replicate, codes, Option, Some, None, refl, sym, ap, ◌∙◌, arith}
 use Rattle.std.specs.Fmt.{decimal}
 use Rattle.std.specs.List.{count_by, flat_map, range_with_len}
 use Rattle.std.proofs.lemmas.Bool.Decides.{nat_tests}
@@ -19,11 +19,10 @@ use Rattle.ddrescueshow_words.specs.declared.options.ShowOptions.{ShowOptions}
 use Rattle.ddrescueshow_cli.specs.declared.form.Form.TheVariants.{Svg}
 use Rattle.ddrescueshow_cli.specs.declared.frame.Frame.{Frame}
 use Rattle.ddrescueshow_cli.specs.declared.runs.Run.{Run}
-use Rattle.ddrescueshow_cli.specs.Cells.{IsFrame, begin_of, cells_in, cells_of_row, end_shown, frame_of, rows_in, sectors_of}
+use Rattle.ddrescueshow_cli.specs.Cells.{IsFrame, begin_of, cells_in, cells_of_row, end_shown, frame_of, rows_in}
 use Rattle.ddrescueshow_cli.specs.Runs.{marks_of, run_at, runs_of}
 use Rattle.ddrescueshow_cli.specs.Svg.{class_of, first_meanings, group_text, meaning_text, name_text, other_meanings, rect_text, svg_foot, svg_front, svg_head, svg_height, svg_width}
 use Rattle.ddrescueshow_cli.specs.Picture.{bad_text, cell_text, figures_text, line_of, picture_text, row_text, run_text, share, share_text}
-use Rattle.ddrescueshow_cli.specs.Work.{is_too_large}
 use Rattle.ddrescueshow_cli.specs.Laws.{AreCells, SvgIsShort}
 use Rattle.ddrescueshow_cli.proofs.CellLemmas.{is_frame, rows_fit}
 use Rattle.ddrescueshow_cli.proofs.DrawLemmas.{rows_are}

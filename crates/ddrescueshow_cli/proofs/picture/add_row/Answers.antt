@@ -1,5 +1,5 @@
 -- A row isn't empty.
-use Rattle.std.proofs.Common.{ℕ, ◌*◌, ◌<◌, arith}
+use Rattle.std.proofs.Common.{◌*◌, ◌<◌, arith}
 use Rattle.ddrescueshow_cli.specs.Cells.{cells_in}
 use Rattle.ddrescueshow_cli.proofs.SizeLemmas.{begins_before}
 use Rattle.ddrescueshow_cli.proofs.picture.add_row.Goals as goal

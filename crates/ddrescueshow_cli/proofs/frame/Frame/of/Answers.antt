@@ -1,8 +1,6 @@
 -- A cell isn't much longer than what is shown, and the picture is that of the options.
-use Rattle.std.proofs.Common.{◌≡◌, ℕ, ◌*◌, ap, refl, subst, sym, ◌∙◌, arith}
+use Rattle.std.proofs.Common.{ℕ, ◌*◌, ap, refl, arith}
 use Rattle.std.proofs.Math.Nat.{one-le-mul}
-use Rattle.ddrescueshow_cli.specs.declared.frame.Frame.{Frame}
-use Rattle.ddrescueshow_cli.specs.Cells.{IsFrame, frame_of, sectors_of}
 use Rattle.ddrescueshow_cli.proofs.CellLemmas.{is_frame}
 use Rattle.ddrescueshow_cli.proofs.SizeLemmas.{cell_short}
 use Rattle.ddrescueshow_cli.proofs.frame.Frame.of.Goals as goal
