@@ -3,7 +3,7 @@
 
 use advice::{advise, advise_follower};
 use crash_site::folder::FolderSite;
-use ddrescueshow_cli::follow::follow;
+use ddrescueshow_cli::follow::{follow, refuse};
 use ddrescueshow_cli::show::ddrescueshow;
 use ddrescueshow_words::progress::asks_progress;
 use program_start::status::status_of;
@@ -23,8 +23,11 @@ fn follow_rescue(
     mut console: StdConsole,
     terminal: bool,
 ) -> io::Result<u8> {
+    if !alone {
+        return Ok(refuse(&mut console).code());
+    }
     let mut feed = StdFeed::new(rt.clone()?);
-    let ending = follow(rt.alloc(), &mut feed, &mut console, terminal, alone);
+    let ending = follow(rt.alloc(), &mut feed, &mut console, terminal);
     if console.trouble(Channel::Err).is_none() {
         let (fed, put) = (feed.trouble(), console.trouble(Channel::Out));
         if let Some(line) = advise_follower(ending, fed, put) {

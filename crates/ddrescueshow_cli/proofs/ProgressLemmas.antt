@@ -54,6 +54,7 @@ progress_fits size rate f is =
 pub stopped : (e : FollowEnding) (f f' f'' : FeedState) (c c' c'' : ConsoleState) → HasCause e f' f'' c' c''
     → f'.faults ≡ f.faults → c'.out.faults ≡ c.out.faults → HasCause e f f'' c c''
 stopped e f f' f'' c c' c'' why takes puts = record {
+  alone = why.alone;
   takes = why.takes ∙ ap (takes_after e) takes;
   puts = why.puts ∙ ap (puts_after e) puts;
 }
@@ -62,6 +63,7 @@ stopped e f f' f'' c c' c'' why takes puts = record {
 pub ended : (e : FollowEnding) (f f' : FeedState) (c c' c'' : ConsoleState) → IsPutCause e c' c''
     → f'.faults ≡ f.faults → c'.out.faults ≡ c.out.faults → HasCause e f f' c c''
 ended e f f' c c' c'' why takes puts = record {
+  alone = why.alone;
   takes = takes ∙ sym (why.takes f.faults);
   puts = why.puts ∙ ap (puts_after e) puts;
 }

@@ -1,5 +1,5 @@
 -- How a call that follows a rescue ends.
-use Rattle.std.specs.Prelude.{◌≡◌, ℕ, Bool, true, false, List, [], codes}
+use Rattle.std.specs.Prelude.{◌≡◌, ◌≢◌, ℕ, Bool, true, false, List, [], codes}
 use Rattle.fault_count.specs.Counts.{raised}
 use Rattle.rescue_console.specs.ConsoleState.{ConsoleState}
 use Rattle.rescue_console.specs.FeedState.{FeedState}
@@ -50,12 +50,15 @@ puts_after FeedFault n = n
 puts_after ConsoleFault n = raised n
 puts_after NoMemory n = n
 
--- Why an answer came: a failure is answered exactly if its count rose, and no other rose.
+-- Why an answer came of a call without other arguments: a failure is answered exactly if its count rose, and no other
+-- rose.
 pub record HasCause (e : FollowEnding) (feed feed' : FeedState) (console console' : ConsoleState) : Type 0 where
+  pub alone : e ≢ NotAlone
   pub takes : feed'.faults ≡ takes_after e feed.faults
   pub puts : console'.out.faults ≡ puts_after e console.out.faults
 
 -- why a step stopped that takes nothing
 pub record IsPutCause (e : FollowEnding) (console console' : ConsoleState) : Type 0 where
+  pub alone : e ≢ NotAlone
   pub takes : (n : ℕ) → takes_after e n ≡ n
   pub puts : console'.out.faults ≡ puts_after e console.out.faults

@@ -1,6 +1,7 @@
 //! `ddrescueshow --progress`: follows a rescue by the lines that it prints.
-ghost use Rattle.std.specs.Prelude.{◌≡◌, ◌≤◌, ℕ, ◌++◌, Option, IfErr, IfOk, OnOk};
+ghost use Rattle.std.specs.Prelude.{◌≡◌, ◌≤◌, ℕ, ◌++◌, false, Option, IfErr, IfOk, OnOk};
 ghost use Rattle.arrayvec.specs.ArrayVec.{array_vec_len};
+ghost use Rattle.program_promise.specs.Saying.{SaysAs};
 ghost use Rattle.ddrescueshow_cli.specs.Progress.{IsSaid, passed_text, progress_text, shown_text};
 ghost use Rattle.ddrescueshow_cli.specs.Following.{HasCause, IsPutCause, follow_message, follow_status, follow_text, is_followed};
 
@@ -276,19 +277,15 @@ impl Follower {
     }
 }
 
-/// The same without a message.
+/// How a rescue that is followed ends, without a message.
 fn answer<I: Feed, P: Console>(
     alloc: Global,
     feed: &mut I,
     console: &mut P,
     terminal: bool,
-    alone: bool,
 ) -> FollowEnding
-    ensures cause { HasCause result (I.state feed.old) (I.state feed.new) (P.state console.old) (P.state console.new) }
+    ensures { HasCause result (I.state feed.old) (I.state feed.new) (P.state console.old) (P.state console.new) }
 {
-    if !alone {
-        return FollowEnding::NotAlone;
-    }
     let mut follower = Follower::new(alloc, terminal);
     match follower.follow(feed, console) {
         Ok(()) => FollowEnding::Done,
@@ -297,18 +294,27 @@ fn answer<I: Feed, P: Console>(
 }
 
 /// Follows a rescue by the lines that it prints, which come on standard input. Of each line it puts what the line says;
-/// on a terminal over the one before it. Another line passes. Then one message says why, unless all was put. `alone`
-/// says whether there is no other argument; if there is one, nothing is taken.
+/// on a terminal over the one before it. Another line passes. Then one message says why, unless all was put.
 pub fn follow<I: Feed, P: Console>(
     alloc: Global,
     feed: &mut I,
     console: &mut P,
     terminal: bool,
-    alone: bool,
 ) -> FollowEnding
-    ensures cause { HasCause result (I.state feed.old) (I.state feed.new) (P.state console.old) (P.state console.new) }
+    ensures { HasCause result (I.state feed.old) (I.state feed.new) (P.state console.old) (P.state console.new) }
 {
-    let ending = answer(alloc, feed, console, terminal, alone);
+    let ending = answer(alloc, feed, console, terminal);
+    say_ending(console, ending, false);
+    ending
+}
+
+/// Refuses a call that has other arguments, by one message.
+pub fn refuse<P: Console>(console: &mut P) -> FollowEnding
+    ensures answer { result ≡ FollowEnding.NotAlone }
+    ensures said { SaysAs false false (follow_message FollowEnding.NotAlone) (P.state console.old)
+        (P.state console.new) }
+{
+    let ending = FollowEnding::NotAlone;
     say_ending(console, ending, false);
     ending
 }
