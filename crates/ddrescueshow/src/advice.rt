@@ -62,11 +62,10 @@ fn fault_cause<'a>(command: &Command<'a>, call: SiteCall, site: &FolderSite) -> 
 }
 
 /// Why a standard stream failed.
-fn stream_cause(stream: Stream, error: Option<io::Error>) -> Option<Cause<'static>> {
-    Some(Cause::Stream {
-        stream,
-        reason: reason_text(&error?),
-    })
+fn stream_cause<'a>(stream: Stream, trouble: Option<io::Error>) -> Option<Cause<'a>> {
+    let error = trouble?;
+    let reason = reason_text(&error);
+    Some(Cause::Stream { stream, reason })
 }
 
 /// Why a command that was read ended so, if that helps.
