@@ -1,13 +1,11 @@
 -- The line of a rescue's progress fits; and why a call that follows a rescue stopped.
-use Rattle.std.proofs.Common.{◌≡◌, ℕ, ◌+◌, ◌^◌, ◌<◌, ◌≤◌, nat_lt, Bool, true, false, cond, List, ◌++◌, length, refl, sym, ap, ◌∙◌, arith}
-use Rattle.std.specs.Fmt.{decimal}
+use Rattle.std.proofs.Common.{◌≡◌, ℕ, ◌+◌, ◌≤◌, nat_lt, Bool, true, false, cond, List, ◌++◌, length, refl, sym, ap, ◌∙◌, arith}
 use Rattle.std.proofs.lemmas.Bool.Decides.{nat_tests}
 use Rattle.std.proofs.lemmas.Fmt.{length-decimal-le}
 use Rattle.std.proofs.lemmas.List.{length-append}
 use Rattle.mapfile_text.specs.declared.state.Current.{Current}
 use Rattle.mapfile_text.specs.declared.state.Current.TheVariants.{Copying, Trimming, Scraping, Retrying, Filling, Generating, Finished}
 use Rattle.rescue_rules.specs.Lines.{phase_text}
-use Rattle.rescue_lines.specs.declared.lines.Figures.{Figures}
 use Rattle.rescue_lines.specs.declared.lines.Head.{Head}
 use Rattle.rescue_lines.specs.declared.lines.Head.TheVariants.{Phase, Last}
 use Rattle.rescue_lines.specs.Lines.{IsHead}

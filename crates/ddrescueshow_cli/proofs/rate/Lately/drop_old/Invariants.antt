@@ -1,5 +1,4 @@
 -- The lines become fewer.
-use Rattle.std.proofs.Common.{ℕ}
 use Rattle.arrayvec.specs.ArrayVec.{array_vec_len}
 use Rattle.ddrescueshow_cli.proofs.rate.Lately.drop_old.Given as goal
 
