@@ -1,10 +1,11 @@
 //! The line after the message: why an answer came, by the files that the arguments name.
 use crash_site::folder::FolderSite;
 use ddrescueshow_cli::ending::{ShowEnding, Which};
+use ddrescueshow_cli::follow::FollowEnding;
 use ddrescueshow_words::command::{Command, read_command};
 use ddrescueshow_words::options::ROWS;
 use option_words::words::Words;
-use program_advice::cause::{Cause, Fact, Named, Role, Stream};
+use program_advice::cause::{Cause, Fact, Hint, Named, Role, Stream};
 use program_advice::files::stream_cause;
 use program_advice::line::{Line, line_of};
 use program_advice::mapfile::{line_on_map, line_on_memory};
@@ -107,5 +108,20 @@ pub fn advise(
         _ => {}
     }
     let cause = cause_of(&command, ending, site, put)?;
+    Some(line_of(PROGRAM, cause))
+}
+
+/// The same for a call that follows a rescue. `fed` and `put` are the errors of standard input and output.
+pub fn advise_follower(
+    ending: FollowEnding,
+    fed: Option<io::Error>,
+    put: Option<io::Error>,
+) -> Option<Line> {
+    let cause = match ending {
+        FollowEnding::Done | FollowEnding::NotAlone => return None,
+        FollowEnding::FeedFault => stream_cause(Stream::Input, fed)?,
+        FollowEnding::ConsoleFault => stream_cause(Stream::Output, put)?,
+        FollowEnding::NoMemory => Cause::Hint(Hint::NoMemory),
+    };
     Some(line_of(PROGRAM, cause))
 }

@@ -1,26 +1,48 @@
-//! ddrescueshow: draws a mapfile, so that what is rescued is seen at a glance.
+//! ddrescueshow: draws a mapfile, so that what is rescued is seen at a glance, or follows a rescue.
 #![tactic(auto)]
 
-use advice::advise;
+use advice::{advise, advise_follower};
 use crash_site::folder::FolderSite;
+use ddrescueshow_cli::follow::{follow, refuse};
 use ddrescueshow_cli::show::ddrescueshow;
+use ddrescueshow_words::progress::asks_progress;
 use program_advice::put::put_line;
 use program_start::status::status_of;
 use program_start::streams::{ClosedStream, fill_streams};
 use program_start::words::collect_words;
 use rescue_console::console::Channel;
-use rescue_console::system::StdConsole;
+use rescue_console::system::{StdConsole, StdFeed};
 use std::io::{self, IsTerminal};
 use std::process::ExitCode;
 
 mod advice;
 
+/// Follows a rescue whose lines come on standard input, if there is no other argument.
+fn follow_rescue(
+    rt: HostRuntime,
+    alone: bool,
+    mut console: StdConsole,
+    terminal: bool,
+) -> io::Result<u8> {
+    if !alone {
+        return Ok(refuse(&mut console).code());
+    }
+    let mut feed = StdFeed::new(rt.clone()?);
+    let ending = follow(rt.alloc(), &mut feed, &mut console, terminal);
+    let (fed, put) = (feed.trouble(), console.trouble(Channel::Out));
+    put_line(&mut console, advise_follower(ending, fed, put));
+    Ok(ending.code())
+}
+
 fn run(rt: HostRuntime) -> io::Result<u8> {
     fill_streams(&rt, ClosedStream::Faulty)?;
     let words = collect_words(&rt, "ddrescueshow")?;
-    let mut site = FolderSite::new(rt.clone()?);
     let mut console = StdConsole::new(rt.clone()?);
     let terminal = rt.stdout().is_terminal();
+    if asks_progress(&words) {
+        return follow_rescue(rt, words.len() == 1, console, terminal);
+    }
+    let mut site = FolderSite::new(rt.clone()?);
     let ending = ddrescueshow(rt.alloc(), &words, &mut site, &mut console, terminal);
     let put = console.trouble(Channel::Out);
     put_line(&mut console, advise(&rt, &words, ending, &site, put));

@@ -12,3 +12,4 @@ mod MarkLemmas
 mod FigureLemmas
 mod StandLemmas
 mod SvgLemmas
+mod ProgressLemmas

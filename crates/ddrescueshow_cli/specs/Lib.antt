@@ -7,4 +7,6 @@ pub mod Answers
 pub mod Work
 pub mod Ddrescueshow
 pub mod Steps
+pub mod Progress
+pub mod Following
 pub mod Laws

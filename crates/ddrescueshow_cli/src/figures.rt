@@ -8,7 +8,7 @@ use block_list::tiles::NoMemory;
 use map_algebra::summary::Summary;
 
 /// What of a size is rescued, in hundredths of a percent.
-fn share(rescued: u64, size: u64) -> u64
+pub(crate) fn share(rescued: u64, size: u64) -> u64
     requires { rescued ≤ size }
     ensures share { result ≡ share rescued size }
     ensures most { result ≤ 10000 }
@@ -20,7 +20,7 @@ fn share(rescued: u64, size: u64) -> u64
 }
 
 /// Adds a share.
-fn add_share(text: &mut Vec<u8>, share: u64) -> Result<(), NoMemory>
+pub(crate) fn add_share(text: &mut Vec<u8>, share: u64) -> Result<(), NoMemory>
     ensures { OnOk result (text.new.items ≡ text.old.items ++ share_text share) }
 {
     add_number(text, share / 100, ".")?;

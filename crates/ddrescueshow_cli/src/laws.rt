@@ -1,4 +1,5 @@
 //! What the definitions mean.
+ghost use Rattle.ddrescueshow_cli.specs.Progress.{ProgressFits};
 ghost use Rattle.ddrescueshow_cli.specs.Laws.{AllCellsTile, AllIsFinishedAt100, CellsAreLeast, FilesStand, HasOneVerdict, MarksHideNothing, PlainRowsAreCells, RunsAreCells, ShowKeepsPromises, SmallPicture, SvgIsShort};
 
 /// Each position of what is shown is in one cell, and no other position is in any.
@@ -39,6 +40,11 @@ pub fn all_is_finished_at_100()
 /// A small map has the picture that was drawn of it by hand.
 pub fn a_small_map_is_drawn()
     ensures { SmallPicture }
+{}
+
+/// The line of a rescue's progress fits 79 columns.
+pub fn progress_fits()
+    ensures { ProgressFits }
 {}
 
 /// Maps have one verdict at most.

@@ -4,6 +4,7 @@
 mod cells;
 pub mod ending;
 mod figures;
+pub mod follow;
 mod form;
 pub mod frame;
 pub mod laws;
@@ -11,6 +12,8 @@ mod load;
 mod message;
 mod picture;
 mod plain;
+mod progress;
+pub mod rate;
 mod runs;
 pub mod show;
 mod svg;

@@ -9,7 +9,7 @@ use fault_texts::message::{Message, add, begin, end};
 use program_promise::answer::Answer;
 
 /// The program's name, which begins its messages.
-const PROGRAM: &str = "ddrescueshow";
+pub(crate) const PROGRAM: &str = "ddrescueshow";
 
 /// Adds which map it is.
 fn add_which(message: &mut Message, which: Which)

@@ -1,3 +1,4 @@
 pub mod Options
 pub mod Command
 pub mod Laws
+pub mod Progress

@@ -4,3 +4,4 @@
 pub mod command;
 pub mod laws;
 pub mod options;
+pub mod progress;

@@ -89,6 +89,13 @@ pub static ROWS: [Row; 10] = [
     },
 ];
 
+/// The option that goes alone, to follow a rescue. So it is no row of the table.
+pub static PROGRESS: Row = Row {
+    short: None,
+    long: "progress",
+    takes: Takes::Never,
+};
+
 /// When a picture is in color.
 #[derive(Clone, Copy, Debug, PartialEq, Eq)]
 pub enum Coloring {

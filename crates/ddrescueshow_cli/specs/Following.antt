@@ -1,0 +1,64 @@
+-- How a call that follows a rescue ends.
+use Rattle.std.specs.Prelude.{◌≡◌, ◌≢◌, ℕ, Bool, true, false, List, [], codes}
+use Rattle.fault_count.specs.Counts.{raised}
+use Rattle.rescue_console.specs.ConsoleState.{ConsoleState}
+use Rattle.rescue_console.specs.FeedState.{FeedState}
+use Rattle.fault_texts.specs.Texts.{message_of}
+use Rattle.ddrescueshow_cli.specs.Names.{program_name}
+use Rattle.ddrescueshow_cli.specs.declared.follow.FollowEnding.{FollowEnding}
+use Rattle.ddrescueshow_cli.specs.declared.follow.FollowEnding.TheVariants.{Done, NotAlone, FeedFault, ConsoleFault, NoMemory}
+
+-- all was put, so there is no message
+abbrev pub is_followed : FollowEnding → Bool
+is_followed Done = true
+is_followed NotAlone = false
+is_followed FeedFault = false
+is_followed ConsoleFault = false
+is_followed NoMemory = false
+
+-- the exit status
+abbrev pub follow_status : FollowEnding → ℕ
+follow_status Done = 0
+follow_status NotAlone = 1
+follow_status FeedFault = 1
+follow_status ConsoleFault = 1
+follow_status NoMemory = 4
+
+-- the message on standard error
+abbrev pub follow_text : FollowEnding → List ℕ
+follow_text Done = []
+follow_text NotAlone = codes "--progress takes no other argument"
+follow_text FeedFault = codes "cannot read standard input"
+follow_text ConsoleFault = codes "cannot write standard output"
+follow_text NoMemory = codes "out of memory"
+
+abbrev pub follow_message : FollowEnding → List ℕ
+follow_message e = message_of program_name (follow_text e)
+
+-- what becomes of the count of takes that failed, and of that of puts on standard output that did
+abbrev pub takes_after : FollowEnding → ℕ → ℕ
+takes_after Done n = n
+takes_after NotAlone n = n
+takes_after FeedFault n = raised n
+takes_after ConsoleFault n = n
+takes_after NoMemory n = n
+
+abbrev pub puts_after : FollowEnding → ℕ → ℕ
+puts_after Done n = n
+puts_after NotAlone n = n
+puts_after FeedFault n = n
+puts_after ConsoleFault n = raised n
+puts_after NoMemory n = n
+
+-- Why an answer came of a call without other arguments: a failure is answered exactly if its count rose, and no other
+-- rose.
+pub record HasCause (e : FollowEnding) (feed feed' : FeedState) (console console' : ConsoleState) : Type 0 where
+  pub alone : e ≢ NotAlone
+  pub takes : feed'.faults ≡ takes_after e feed.faults
+  pub puts : console'.out.faults ≡ puts_after e console.out.faults
+
+-- why a step stopped that takes nothing
+pub record IsPutCause (e : FollowEnding) (console console' : ConsoleState) : Type 0 where
+  pub alone : e ≢ NotAlone
+  pub takes : (n : ℕ) → takes_after e n ≡ n
+  pub puts : console'.out.faults ≡ puts_after e console.out.faults

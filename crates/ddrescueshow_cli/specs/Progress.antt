@@ -1,0 +1,104 @@
+-- The line that says how far a rescue has come, by one of the rescue's own lines.
+use Rattle.std.specs.Prelude.{◌≡◌, ◌≢◌, ℕ, ◌+◌, ◌-◌, ◌/◌, ◌%◌, ◌≤◌, Bool, true, false, nat_eq, nat_lt, List, [], ◌∷◌, ◌++◌, length, replicate, Option, Some, None, codes, if◌then◌else◌}
+use Rattle.std.specs.Fmt.{decimal}
+use Rattle.block_list.specs.declared.areas.Count.{Count}
+use Rattle.rescue_rules.specs.declared.report.Report.{Report}
+use Rattle.rescue_rules.specs.Lines.{last_front, phase_text, report_text}
+use Rattle.rescue_lines.specs.declared.lines.Figures.{Figures}
+use Rattle.rescue_lines.specs.declared.lines.Head.{Head}
+use Rattle.rescue_lines.specs.declared.lines.Head.TheVariants.{Phase, Last}
+use Rattle.rescue_lines.specs.Lines.{IsHead, IsReport, figures_line, head_text}
+use Rattle.ddrescueshow_cli.specs.declared.rate.Sample.{Sample}
+use Rattle.ddrescueshow_cli.specs.Picture.{share, share_text}
+
+-- how many columns a line has at most
+abbrev pub columns : ℕ
+columns = 79
+
+-- a text, and a part after it if that fits
+abbrev pub fit : (text part : List ℕ) → List ℕ
+fit text part = if nat_lt columns (length text + length part) then text else text ++ part
+
+-- the phase and its pass, or that the run is over
+abbrev pub where_text : Head → List ℕ
+where_text (Phase current pass) = phase_text current ++ codes " " ++ decimal pass
+where_text (Last done) = last_front done
+
+-- how much is rescued: the share of the domain, if its size is known, and else the bytes
+abbrev pub bytes_text : (rescued : ℕ) → List ℕ
+bytes_text rescued = codes ", " ++ decimal rescued ++ codes " B rescued"
+
+abbrev pub share_part : (rescued size : ℕ) → List ℕ
+share_part rescued size = codes ", " ++ share_text (share rescued size) ++ codes " %"
+
+abbrev pub done_text : (size : Option ℕ) → (rescued : ℕ) → List ℕ
+done_text None rescued = bytes_text rescued
+done_text (Some size) rescued = if nat_lt size rescued then bytes_text rescued else share_part rescued size
+
+-- what failed, and how often a read did
+abbrev pub failed_text : Count → List ℕ
+failed_text n = codes ", " ++ decimal n.bytes ++ codes " B failed in " ++ decimal n.areas ++ codes " areas"
+
+abbrev pub errors_text : ℕ → List ℕ
+errors_text n = codes ", " ++ decimal n ++ codes " errors"
+
+-- the rate in thousands of bytes a second, if it is known
+abbrev pub rate_text : Option ℕ → List ℕ
+rate_text None = []
+rate_text (Some rate) = codes ", " ++ decimal (rate / 1000) ++ codes " kB/s"
+
+-- a time in hours and minutes
+abbrev pub time_text : (seconds : ℕ) → List ℕ
+time_text seconds =
+    codes ", " ++ decimal (seconds / 3600) ++ codes ":" ++ decimal (seconds / 600 % 6)
+    ++ decimal (seconds / 60 % 10) ++ codes " left"
+
+-- in which the rest of the domain is rescued at a rate, if there is one
+abbrev pub left_by : (size rescued rate : ℕ) → List ℕ
+left_by size rescued rate =
+    if nat_eq rate 0 then [] else if nat_lt rescued size then time_text ((size - rescued) / rate) else []
+
+abbrev pub left_text : (size rate : Option ℕ) → (rescued : ℕ) → List ℕ
+left_text None rate rescued = []
+left_text (Some size) None rescued = []
+left_text (Some size) (Some rate) rescued = left_by size rescued rate
+
+-- The line, by the size of the domain and the rate, if they are known. A part that doesn't fit any more is left out.
+abbrev pub progress_text : (size rate : Option ℕ) → Figures → List ℕ
+progress_text size rate f =
+    fit (fit (fit (fit (fit (where_text f.head) (done_text size f.rescued)) (failed_text f.failed)) (errors_text f.errors))
+    (rate_text rate)) (left_text size rate f.rescued)
+
+-- It fits.
+abbrev pub ProgressFits : Type 0
+ProgressFits = (size rate : Option ℕ) (f : Figures) → IsHead f.head → length (progress_text size rate f) ≤ columns
+
+-- how many bytes a second were rescued from an earlier line up to a later one
+abbrev pub rate_between : (earlier later : Sample) → Option ℕ
+rate_between earlier later =
+    if nat_lt earlier.seconds later.seconds
+    then Some ((later.rescued - earlier.rescued) / (later.seconds - earlier.seconds)) else None
+
+-- ---- what is put
+
+-- Over a line on a terminal the next one is put from its front on, and so are blanks up to the last column.
+abbrev pub over_text : (text : List ℕ) → List ℕ
+over_text text = 13 ∷ [] ++ text ++ replicate (columns - length text) 32
+
+-- what is put of such a line: on a terminal over the one before it, and else as a line
+abbrev pub shown_text : (terminal : Bool) → (text : List ℕ) → List ℕ
+shown_text true text = over_text text
+shown_text false text = text ++ 10 ∷ []
+
+-- what is put of another line: it passes unchanged, after blanks over such a line that is up, and a return
+abbrev pub passed_text : (is_up : Bool) → (line : List ℕ) → List ℕ
+passed_text true line = over_text [] ++ 13 ∷ [] ++ line
+passed_text false line = line
+
+-- What is put of a line: that of its figures, if a rescue prints such a line, and else the line itself. Nothing more is
+-- told of the rate.
+pub data IsSaid (terminal is_up : Bool) (size : Option ℕ) (line text : List ℕ) : Type 0 where
+  OfFigures : (f : Figures) (rate : Option ℕ) → line ≡ figures_line f
+      → text ≡ shown_text terminal (progress_text size rate f) → IsSaid terminal is_up size line text
+  Passed : ((head : Head) (r : Report) → IsHead head → IsReport r → line ≢ report_text (head_text head) r)
+      → text ≡ passed_text is_up line → IsSaid terminal is_up size line text
