@@ -24,10 +24,10 @@ said_some (Some old) current second =
 pub limits_after_events : LimitsAfterEvents
 limits_after_events s map from shown time m e = record { first = refl; after = said_some m.said _ _ }
 
-none_either_way : (b : Bool) → (if b then None else None) ≡ None {A = Limit}
-none_either_way true = refl
-none_either_way false = refl
+either_way : (b : Bool) (met : Option Limit) → (if b then met else met) ≡ met
+either_way true met = refl
+either_way false met = refl
 
 -- a setting without limits meets none
 pub none_met : (s : Setting) (m : Machine) → s.limits ≡ no_limits → limit_met s m ≡ None
-none_met s m none = ap (λ (l : Limits). limit_met (record s { limits = l }) m) none ∙ none_either_way (is_none m.said)
+none_met s m none = ap (λ (l : Limits). limit_met (record s { limits = l }) m) none ∙ either_way (is_none m.said) None
