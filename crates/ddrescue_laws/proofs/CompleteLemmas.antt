@@ -1,5 +1,5 @@
 -- Nothing else ends a rescue than its end, a limit, a refusal, a failure or want of memory.
-use Rattle.std.proofs.Common.{◌≡◌, ◌≢◌, ℕ, Bool, true, false, if◌then◌else◌, List, Option, Some, None, is_none, inl, inr, refl, sym, ap, ◌∙◌}
+use Rattle.std.proofs.Common.{◌≡◌, ◌≢◌, ℕ, List, Option, Some, None, inl, inr, refl, sym, ap, ◌∙◌}
 use Rattle.fault_count.specs.Counts.{raised}
 use Rattle.fault_count.proofs.CountLemmas.{not_risen}
 use Rattle.block_list.specs.declared.status.Status.{Status}
@@ -16,6 +16,7 @@ use Rattle.rescue_rules.specs.Machine.{Machine}
 use Rattle.rescue_rules.specs.Step.{Event, limit_met}
 use Rattle.rescue_rules.specs.Moves.{state_after}
 use Rattle.rescue_rules.specs.Work.{Gain, Ends, IsSaved, IsUnsaved, IsBroken}
+use Rattle.rescue_rules.proofs.LimitLemmas.{none_met}
 use Rattle.work_rules.specs.Work.{Deeds}
 use Rattle.program_promise.specs.Kinds.{Failed}
 use Rattle.program_promise.specs.Causes.{changes_of}
@@ -32,7 +33,7 @@ use Rattle.ddrescue_cli.specs.Told.{Told}
 use Rattle.ddrescue_cli.specs.ToldParts.{asked_of}
 use Rattle.task_files.specs.Work.{Rescues, RunsOver, answer_of, rescue_faults, rescue_rows}
 use Rattle.ddrescue_cli.specs.Ddrescue.{Ddrescue, TaskDone}
-use Rattle.ddrescue_laws.specs.Laws.{AreUnlimited, IsDoneOrLimited, NothingFailed, NothingIsRefused, IsDoneUnless}
+use Rattle.ddrescue_laws.specs.Laws.{IsDoneOrLimited, NothingFailed, NothingIsRefused, IsDoneUnless}
 
 -- no answer of a failure, nor of want of memory
 pub record IsNoFault (e : Ending) : Type 0 where
@@ -43,24 +44,6 @@ pub record IsNoFault (e : Ending) : Type 0 where
 
 pub no_faults : AreVerdicts rescue_faults IsNoFault
 no_faults = record { memory = λ v. v.room refl; input = λ v. v.opened refl; call = λ call v. v.call call None refl }
-
--- a setting that has none of the limits
-record HasNoLimit (s : Setting) : Type 0 where
-  errors : s.max_errors ≡ None
-  areas : s.max_areas ≡ None
-  time : s.timeout ≡ None
-
-either_way : (b : Bool) (met : Option Limit) → (if b then met else met) ≡ met
-either_way true met = refl
-either_way false met = refl
-
--- meets none
-none_met : (s : Setting) (m : Machine) → HasNoLimit s → limit_met s m ≡ None
-none_met s m none =
-    let L : (errors areas time : Option ℕ) → Option Limit =
-    λ errors areas time. limit_met (record s { max_errors = errors; max_areas = areas; timeout = time }) m in
-    ap (λ (v : Option ℕ). L v s.max_areas s.timeout) none.errors ∙ ap (λ (v : Option ℕ). L None v s.timeout) none.areas
-    ∙ ap (L None None) none.time ∙ either_way (is_none m.said) None
 
 -- a run that ended at a limit has met it
 limit_of : (s : Setting) (m : Machine) (events : List Event) (spare : ℕ) (calls : List Entry) (end : RunEnd) (limit : Limit)
@@ -83,28 +66,28 @@ limit_of s m events spare calls end limit is (IsBroken before last call split no
 
 -- how a run ends by itself
 ends_itself : (o : Options) (s : Setting) (m : Machine) (events : List Event) (spare : ℕ) (calls : List Entry) (e : Ending)
-    (end : RunEnd) → (AreUnlimited o → HasNoLimit s) → e ≡ answer_of end → Ends s m events spare calls end → IsNoFault e
+    (end : RunEnd) → s.limits ≡ o.limits → e ≡ answer_of end → Ends s m events spare calls end → IsNoFault e
     → IsDoneOrLimited o e
-ends_itself o s m events spare calls e Finished none is ends v = record { ends = inl is; unlimited = λ set. is }
-ends_itself o s m events spare calls e (Stopped InputLost) none is ends v = absurd (v.kept is)
-ends_itself o s m events spare calls e (Stopped (Site call)) none is ends v = absurd (v.call call None is)
-ends_itself o s m events spare calls e (Stopped (Limited limit)) none is ends v = record {
+ends_itself o s m events spare calls e Finished set is ends v = record { ends = inl is; unlimited = λ none. is }
+ends_itself o s m events spare calls e (Stopped InputLost) set is ends v = absurd (v.kept is)
+ends_itself o s m events spare calls e (Stopped (Site call)) set is ends v = absurd (v.call call None is)
+ends_itself o s m events spare calls e (Stopped (Limited limit)) set is ends v = record {
   ends = inr (limit, is);
-  unlimited = λ set.
+  unlimited = λ none.
       let met : limit_met s (state_after s m events) ≡ Some limit =
       limit_of s m events spare calls (Stopped (Limited limit)) limit refl ends in
-      let no : None ≡ Some limit = sym (none_met s (state_after s m events) (none set)) ∙ met in
+      let no : None ≡ Some limit = sym (none_met s (state_after s m events) (set ∙ none)) ∙ met in
       absurd (cc);
 }
-ends_itself o s m events spare calls e (Stopped NoRoom) none is ends v = absurd (v.room is)
-ends_itself o s m events spare calls e (SaveFailed call earlier) none is ends v = absurd (v.call call earlier is)
+ends_itself o s m events spare calls e (Stopped NoRoom) set is ends v = absurd (v.room is)
+ends_itself o s m events spare calls e (SaveFailed call earlier) set is ends v = absurd (v.call call earlier is)
 
 ran_itself : (o : Options) (s : Setting) (statuses : List Status) (state : Option MapState) (lines : List (List ℕ))
-    (e : Ending) (g : Gain) → (AreUnlimited o → HasNoLimit s) → RunsOver s statuses state lines e g → IsNoFault e
+    (e : Ending) (g : Gain) → s.limits ≡ o.limits → RunsOver s statuses state lines e g → IsNoFault e
     → IsDoneOrLimited o e
-ran_itself o s statuses state lines e g none (inl unbegun) v = absurd (v.room unbegun.answer)
-ran_itself o s statuses state lines e g none (inr ran) v =
-    ends_itself o s _ _ ran.runs.spare g.calls e ran.end none ran.answer ran.runs.ends v
+ran_itself o s statuses state lines e g set (inl unbegun) v = absurd (v.room unbegun.answer)
+ran_itself o s statuses state lines e g set (inr ran) v =
+    ends_itself o s _ _ ran.runs.spare g.calls e ran.end set ran.answer ran.runs.ends v
 
 -- where nothing is refused an answer of no fault is that of a run
 passed_itself : (t : Told) (c : Command) (p : TaskDone (Rescue c) t) → NothingIsRefused c (with_did p.outside p.did) → IsNoFault t.answer
@@ -114,8 +97,7 @@ passed_itself t c p pass v =
     let run : Ending → Deeds → Type 0 = Rescues (asked_of c t o) o.found.mapfile o.lines in
     let ran : (did : Deeds) × run t.answer did =
     goes_to_run rescue_faults IsNoFault no_faults (rescue_rows c o.found o.end) run pass t.answer o.did p.work v in
-    ran_itself c.options (asked_of c t o) ran.1.1.0 ran.1.1.1 o.lines t.answer ran.0.gain
-    (λ set. record { errors = set.errors; areas = set.areas; time = set.time }) ran.1.1.3 v
+    ran_itself c.options (asked_of c t o) ran.1.1.0 ran.1.1.1 o.lines t.answer ran.0.gain refl ran.1.1.3 v
 
 -- a call that failed is counted, whatever was before it
 call_rises : (earlier : Option Stop) (n : ℕ) → (changes_of (Failed (failure_after earlier))).calls n ≡ raised n

@@ -1,6 +1,7 @@
 -- What the definitions mean.
 use Rattle.ddrescue_words.specs.declared.options.Options.{Options}
-use Rattle.std.specs.Prelude.{◌≡◌, ◌≢◌, ℕ, ◌-◌, ◌^◌, ◌<◌, Bool, true, IsTrue, List, length, slice_get, Option, Some, ◌⊎◌, None}
+use Rattle.std.specs.Prelude.{◌≡◌, ◌≢◌, ℕ, ◌-◌, ◌^◌, ◌<◌, Bool, true, IsTrue, List, length, slice_get, Option, Some, ◌⊎◌}
+use Rattle.run_options.specs.Limits.{no_limits}
 use Rattle.block_list.specs.declared.status.Status.{Status}
 use Rattle.mapfile_text.specs.declared.state.MapState.{MapState}
 use Rattle.crash_site.specs.declared.site.SiteCall.{SiteCall}
@@ -124,16 +125,10 @@ pub record NothingFailed (t : Told) : Type 0 where
 abbrev pub NothingIsRefused : Command → Outside → Type 0
 NothingIsRefused c o = RefuseNothing (rescue_rows c o.found o.end)
 
--- options that set no limit
-pub record AreUnlimited (o : Options) : Type 0 where
-  pub errors : o.max_read_errors ≡ None
-  pub areas : o.max_bad_areas ≡ None
-  pub time : o.timeout ≡ None
-
 -- a rescue is done, or it met a limit, if one was set
 pub record IsDoneOrLimited (o : Options) (e : Ending) : Type 0 where
   pub ends : (e ≡ Done) ⊎ ((limit : Limit) × (e ≡ LimitMet limit))
-  pub unlimited : AreUnlimited o → e ≡ Done
+  pub unlimited : o.limits ≡ no_limits → e ≡ Done
 
 -- Where nothing failed, nothing is refused and memory doesn't run out, a rescue is done or met a limit, whoever tells.
 abbrev pub IsDoneUnless : Type 0

@@ -15,9 +15,10 @@ use Rattle.option_values.proofs.RowLemmas.{EachRow, letter_given, row_passes}
 use Rattle.option_values.proofs.TurnLemmas.{IsSector, sector_in_turn, turn_parts, default_is}
 use Rattle.option_values.proofs.ValueLemmas.{in_range, map_part, or_part, size_by_below, then_part}
 use Rattle.option_values.proofs.QuietLemmas.{or_false, or_true}
+use Rattle.run_options.specs.declared.limits.AreaLimit.TheVariants.{Total}
 use Rattle.ddrescue_words.specs.declared.options.Options.{Options}
 use Rattle.ddrescue_words.specs.Asking.{IsSampleSize}
-use Rattle.ddrescue_words.specs.Options.{area_limit_of, limit_with, no_options, option_meanings, option_rows, options_in, quiet_letter, sample_of, sector_letter, skips_of}
+use Rattle.ddrescue_words.specs.Options.{area_limit_of, no_options, option_meanings, option_rows, options_in, quiet_letter, sample_of, sector_letter, skips_of}
 use Rattle.ddrescue_words.proofs.SkipLemmas.{AreSkips, skips_of_are}
 
 -- the limits of the values, except that of a cluster in bytes, which is looked at after all options
@@ -195,7 +196,8 @@ length_keeps : (s : ℕ) (o o' : Options) (m : Option ℕ) → option_map (λ n.
 length_keeps s o o' m =
     value_keeps s o o' (λ n. record o { size = Some n }) m (λ n. refl) (λ n p h. h) (λ n. or_false o.quiet)
 
-pub limit_whole : (text : List ℕ) → ((rest : List ℕ) → text ≢ 43 ∷ rest) → area_limit_of text ≡ limit_with false text
+pub limit_whole : (text : List ℕ) → ((rest : List ℕ) → text ≢ 43 ∷ rest)
+    → area_limit_of text ≡ option_map Total (number_by (Some text))
 limit_whole [] none = refl
 limit_whole (c ∷ text) none =
     let other : c ≢ 43 = λ is. none text (ap (λ (k : ℕ). k ∷ text) is) in
@@ -203,23 +205,24 @@ limit_whole (c ∷ text) none =
     rw apart refl
 
 areas_keep : (s : ℕ) (o o' : Options) (v : Option (List ℕ))
-    → option_map (λ (k : Bool × Option ℕ). record o { new_areas = k.0; max_bad_areas = k.1 })
-    (option_and_then area_limit_of v) ≡ Some o' → Keeps s o false o'
+    → option_map (λ a. record o { limits = record o.limits { areas = Some a } }) (option_and_then area_limit_of v) ≡ Some o'
+    → Keeps s o false o'
 areas_keep s o o' v =
-    value_keeps s o o' (λ (k : Bool × Option ℕ). record o { new_areas = k.0; max_bad_areas = k.1 })
-    (option_and_then area_limit_of v) (λ k. refl) (λ k p h. h) (λ k. or_false o.quiet)
+    value_keeps s o o' (λ a. record o { limits = record o.limits { areas = Some a } })
+    (option_and_then area_limit_of v) (λ a. refl) (λ a p h. h) (λ a. or_false o.quiet)
 
 time_keeps : (s : ℕ) (o o' : Options) (v : Option (List ℕ))
-    → option_map (λ n. record o { timeout = Some n }) (option_and_then (λ text. result_ok (interval text)) v) ≡ Some o'
-    → Keeps s o false o'
+    → option_map (λ n. record o { limits = record o.limits { timeout = Some n } })
+    (option_and_then (λ text. result_ok (interval text)) v) ≡ Some o' → Keeps s o false o'
 time_keeps s o o' v =
-    value_keeps s o o' (λ n. record o { timeout = Some n }) (option_and_then (λ text. result_ok (interval text)) v)
-    (λ n. refl) (λ n p h. h) (λ n. or_false o.quiet)
+    value_keeps s o o' (λ n. record o { limits = record o.limits { timeout = Some n } })
+    (option_and_then (λ text. result_ok (interval text)) v) (λ n. refl) (λ n p h. h) (λ n. or_false o.quiet)
 
-errors_keep : (s : ℕ) (o o' : Options) (m : Option ℕ) → option_map (λ n. record o { max_read_errors = Some n }) m ≡ Some o'
-    → Keeps s o false o'
+errors_keep : (s : ℕ) (o o' : Options) (m : Option ℕ)
+    → option_map (λ n. record o { limits = record o.limits { errors = Some n } }) m ≡ Some o' → Keeps s o false o'
 errors_keep s o o' m =
-    value_keeps s o o' (λ n. record o { max_read_errors = Some n }) m (λ n. refl) (λ n p h. h) (λ n. or_false o.quiet)
+    value_keeps s o o' (λ n. record o { limits = record o.limits { errors = Some n } }) m (λ n. refl) (λ n p h. h)
+    (λ n. or_false o.quiet)
 
 types_keep : (s : ℕ) (o o' : Options) (v : Option (List ℕ))
     → option_map (λ t. record o { fill = Some t }) (option_and_then types_of v) ≡ Some o' → Keeps s o false o'

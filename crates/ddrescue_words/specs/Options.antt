@@ -1,13 +1,15 @@
 -- The options of a rescue, one a row, and what they ask for. A later option is a row more.
-use Rattle.std.specs.Prelude.{ℕ, ◌+◌, ◌-◌, ◌*◌, ◌/◌, ◌^◌, min, max, Bool, true, false, nat_eq, nat_le, nat_lt, List, [], ◌∷◌, ◌++◌, length, Option, Some, None, Result, option_map, option_and_then, codes, if◌then◌else◌}
+use Rattle.std.specs.Prelude.{ℕ, ◌+◌, ◌-◌, ◌*◌, ◌/◌, ◌^◌, min, max, true, false, nat_eq, nat_le, nat_lt, List, [], ◌∷◌, ◌++◌, length, Option, Some, None, Result, option_map, option_and_then, codes, if◌then◌else◌}
 use Rattle.std.specs.Result.{result_ok}
-use Rattle.size_suffixes.specs.Number.{number}
 use Rattle.size_suffixes.specs.Interval.{interval}
 use Rattle.block_list.specs.Types.{types_of}
 use Rattle.option_words.specs.declared.row.Takes.TheVariants.{Never, Always}
 use Rattle.option_words.specs.declared.reading.Item.{Item}
 use Rattle.option_values.specs.Values.{Meaning, OptionRow, is_empty_text, is_name, meanings_of, number_by, size_by, within_range}
 use Rattle.option_values.specs.Values.{options_in as options_by}
+use Rattle.run_options.specs.declared.limits.AreaLimit.{AreaLimit}
+use Rattle.run_options.specs.declared.limits.AreaLimit.TheVariants.{New, Total}
+use Rattle.run_options.specs.Limits.{no_limits}
 use Rattle.ddrescue_words.specs.declared.options.Options.{Options}
 
 -- ---- sizes in sectors
@@ -81,14 +83,11 @@ skips_of sector text =
 
 -- ---- limits
 
--- a limit of areas: how many there may be, and whether that many new ones
-abbrev pub limit_with : (new : Bool) → List ℕ → Option (Bool × Option ℕ)
-limit_with new text = option_map (λ n. (new, Some n)) (result_ok (number text))
-
 -- A limit of areas is a number or, if new areas alone count, a number after a `+`.
-abbrev pub area_limit_of : List ℕ → Option (Bool × Option ℕ)
+abbrev pub area_limit_of : List ℕ → Option AreaLimit
 area_limit_of [] = None
-area_limit_of (c ∷ text) = if nat_eq c 43 then limit_with true text else limit_with false (c ∷ text)
+area_limit_of (c ∷ text) =
+    if nat_eq c 43 then option_map New (number_by (Some text)) else option_map Total (number_by (Some (c ∷ text)))
 
 -- ---- the rows
 
@@ -136,7 +135,7 @@ lettered_rows =
     (option_and_then (within_range 1 65536) (size_by sector value)))
     ∷ flag 67 (codes "complete-only") (λ o. record o { complete_only = true })
     ∷ valued 101 (codes "max-bad-areas")
-    (λ sector o value. option_map (λ (k : Bool × Option ℕ). record o { new_areas = k.0; max_bad_areas = k.1 })
+    (λ sector o value. option_map (λ a. record o { limits = record o.limits { areas = Some a } })
     (option_and_then area_limit_of value))
     ∷ flag 102 (codes "force") (λ o. record o { forced = true })
     ∷ valued fill_letter (codes "fill-mode") (λ sector o value. option_map (λ t. record o { fill = Some t })
@@ -160,12 +159,13 @@ lettered_rows =
     (option_and_then (within_range 0 65535) (number_by value)))
     ∷ flag 82 (codes "reverse") (λ o. record o { reverse = true })
     ∷ valued 115 (codes "size") (λ sector o value. option_map (λ n. record o { size = Some n }) (size_by sector value))
-    ∷ valued 84 (codes "timeout") (λ sector o value. option_map (λ n. record o { timeout = Some n })
+    ∷ valued 84 (codes "timeout")
+    (λ sector o value. option_map (λ n. record o { limits = record o.limits { timeout = Some n } })
     (option_and_then (λ text. result_ok (interval text)) value))
     ∷ flag 117 (codes "unidirectional") (λ o. record o { unidirectional = true })
     ∷ flag 118 (codes "verbose") (λ o. record o { verbose = true })
-    ∷ valued 88 (codes "max-read-errors") (λ sector o value. option_map (λ n. record o { max_read_errors = Some n })
-    (number_by value))
+    ∷ valued 88 (codes "max-read-errors")
+    (λ sector o value. option_map (λ n. record o { limits = record o.limits { errors = Some n } }) (number_by value))
     ∷ []
 
 -- the size of a sample in KiB that a value gives, if it does
@@ -205,10 +205,7 @@ no_options sector = record {
   output_position = None;
   size = None;
   retries = 0;
-  max_read_errors = None;
-  max_bad_areas = None;
-  new_areas = false;
-  timeout = None;
+  limits = no_limits;
   try_again = false;
   retrim = false;
   no_trim = false;

@@ -3,7 +3,7 @@ ghost use Rattle.std.specs.Prelude.{◌≡◌, ◌^◌, ◌<◌, ◌≤◌, Some
 ghost use Rattle.std.specs.Result.{result_ok};
 ghost use Rattle.size_suffixes.specs.Interval.{interval};
 ghost use Rattle.option_values.specs.Values.{number_by, row_of, set_by, size_by, within_range};
-ghost use Rattle.ddrescue_words.specs.Options.{area_limit_of, cluster_of, in_sectors, lettered_rows, limit_with, no_options, option_rows, sample_of, sample_row, sectors_of, skips_of};
+ghost use Rattle.ddrescue_words.specs.Options.{area_limit_of, cluster_of, in_sectors, lettered_rows, no_options, option_rows, sample_of, sample_row, sectors_of, skips_of};
 ghost use Rattle.ddrescue_words.specs.Asking.{AreInLimits, AreOptions, is_too_large, wants_mapfile};
 
 use crate::skips::{DEFAULT_SKIP, DEFAULT_SKIP_MAX, in_sectors, read_skips};
@@ -13,8 +13,8 @@ use option_values::settings::Settings;
 use option_values::values::{is_name, number_by, size_by, within_range};
 use option_words::row::{Row, Takes};
 use option_words::table::OptionTable;
+use run_options::limits::{AreaLimit, Limits};
 use size_suffixes::interval::read_interval;
-use size_suffixes::number::read_number;
 
 /// The size of a cluster in bytes, where no option gives it and no sector is larger.
 const DEFAULT_CLUSTER: u64 = 65_536;
@@ -217,15 +217,8 @@ pub struct Options {
     pub size: Option<u64>,
     /// How many passes go over the bad sectors again; 0 if it isn't given.
     pub retries: u32,
-    /// How many reads may fail; no limit if it isn't given.
-    pub max_read_errors: Option<u64>,
-    /// How many areas may have failed; no limit if it isn't given.
-    pub max_bad_areas: Option<u64>,
-    /// `max_bad_areas` counts only areas beyond those that had failed at first; by default those count too.
-    pub new_areas: bool,
-    /// For how many seconds there may be no read that gives all it was asked for or meets the infile's end; no limit if
-    /// it isn't given.
-    pub timeout: Option<u64>,
+    /// The limits of the run; none of those that aren't given.
+    pub limits: Limits,
     /// What the mapfile leaves to trim or to scrape is copied again; by default it isn't.
     pub try_again: bool,
     /// What the mapfile calls failed is trimmed again; by default it isn't.
@@ -271,10 +264,7 @@ impl Options {
             output_position: None,
             size: None,
             retries: 0,
-            max_read_errors: None,
-            max_bad_areas: None,
-            new_areas: false,
-            timeout: None,
+            limits: Limits::none(),
             try_again: false,
             retrim: false,
             no_trim: false,
@@ -384,23 +374,13 @@ fn read_retries(value: Option<&str>) -> Option<u32>
     }
 }
 
-/// The limit of areas that a number gives, if it is one.
-fn limit_with(new: bool, number: &str) -> Option<(bool, Option<u64>)>
-    ensures { result ≡ limit_with new number.now }
-{
-    match read_number(number) {
-        Ok(number) => Some((new, Some(number))),
-        Err(_) => None,
-    }
-}
-
-/// The limit of areas that a value gives, if it does, and whether new areas alone count.
-fn read_area_limit(value: &str) -> Option<(bool, Option<u64>)>
+/// The limit of areas that a value gives, if it does.
+fn read_area_limit(value: &str) -> Option<AreaLimit>
     ensures { result ≡ area_limit_of value.now }
 {
     match value.strip_prefix('+') {
-        Some(number) => limit_with(true, number),
-        None => limit_with(false, value),
+        Some(number) => Some(AreaLimit::New(number_by(Some(number))?)),
+        None => Some(AreaLimit::Total(number_by(Some(value))?)),
     }
 }
 
@@ -457,7 +437,7 @@ fn with_letter(options: Options, sector: u64, letter: char, value: Option<&str>)
         'A' => try_again = true;
         'c' => cluster_sectors = Some(read_cluster_sectors(sector, value)?);
         'C' => complete_only = true;
-        'e' => new_areas, max_bad_areas = read_area_limit(value?)?;
+        'e' => limits = Limits { areas: Some(read_area_limit(value?)?), ..options.limits };
         'f' => forced = true;
         'F' => fill = Some(TypeSet::read(value?)?);
         'G' => generate = true;
@@ -472,10 +452,10 @@ fn with_letter(options: Options, sector: u64, letter: char, value: Option<&str>)
         'r' => retries = read_retries(value)?;
         'R' => reverse = true;
         's' => size = Some(size?);
-        'T' => timeout = Some(read_timeout(value?)?);
+        'T' => limits = Limits { timeout: Some(read_timeout(value?)?), ..options.limits };
         'u' => unidirectional = true;
         'v' => verbose = true;
-        'X' => max_read_errors = Some(number_by(value)?);
+        'X' => limits = Limits { errors: Some(number_by(value)?), ..options.limits };
     )
 }
 

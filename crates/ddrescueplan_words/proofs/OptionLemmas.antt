@@ -26,17 +26,15 @@ pub record Keeps (sector : ℕ) (o : Options) (quiet : Bool) (o' : Options) : Ty
 
 -- plain options stay so with what options of a plan set
 still_plain : (o o' : Options) → o'.min_rate ≡ o.min_rate → o'.output_position ≡ o.output_position
-    → o'.max_read_errors ≡ o.max_read_errors → o'.max_bad_areas ≡ o.max_bad_areas → o'.timeout ≡ o.timeout
-    → o'.try_again ≡ o.try_again → o'.retrim ≡ o.retrim → o'.complete_only ≡ o.complete_only → ArePlain o → ArePlain o'
-still_plain o o' a b c d e f g h p = record {
+    → o'.limits ≡ o.limits → o'.try_again ≡ o.try_again → o'.retrim ≡ o.retrim → o'.complete_only ≡ o.complete_only
+    → ArePlain o → ArePlain o'
+still_plain o o' a b c d e f p = record {
   rate = a ∙ p.rate;
   output = b ∙ p.output;
-  errors = c ∙ p.errors;
-  areas = d ∙ p.areas;
-  time = e ∙ p.time;
-  again = f ∙ p.again;
-  retrim = g ∙ p.retrim;
-  complete = h ∙ p.complete;
+  limits = c ∙ p.limits;
+  again = d ∙ p.again;
+  retrim = e ∙ p.retrim;
+  complete = f ∙ p.complete;
 }
 
 module _ (sector : ℕ) (o : Options) (h : AreInRange sector o) where
@@ -166,14 +164,14 @@ cluster_keeps : (s : ℕ) (o o' : Options) (m : Option ℕ)
 cluster_keeps s o o' m =
     value_keeps s o o' (λ n. record o { cluster_sectors = Some n }) (option_and_then (within_range 1 65536) m)
     (λ n. refl) (λ n p h. with_sectors s o h n (within_count m n p)) (λ n. or_false o.quiet)
-    (λ n. still_plain o (record o { cluster_sectors = Some n }) refl refl refl refl refl refl refl refl)
+    (λ n. still_plain o (record o { cluster_sectors = Some n }) refl refl refl refl refl refl)
 
 input_keeps : (s : ℕ) (o o' : Options) (v : Option (List ℕ))
     → option_map (λ n. record o { input_position = n }) (size_by s v) ≡ Some o' → Keeps s o false o'
 input_keeps s o o' v =
     value_keeps s o o' (λ n. record o { input_position = n }) (size_by s v) (λ n. refl)
     (λ n p h. with_input s o h n (size_by_below s v n p)) (λ n. or_false o.quiet)
-    (λ n. still_plain o (record o { input_position = n }) refl refl refl refl refl refl refl refl)
+    (λ n. still_plain o (record o { input_position = n }) refl refl refl refl refl refl)
 
 skips_keep : (s : ℕ) (o o' : Options) (v : Option (List ℕ))
     → option_map (λ (k : ℕ × ℕ). record o { skip = k.0; skip_max = k.1 }) (option_and_then (skips_of s) v) ≡ Some o'
@@ -183,7 +181,7 @@ skips_keep s o o' v =
     λ k p. let t = then_part (skips_of s) v k p in skips_of_are s t.0 k t.2 in
     value_keeps s o o' (λ (k : ℕ × ℕ). record o { skip = k.0; skip_max = k.1 }) (option_and_then (skips_of s) v)
     (λ k. refl) (λ k p h. with_skips s o h k.0 k.1 (ordered k p)) (λ k. or_false o.quiet)
-    (λ k. still_plain o (record o { skip = k.0; skip_max = k.1 }) refl refl refl refl refl refl refl refl)
+    (λ k. still_plain o (record o { skip = k.0; skip_max = k.1 }) refl refl refl refl refl refl)
 
 retries_keep : (s : ℕ) (o o' : Options) (m : Option ℕ)
     → option_map (λ n. record o { retries = n }) (option_and_then (within_range 0 65535) m) ≡ Some o'
@@ -191,13 +189,13 @@ retries_keep : (s : ℕ) (o o' : Options) (m : Option ℕ)
 retries_keep s o o' m =
     value_keeps s o o' (λ n. record o { retries = n }) (option_and_then (within_range 0 65535) m) (λ n. refl)
     (λ n p h. with_retries s o h n (in_range 0 65535 m n p).1) (λ n. or_false o.quiet)
-    (λ n. still_plain o (record o { retries = n }) refl refl refl refl refl refl refl refl)
+    (λ n. still_plain o (record o { retries = n }) refl refl refl refl refl refl)
 
 length_keeps : (s : ℕ) (o o' : Options) (m : Option ℕ) → option_map (λ n. record o { size = Some n }) m ≡ Some o'
     → Keeps s o false o'
 length_keeps s o o' m =
     value_keeps s o o' (λ n. record o { size = Some n }) m (λ n. refl) (λ n p h. h) (λ n. or_false o.quiet)
-    (λ n. still_plain o (record o { size = Some n }) refl refl refl refl refl refl refl refl)
+    (λ n. still_plain o (record o { size = Some n }) refl refl refl refl refl refl)
 
 rows_keep : EachRow RowKeeps option_rows
 rows_keep = (
@@ -211,27 +209,27 @@ rows_keep = (
         (
           (λ s o o' v. lifted s o o' false (Some (record o.rescue { no_scrape = true }))
               (λ n. alone s o.rescue n (record o.rescue { no_scrape = true }) refl (λ h. h) refl
-              (λ p. still_plain o.rescue (record o.rescue { no_scrape = true }) refl refl refl refl refl refl refl refl p))),
+              (λ p. still_plain o.rescue (record o.rescue { no_scrape = true }) refl refl refl refl refl refl p))),
           (
             (λ s o o' v. lifted s o o' false (Some (record o.rescue { no_trim = true }))
                 (λ n. alone s o.rescue n (record o.rescue { no_trim = true }) refl (λ h. h) refl
-                (λ p. still_plain o.rescue (record o.rescue { no_trim = true }) refl refl refl refl refl refl refl refl p))),
+                (λ p. still_plain o.rescue (record o.rescue { no_trim = true }) refl refl refl refl refl refl p))),
             (
               (λ s o o' v. lifted s o o' true (Some (record o.rescue { quiet = true }))
                   (λ n. flag_keeps s o.rescue n true (record o.rescue { quiet = true }) refl (λ h. h) (or_true o.rescue.quiet)
-                  (λ p. still_plain o.rescue (record o.rescue { quiet = true }) refl refl refl refl refl refl refl refl p))),
+                  (λ p. still_plain o.rescue (record o.rescue { quiet = true }) refl refl refl refl refl refl p))),
               (
                 (λ s o o' v. lifted s o o' false _ (λ n. retries_keep s o.rescue n (number_by v))),
                 (
                   (λ s o o' v. lifted s o o' false (Some (record o.rescue { reverse = true }))
                       (λ n. alone s o.rescue n (record o.rescue { reverse = true }) refl (λ h. h) refl
-                      (λ p. still_plain o.rescue (record o.rescue { reverse = true }) refl refl refl refl refl refl refl refl p))),
+                      (λ p. still_plain o.rescue (record o.rescue { reverse = true }) refl refl refl refl refl refl p))),
                   (
                     (λ s o o' v. lifted s o o' false _ (λ n. length_keeps s o.rescue n (size_by s v))),
                     (
                       (λ s o o' v. lifted s o o' false (Some (record o.rescue { unidirectional = true }))
                           (λ n. alone s o.rescue n (record o.rescue { unidirectional = true }) refl (λ h. h) refl
-                          (λ p. still_plain o.rescue (record o.rescue { unidirectional = true }) refl refl refl refl refl refl refl refl p))),
+                          (λ p. still_plain o.rescue (record o.rescue { unidirectional = true }) refl refl refl refl refl refl p))),
                       tt,
                     ),
                   ),
@@ -303,9 +301,7 @@ none_plain : (n : ℕ) → ArePlain (no_rescue_options n)
 none_plain n = record {
   rate = refl;
   output = refl;
-  errors = refl;
-  areas = refl;
-  time = refl;
+  limits = refl;
   again = refl;
   retrim = refl;
   complete = refl;

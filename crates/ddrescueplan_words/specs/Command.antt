@@ -9,6 +9,7 @@ use Rattle.option_words.specs.declared.fault.UsageFault.TheVariants.{BadValue, O
 use Rattle.option_values.specs.declared.command_error.CommandError.{CommandError}
 use Rattle.option_values.specs.Values.{is_empty_text, last_of, size_by, within_range, word_in}
 use Rattle.option_values.specs.Grammar.{Grammar, AreOptionsOf, AskFor, AreRefusedBy, AskSilence, IsErrorBy}
+use Rattle.run_options.specs.Limits.{no_limits}
 use Rattle.ddrescue_words.specs.declared.options.Options.{Options}
 use Rattle.ddrescue_words.specs.Asking.{is_too_large, AreInLimits as AreRescueLimits}
 use Rattle.ddrescueplan_words.specs.declared.options.PlanOptions.{PlanOptions}
@@ -90,9 +91,7 @@ AskQuiet words = AskSilence plan_grammar words
 pub record ArePlain (o : Options) : Type 0 where
   pub rate : o.min_rate ≡ 0
   pub output : o.output_position ≡ None
-  pub errors : o.max_read_errors ≡ None
-  pub areas : o.max_bad_areas ≡ None
-  pub time : o.timeout ≡ None
+  pub limits : o.limits ≡ no_limits
   pub again : o.try_again ≡ false
   pub retrim : o.retrim ≡ false
   pub complete : o.complete_only ≡ false

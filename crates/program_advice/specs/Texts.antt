@@ -5,7 +5,7 @@ use Rattle.program_advice.specs.declared.cause.Role.TheVariants.{Infile, Pattern
 use Rattle.program_advice.specs.declared.cause.Doing.{Doing}
 use Rattle.program_advice.specs.declared.cause.Doing.TheVariants.{Open, Read, Write, Sync, Remove}
 use Rattle.program_advice.specs.declared.cause.Fact.{Fact}
-use Rattle.program_advice.specs.declared.cause.Fact.TheVariants.{InUse, NotApart, DraftNotApart, NotRegular, NeedsForce, Absent, Exists, Empty, NoMap, Replaced}
+use Rattle.program_advice.specs.declared.cause.Fact.TheVariants.{InUse, Mounted, NotApart, DraftNotApart, NotRegular, NeedsForce, Absent, Exists, Empty, NoMap, Replaced}
 use Rattle.program_advice.specs.declared.cause.Stream.{Stream}
 use Rattle.program_advice.specs.declared.cause.Stream.TheVariants.{Input, Output}
 use Rattle.program_advice.specs.declared.cause.Hint.{Hint}
@@ -35,6 +35,7 @@ doing_text Remove = codes "cannot remove "
 -- the text on a file that follows its name
 abbrev pub fact_text : Fact → List ℕ
 fact_text InUse = codes " is in use by another rescue"
+fact_text Mounted = codes " is mounted, or a partition of it is: unmount it first"
 fact_text NotApart = codes " is the infile or the outfile by another name"
 fact_text DraftNotApart = codes " or its draft (.tmp) is the infile or the outfile by another name"
 fact_text NotRegular = codes " isn't a regular file"

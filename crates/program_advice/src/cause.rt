@@ -37,6 +37,8 @@ pub enum Doing {
 pub enum Fact {
     /// Another rescue has locked the file.
     InUse,
+    /// The file is a device that is mounted, or of which a partition is.
+    Mounted,
     /// The file is the infile or the outfile.
     NotApart,
     /// The file or its draft is the infile or the outfile.

@@ -44,6 +44,12 @@ fn image_cause<'a>(doing: Doing, error: &io::Error, files: SiteFiles<'a>) -> Cau
             fact: Fact::InUse,
         };
     }
+    if is_own(error, ErrorKind::PermissionDenied) {
+        return Cause::File {
+            file,
+            fact: Fact::Mounted,
+        };
+    }
     if is_full(error) {
         return Cause::Full {
             file,

@@ -42,6 +42,7 @@ pub(crate) fn fact_text(fact: Fact) -> &'static str
 {
     match fact {
         Fact::InUse => " is in use by another rescue",
+        Fact::Mounted => " is mounted, or a partition of it is: unmount it first",
         Fact::NotApart => " is the infile or the outfile by another name",
         Fact::DraftNotApart => {
             " or its draft (.tmp) is the infile or the outfile by another name"

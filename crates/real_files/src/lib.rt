@@ -1,8 +1,9 @@
-//! What the forms for real files use: reads and writes at a place, what is read ahead, what an error means, and which
-//! file a name reaches.
+//! What the forms for real files use: reads and writes at a place, what is read ahead, what an error means, which file
+//! a name reaches, and whether a device is mounted.
 #![tactic(auto)]
 
 pub mod file_cursor;
 pub mod identity;
+pub mod mounts;
 pub mod outcome;
 pub mod read_ahead;

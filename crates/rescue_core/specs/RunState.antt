@@ -67,10 +67,7 @@ setting_with settings domain names line = record {
   retries = settings.retries;
   reverse = settings.reverse;
   one_way = settings.one_way;
-  max_errors = settings.max_errors;
-  max_areas = settings.max_areas;
-  new_areas = settings.new_areas;
-  timeout = settings.timeout;
+  limits = settings.limits;
   verbose = false;
 }
 

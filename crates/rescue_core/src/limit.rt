@@ -9,6 +9,7 @@ use crate::settings::Settings;
 use crate::state::Tally;
 use rescue_rules::report::Counts;
 use rescue_rules::stop::Limit;
+use run_options::limits::AreaLimit;
 
 /// Whether a number is beyond a limit, if there is one.
 fn exceeds(limit: Option<u64>, number: u64) -> bool
@@ -25,10 +26,10 @@ fn has_too_many(settings: &Settings, tally: Tally, areas: u64) -> bool
     ensures { (r : RunState) → r.settings ≡ settings.now → tally ≡ tally_of r.machine
         → result ≡ exceeds (areas_allowed (setting_in r) r.machine) areas }
 {
-    match settings.max_areas {
+    match settings.limits.areas {
         None => false,
-        Some(most) if settings.new_areas => tally.first_areas.saturating_add(most) < areas,
-        Some(most) => most < areas,
+        Some(AreaLimit::Total(most)) => most < areas,
+        Some(AreaLimit::New(more)) => tally.first_areas.saturating_add(more) < areas,
     }
 }
 
@@ -38,7 +39,7 @@ fn late(settings: &Settings, tally: Tally) -> Option<Limit>
         → result ≡ (if exceeds (time_allowed (setting_in r)) (r.machine.now - r.machine.whole_at)
         then Some (TimedOut (r.machine.now - r.machine.whole_at)) else None) }
 {
-    let seconds = settings.timeout?;
+    let seconds = settings.limits.timeout?;
     let idle = tally.now.saturating_sub(tally.whole_at);
     if seconds.saturating_mul(1000) < idle {
         Some(Limit::TimedOut(idle))
@@ -54,7 +55,7 @@ pub(crate) fn limit_met(settings: &Settings, tally: Tally, counts: Counts) -> Op
 {
     if tally.said.is_none() {
         None
-    } else if exceeds(settings.max_errors, tally.failed) {
+    } else if exceeds(settings.limits.errors, tally.failed) {
         Some(Limit::TooManyErrors(tally.failed))
     } else if has_too_many(settings, tally, counts.failed.areas) {
         Some(Limit::TooManyAreas(counts.failed.areas))

@@ -1,5 +1,7 @@
 //! What a run has to know of its options.
 
+use run_options::limits::Limits;
+
 /// What a run is asked to do. Sizes and positions are in bytes.
 #[derive(Clone, Copy, Debug, PartialEq, Eq)]
 pub struct Settings {
@@ -17,13 +19,8 @@ pub struct Settings {
     pub min_rate: u64,
     /// How often the bad sectors are read again.
     pub retries: u32,
-    /// How many reads may fail, if that is limited.
-    pub max_errors: Option<u64>,
-    /// How many areas may have failed, if that is limited; and whether those that were there at first come on top.
-    pub max_areas: Option<u64>,
-    pub new_areas: bool,
-    /// For how many seconds there may be no read but failed ones, if that is limited.
-    pub timeout: Option<u64>,
+    /// What may fail, and for how long, before it stops.
+    pub limits: Limits,
     pub no_trim: bool,
     pub no_scrape: bool,
     /// Passes go the other way.

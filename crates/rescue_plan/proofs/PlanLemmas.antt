@@ -135,7 +135,7 @@ module _ (s : Setting) (u : IsUnlimited s) (test : List Status) where
 
 -- what options of a plan ask for has no limit, and no read is slow
 pub unlimited : (o : Options) (n : ℕ) → ArePlain o → IsUnlimited (plan_setting o n)
-unlimited o n are = record { rate = are.rate; errors = are.errors; areas = are.areas; time = are.time }
+unlimited o n are = record { rate = are.rate; limits = are.limits }
 
 pub begin_with : (o : Options) (n : ℕ) (test : List Status) (first reads : List PlannedRead) → ArePlain o
     → BeginsPlan (plan_setting o n) n test first → IsPlan (plan_setting o n) n test reads → BeginWith first reads
@@ -208,7 +208,7 @@ all_seen test (r ∷ raw) whole on =
 pub rescues_are_planned : RescuesArePlanned
 rescues_are_planned c line n time test raw es are k =
     let s : Setting = setting_of c line n (record { domain = None; test = None; listed = None }) in
-    let u : IsUnlimited s = record { rate = are.rate; errors = are.errors; areas = are.areas; time = are.time } in
+    let u : IsUnlimited s = record { rate = are.rate; limits = are.limits } in
     let run : IsRun s (start_of_run s n time) es =
     subst (λ (map : List Status). IsRun s (machine_over s map None time) es) k.fresh.map_is k.run in
     let seen_all : All (IsPlannedIn test) (reads_of es) =

@@ -1,22 +1,22 @@
 -- Runs in which reads give as much, whatever bytes, go the same way at whatever times, where no read is slow and there is
 -- no limit.
-use Rattle.std.proofs.Common.{◌≡◌, ℕ, ◌+◌, ◌-◌, ◌*◌, min, Bool, true, false, not, cond, ◌&&◌, ◌||◌, nat_eq, nat_le, nat_lt, ◌≤◌, is_none, List, [], ◌∷◌, length, drop, Option, Some, None, if◌then◌else◌, refl, sym, ap, subst, ◌∙◌, arith}
+use Rattle.std.proofs.Common.{◌≡◌, ℕ, ◌+◌, ◌-◌, ◌*◌, min, Bool, true, false, not, cond, ◌&&◌, ◌||◌, nat_eq, nat_le, nat_lt, ◌≤◌, is_none, List, [], ◌∷◌, length, drop, Some, None, if◌then◌else◌, refl, sym, ap, subst, ◌∙◌, arith}
 use Rattle.std.proofs.lemmas.Bool.Decides.{nat_tests}
 use Rattle.std.proofs.lemmas.Bool.{and_parts}
 use Rattle.std.proofs.lemmas.List.Elements.{All-nil, All-cons}
+use Rattle.run_options.specs.Limits.{no_limits}
 use Rattle.block_list.specs.declared.status.Status.{Status}
 use Rattle.block_list.specs.declared.status.Status.TheVariants.{Finished}
 use Rattle.block_list.specs.Map.{marked}
 use Rattle.faulty_source.specs.Journal.{Reading, floor}
 use Rattle.rescue_rules.specs.declared.stop.TrimMode.TheVariants.{Lead}
-use Rattle.rescue_rules.specs.declared.stop.Limit.{Limit}
-use Rattle.rescue_rules.specs.declared.stop.Limit.TheVariants.{TooManyErrors, TooManyAreas, TimedOut}
 use Rattle.rescue_rules.specs.Setting.{Setting}
 use Rattle.rescue_rules.specs.Passes.{Pass, is_up}
 use Rattle.rescue_rules.specs.Beginning.{nothing_shown}
 use Rattle.rescue_rules.specs.Machine.{Machine, pass_of, is_wanted, IsRequest, has_request}
-use Rattle.rescue_rules.specs.Step.{Event, is_copying, is_trimming, is_slow, rest_status, scraped, earlier, mode_after, step, limit_met, exceeds, areas_allowed, areas_of, time_allowed}
+use Rattle.rescue_rules.specs.Step.{Event, is_copying, is_trimming, is_slow, rest_status, scraped, earlier, mode_after, step, limit_met}
 use Rattle.rescue_rules.specs.Moves.{begun, at_next, ready, move_of, moves, state_after, IsMove, IsRun, no_pass_left, has_ended}
+use Rattle.rescue_rules.proofs.LimitLemmas.{none_met}
 use Rattle.rescue_rules.proofs.MoveLemmas.{run_first, run_rest}
 use Rattle.rescue_core.specs.RunState.{names_in}
 
@@ -27,9 +27,7 @@ plain s = record s { infile = []; outfile = []; has_mapfile = false; names = nam
 -- no read is slow, and there is no limit
 pub record IsUnlimited (s : Setting) : Type 0 where
   pub rate : s.min_rate ≡ 0
-  pub errors : s.max_errors ≡ None
-  pub areas : s.max_areas ≡ None
-  pub time : s.timeout ≡ None
+  pub limits : s.limits ≡ no_limits
 
 -- a state without its times and counts, of which no request depends
 abbrev pub quiet : Machine → Machine
@@ -44,32 +42,6 @@ quiet m = record m {
   said = None;
   first_areas = 0;
 }
-
--- ---- no limit is met
-
-beyond_none : (limit : Option ℕ) (n : ℕ) → limit ≡ None → exceeds limit n ≡ false
-beyond_none None n is = refl
-beyond_none (Some k) n is = absurd (cc)
-
-unmet : (first errors areas time : Bool) (a b c : Limit) → errors ≡ false → areas ≡ false → time ≡ false
-    → cond first None (cond errors (Some a) (cond areas (Some b) (cond time (Some c) None))) ≡ None
-unmet true errors areas time a b c e f g = refl
-unmet false true areas time a b c e f g = absurd (cc)
-unmet false false true time a b c e f g = absurd (cc)
-unmet false false false true a b c e f g = absurd (cc)
-unmet false false false false a b c e f g = refl
-
-pub no_limit : (s : Setting) (m : Machine) → IsUnlimited s → limit_met s m ≡ None
-no_limit s m u =
-    let errors : exceeds s.max_errors m.failed ≡ false = beyond_none s.max_errors m.failed u.errors in
-    let allowed : areas_allowed s m ≡ None = rw u.areas refl in
-    let areas : exceeds (areas_allowed s m) (areas_of s m) ≡ false =
-    beyond_none (areas_allowed s m) (areas_of s m) allowed in
-    let time : exceeds (time_allowed s) (m.now - m.whole_at) ≡ false =
-    beyond_none (time_allowed s) (m.now - m.whole_at) (rw u.time refl) in
-    unmet (is_none m.said) (exceeds s.max_errors m.failed) (exceeds (areas_allowed s m) (areas_of s m))
-    (exceeds (time_allowed s) (m.now - m.whole_at)) (TooManyErrors m.failed) (TooManyAreas (areas_of s m))
-    (TimedOut (m.now - m.whole_at)) errors areas time
 
 -- ---- requests
 
@@ -198,7 +170,7 @@ module _ (s : Setting) (u : IsUnlimited s) where
   step_alike : (m k : Machine) (e f : Event) → quiet k ≡ quiet m → SameShape e.reading f.reading
       → quiet (step (plain s) k f) ≡ quiet (step s m e)
   step_alike m k e f same shape =
-      let v : IsUnlimited (plain s) = record { rate = u.rate; errors = u.errors; areas = u.areas; time = u.time } in
+      let v : IsUnlimited (plain s) = record { rate = u.rate; limits = u.limits } in
       let slow : is_slow (plain s) f ≡ is_slow s e = slow_never (plain s) f v ∙ sym (slow_never s e u) in
       step_by (plain s) k f
       ∙ sym (after_quiet (plain s) k f.reading.pos f.reading.asked (length f.reading.given) f.reading.ended
@@ -233,8 +205,7 @@ module _ (s : Setting) (u : IsUnlimited s) where
             (subst (λ (n : ℕ). IsRequest (plain s) (ready (plain s) k) e'.pos (e'.pos + n)) (sym shape.asked)
             (request_alike (ready s m) (ready (plain s) k) e'.pos (e'.pos + e'.asked) at move.request));
         few = omega (arith, move.few, shape.given, shape.asked);
-        within = no_limit (plain s) (ready (plain s) k)
-            (record { rate = u.rate; errors = u.errors; areas = u.areas; time = u.time });
+        within = none_met (plain s) (ready (plain s) k) u.limits;
       }
 
   -- and lead to states that differ in these alone
@@ -272,6 +243,5 @@ module _ (s : Setting) (u : IsUnlimited s) where
       let passes : (ready (plain s) k).passes ≡ (ready s m).passes =
       ap (λ (x : Machine). x.passes) (ready_alike m k same) in
       let left : no_pass_left (ready (plain s) k).passes ≡ true = ap no_pass_left passes ∙ p.0 in
-      let none : limit_met (plain s) k ≡ None =
-      no_limit (plain s) k (record { rate = u.rate; errors = u.errors; areas = u.areas; time = u.time }) in
+      let none : limit_met (plain s) k ≡ None = none_met (plain s) k u.limits in
       rw left (ap is_none none)

@@ -1,5 +1,6 @@
 -- What the definitions mean.
 use Rattle.std.specs.Prelude.{◌≡◌, ℕ, ◌<◌, true, IsTrue, List, ◌++◌, length, map, All, None}
+use Rattle.run_options.specs.Limits.{no_limits}
 use Rattle.block_list.specs.declared.status.Status.{Status}
 use Rattle.faulty_source.specs.Journal.{Reading, is_whole}
 use Rattle.rescue_domain.specs.Testing.{seen}
@@ -60,9 +61,7 @@ pub record RescueReads (c : RescueCommand) (line : List ℕ) (length time : ℕ)
 -- no option sets a limit, and no read is slow
 pub record AreUnlimited (o : Options) : Type 0 where
   pub rate : o.min_rate ≡ 0
-  pub errors : o.max_read_errors ≡ None
-  pub areas : o.max_bad_areas ≡ None
-  pub time : o.timeout ≡ None
+  pub limits : o.limits ≡ no_limits
 
 -- The rescue's reads are the first ones of the plan for its options, and all of it if no request is left.
 pub record RescueIsPlanned (c : RescueCommand) (line : List ℕ) (length time : ℕ) (test : List Status)

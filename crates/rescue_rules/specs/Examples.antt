@@ -1,6 +1,7 @@
 -- Small runs, computed.
 use Rattle.std.specs.Prelude.{◌≡◌, ℕ, ◌+◌, true, false, nat_lt, List, [], ◌∷◌, map, replicate, None}
 use Rattle.block_list.specs.declared.status.Status.TheVariants.{NonTried, BadSector, Finished}
+use Rattle.run_options.specs.Limits.{no_limits}
 use Rattle.rescue_rules.specs.Setting.{Setting}
 use Rattle.rescue_rules.specs.declared.phase.Phase.TheVariants.{Copying}
 use Rattle.rescue_rules.specs.Passes.{Pass, numbered}
@@ -34,10 +35,7 @@ small end cluster skip = record {
   retries = 0;
   reverse = false;
   one_way = false;
-  max_errors = None;
-  max_areas = None;
-  new_areas = false;
-  timeout = None;
+  limits = no_limits;
   verbose = false;
 }
 

@@ -1,5 +1,6 @@
 -- What a rescue is asked to do.
-use Rattle.std.specs.Prelude.{ℕ, ◌+◌, ◌-◌, ◌*◌, ◌^◌, ◌<◌, ◌≤◌, ◌≡◌, Bool, true, List, Option}
+use Rattle.std.specs.Prelude.{ℕ, ◌+◌, ◌-◌, ◌*◌, ◌^◌, ◌<◌, ◌≤◌, ◌≡◌, Bool, true, List}
+use Rattle.run_options.specs.declared.limits.Limits.{Limits}
 use Rattle.save_resume.specs.MapNames.{MapNames}
 
 -- What the words of a rescue ask for, once its input's length is known. Sizes and positions are in bytes.
@@ -35,12 +36,8 @@ pub record Setting : Type 0 where
   pub retries : ℕ
   pub reverse : Bool
   pub one_way : Bool
-  -- how many reads may fail; how many areas there may be that failed, and whether those that were there at first come
-  -- on top; and for how many seconds there may be no read but failed ones
-  pub max_errors : Option ℕ
-  pub max_areas : Option ℕ
-  pub new_areas : Bool
-  pub timeout : Option ℕ
+  -- what may fail, and for how long, before it stops
+  pub limits : Limits
   -- whether a first line says how much is asked for
   pub verbose : Bool
 

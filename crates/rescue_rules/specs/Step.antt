@@ -1,6 +1,8 @@
 -- What a read changes: the marks, the mode of trimming, the cursor and the skip, the counts and the times, what is left
 -- of the domain, and the line that was put last.
 use Rattle.std.specs.Prelude.{ℕ, ◌+◌, ◌-◌, ◌*◌, ◌/◌, min, Bool, true, false, ◌&&◌, ◌||◌, not, is_none, nat_le, nat_lt, List, length, Option, Some, None, option_map, if◌then◌else◌}
+use Rattle.run_options.specs.declared.limits.AreaLimit.{AreaLimit}
+use Rattle.run_options.specs.declared.limits.AreaLimit.TheVariants.{New, Total}
 use Rattle.block_list.specs.declared.status.Status.{Status}
 use Rattle.block_list.specs.declared.status.Status.TheVariants.{NonTrimmed, NonScraped, BadSector, Finished}
 use Rattle.block_list.specs.Map.{marked}
@@ -137,20 +139,25 @@ exceeds (Some limit) n = nat_lt limit n
 abbrev pub areas_of : Setting → Machine → ℕ
 areas_of s m = (counts_of (is_live s m) m.map).failed.areas
 
--- how many areas may have failed, if there is a limit: where new ones alone count, those at the start come on top
+-- how many areas may have failed by a limit: if new ones alone count, those that had failed at first come on top
+abbrev pub allowed_by : (first : ℕ) → AreaLimit → ℕ
+allowed_by first (Total n) = n
+allowed_by first (New n) = first + n
+
+-- how many may have failed, if there is a limit
 abbrev pub areas_allowed : Setting → Machine → Option ℕ
-areas_allowed s m = option_map (λ n. if s.new_areas then m.first_areas + n else n) s.max_areas
+areas_allowed s m = option_map (allowed_by m.first_areas) s.limits.areas
 
 -- how many milliseconds there may be no read but failed ones, if there is a limit
 abbrev pub time_allowed : Setting → Option ℕ
-time_allowed s = option_map (λ n. n * 1000) s.timeout
+time_allowed s = option_map (λ n. n * 1000) s.limits.timeout
 
 -- The limit that a state has met: too many failed reads, or else too many areas, or else too long without a read that
 -- didn't fail. Before the first event, which has its line, there is none.
 abbrev pub limit_met : Setting → Machine → Option Limit
 limit_met s m =
     if is_none m.said then None
-    else if exceeds s.max_errors m.failed then Some (TooManyErrors m.failed)
+    else if exceeds s.limits.errors m.failed then Some (TooManyErrors m.failed)
     else if exceeds (areas_allowed s m) (areas_of s m) then Some (TooManyAreas (areas_of s m))
     else if exceeds (time_allowed s) (m.now - m.whole_at) then Some (TimedOut (m.now - m.whole_at))
     else None

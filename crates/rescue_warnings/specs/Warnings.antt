@@ -55,7 +55,7 @@ advice_said front names (OtherSector n b) =
     (codes " B, and option -b takes them for ")) b (codes " B: give option -b ")) n []
 advice_said front names MountedInfile = infile_said front names (codes " is mounted for writing: unmount it")
 advice_said front names MountedOutfile =
-    outfile_said front names (codes " is mounted: unmount it, or its file system will be damaged")
+    outfile_said front names (codes " is mounted: unmount it")
 advice_said front names (LongPlan e n) =
     number_said (number_said (mapfile_said (front ++ codes "test ") names (codes " ends at ")) e
     (codes ", and nothing past it can be read: the plan has at least ")) n (codes " reads; a smaller length or option -n makes fewer")

@@ -4,6 +4,5 @@
 pub mod advice;
 pub mod facts;
 pub mod look;
-mod mounts;
 pub mod tail;
 pub mod warning;

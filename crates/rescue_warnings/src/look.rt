@@ -1,24 +1,17 @@
 //! What is read of files before a run, without changing anything. No contract says what a file holds: what couldn't be
 //! read, or isn't understood, isn't known.
 use crate::facts::{Found, Mount};
-use crate::mounts::find_mount;
+use real_files::mounts::{MountLine, device_text, find_mount, read_mounts};
 use real_files::outcome::if_there;
 use std::fs::{self, Metadata};
 use std::os::unix::fs::{FileTypeExt, MetadataExt};
 use std::path::Path;
 
-/// The table of mounts.
-const MOUNTS: &str = "/proc/self/mountinfo";
-
 /// The unit in which the kernel tells a device's length, in bytes.
 const UNIT: u64 = 512;
 
-/// The numbers of a device as the kernel prints them, as `8:1`.
-fn device_text(rt: &HostRuntime, number: u64) -> Option<String> {
-    let major = (number >> 32) & 0xFFFF_F000 | (number >> 8) & 0xFFF;
-    let minor = (number >> 12) & 0xFFFF_FF00 | number & 0xFF;
-    format!(in rt.alloc(); "{major}:{minor}").ok()
-}
+/// The kinds of file systems that have no journal.
+const WITHOUT_JOURNAL: [&str; 4] = ["vfat", "msdos", "exfat", "ext2"];
 
 /// The number that a file holds.
 fn number_in(rt: &HostRuntime, name: &str) -> Option<u64> {
@@ -32,16 +25,20 @@ fn device_number(rt: &HostRuntime, device: &str, what: &str) -> Option<u64> {
     number_in(rt, name.as_str())
 }
 
-/// How a device is mounted, if it is known to be.
+/// How a device is mounted, if it is known to be. Whoever mounts it once more mounts it alike.
 fn mount_of(rt: &HostRuntime, device: &str) -> Option<Mount> {
-    let table = fs::read_to_string(rt, MOUNTS).ok()?;
-    let line = find_mount(table.as_str(), device)?;
-    Some(line.mount())
+    let table = read_mounts(rt).ok()??;
+    let line = find_mount(table.as_slice(), device)?;
+    if line.options == "rw" || line.options.starts_with("rw,") {
+        Some(Mount::Writable)
+    } else {
+        Some(Mount::ReadOnly)
+    }
 }
 
 /// What is known of a block device with this number. A partition has the sectors of its disk.
 fn look_at_device(rt: &HostRuntime, number: u64) -> Option<Found> {
-    let text = device_text(rt, number)?;
+    let text = device_text(rt, number).ok()?;
     let device = text.as_str();
     let length = match device_number(rt, device, "size") {
         Some(units) => units.checked_mul(UNIT),
@@ -94,19 +91,29 @@ fn folder_of(rt: &HostRuntime, name: &str) -> Option<Metadata> {
     fs::metadata(rt, folder).ok()
 }
 
+/// Whether a mount's file system is known to have no journal.
+fn lacks_journal(mount: MountLine<'_>) -> bool {
+    for kind in &WITHOUT_JOURNAL {
+        if mount.kind == *kind {
+            return true;
+        }
+    }
+    false
+}
+
 /// Whether a name is known to lie on a file system without a journal.
 pub fn has_no_journal(rt: &HostRuntime, name: &str) -> bool {
     let Some(folder) = folder_of(rt, name) else {
         return false;
     };
-    let Some(device) = device_text(rt, folder.dev()) else {
+    let Ok(device) = device_text(rt, folder.dev()) else {
         return false;
     };
-    let Ok(table) = fs::read_to_string(rt, MOUNTS) else {
+    let Ok(Some(table)) = read_mounts(rt) else {
         return false;
     };
-    match find_mount(table.as_str(), device.as_str()) {
-        Some(line) => line.has_no_journal(),
+    match find_mount(table.as_slice(), device.as_str()) {
+        Some(mount) => lacks_journal(mount),
         None => false,
     }
 }

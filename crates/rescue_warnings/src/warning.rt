@@ -132,7 +132,7 @@ fn say(line: &mut Line, names: Names<'_>, advice: Advice)
             line,
             "outfile ",
             names.outfile,
-            " is mounted: unmount it, or its file system will be damaged",
+            " is mounted: unmount it",
         ),
         Advice::LongPlan { end, reads } => {
             add(line, "test ");

@@ -51,8 +51,6 @@ fn an_image_and_a_mapfile_are_kept(rt: HostRuntime) -> Result<(), Fail> {
         assert_eq!(rt; site.map_read(map, 1, &mut buf)?, MapRead::Bytes(2));
         assert!(rt; buf.starts_with(&text[1..]));
     }
-    // The mapfile stays locked until this site is dropped.
-    site = FolderSite::new(rt.clone()?);
     site.map_remove(map)?;
     assert_eq!(rt; site.map_read(map, 1, &mut buf)?, MapRead::Absent);
     fs::remove_dir_all(&rt, folder.as_path())?;

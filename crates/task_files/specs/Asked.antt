@@ -74,10 +74,7 @@ setting_asked infile outfile names line o end maps = record {
   retries = o.retries;
   reverse = o.reverse;
   one_way = o.unidirectional;
-  max_errors = o.max_read_errors;
-  max_areas = o.max_bad_areas;
-  new_areas = o.new_areas;
-  timeout = o.timeout;
+  limits = o.limits;
   verbose = o.verbose;
 }
 

@@ -9,10 +9,11 @@ use crate::folder::names::{folder_for, folder_of, open_with, sync_both};
 use crate::site::ImageKind;
 use real_files::file_cursor::put;
 use real_files::identity::{Identity, OpenInput};
+use real_files::mounts::is_mounted;
 use real_files::outcome::{if_there, not_held};
 use real_files::read_ahead::ReadAhead;
-use std::fs::{self, File, OpenOptions};
-use std::io::{self, Write};
+use std::fs::{self, File, Metadata, OpenOptions};
+use std::io::{self, ErrorKind, Write};
 
 /// An open image, and the folder in which it lies, if that could be opened.
 #[derive(Drop)]
@@ -40,6 +41,14 @@ impl OpenImage {
     }
 }
 
+/// Refuses a device whose file system is in use.
+fn check_unmounted(rt: &HostRuntime, found: &Metadata) -> io::Result<()> {
+    if is_mounted(rt, found)? {
+        return Err(ErrorKind::PermissionDenied.into());
+    }
+    Ok(())
+}
+
 /// Opens a file as the image, and its folder. None if the file is absent and isn't to be made. A missing folder is
 /// an error.
 pub(super) fn open_image(
@@ -65,6 +74,7 @@ pub(super) fn open_image(
     let found = file.metadata()?;
     let identity = Identity::of(&found);
     check_input(input, identity)?;
+    check_unmounted(rt, &found)?;
     not_held(file.try_lock())?;
     Ok(Some(OpenImage {
         folder: folder_for(rt, name, made)?,

@@ -4,7 +4,7 @@ ghost use Rattle.std.specs.Io.KnownBytes.{Consumes, IsAtEnd};
 ghost use Rattle.crash_site.specs.FileAnswers.{IsWithin};
 
 use crate::folder::apart::Apart;
-use crate::folder::held::check_free;
+use crate::folder::held::{HeldMap, check_map_free};
 use crate::site::MapRead;
 use real_files::file_cursor::{FileCursor, read_full};
 use real_files::outcome::if_there;
@@ -85,9 +85,9 @@ pub(super) fn read_map(
 }
 
 /// Removes a mapfile, but none that another run has locked.
-pub(super) fn remove_map(rt: &HostRuntime, name: &str) -> io::Result<()> {
+pub(super) fn remove_map(rt: &HostRuntime, held: &Option<HeldMap>, name: &str) -> io::Result<()> {
     if let Ok(found) = fs::metadata(rt, name) {
-        check_free(rt, name, &found)?;
+        check_map_free(rt, held, name, &found)?;
     }
     if_there(fs::remove_file(rt, name))?;
     Ok(())
