@@ -41,7 +41,8 @@ fn facts_of(rt: &HostRuntime, work: Work, command: &Command<'_>) -> Facts
     }
 }
 
-/// Puts the lines before the work of a command, unless nothing is to be said. After one that can't be put there is none.
+/// Puts the lines before the work of a command, unless nothing is to be said. After one that can't be put there is
+/// none.
 fn warn_of<P: Console>(rt: &HostRuntime, work: Work, command: &Command<'_>, console: &mut P)
     requires { AreInLimits command.now.options }
 {

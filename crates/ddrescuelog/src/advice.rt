@@ -12,10 +12,14 @@ use program_advice::site::{SiteFiles, fault_cause};
 use program_advice::usage::{Manual, line_on_words};
 use std::io;
 
+/// The line of usage.
+const USAGE: &str =
+    "ddrescuelog [options] mapfile, with one mode; 'man ddrescuelog' lists the options and names the version";
+
 /// What is told of the arguments.
 fn manual() -> Manual {
     Manual {
-        usage: "ddrescuelog [options] mapfile, with one mode; 'man ddrescuelog' lists the options and names the version",
+        usage: USAGE,
         option: "an option of this program; 'man ddrescuelog' lists them and what stands in place of those of GNU's",
         operand: "a file's name",
         rows: &ROWS,

@@ -13,10 +13,14 @@ use program_advice::site::{SiteFiles, fault_cause};
 use program_advice::usage::{Manual, line_on_words};
 use std::io;
 
+/// The line of usage.
+const USAGE: &str =
+    "ddrescueverify [options] infile outfile mapfile; 'man ddrescueverify' lists the options and names the version";
+
 /// What is told of the arguments.
 fn manual() -> Manual {
     Manual {
-        usage: "ddrescueverify [options] infile outfile mapfile; 'man ddrescueverify' lists the options and names the version",
+        usage: USAGE,
         option: "an option of this program; 'man ddrescueverify' lists them",
         operand: "a file's name",
         rows: &ROWS,

@@ -38,9 +38,11 @@ advice_said front names EmptyInfile = infile_said front names (codes " has no by
 advice_said front names (BeginsPastInfile n) = number_said (infile_said front names (codes " ends at ")) n
     (codes ", and option -i begins there or past it: there is nothing to read")
 advice_said front names NothingAsked = front ++ codes "option -s asks for 0 B"
-advice_said front names NothingListed = front ++ codes "option -C takes only what the mapfile lists, and it lists nothing"
+advice_said front names NothingListed =
+    front ++ codes "option -C takes only what the mapfile lists, and it lists nothing"
 advice_said front names (NewMapfile n) =
-    number_said (mapfile_said front names (codes " doesn't exist yet, but the outfile has ")) n (codes " B: is the mapfile's name right?")
+    number_said (mapfile_said front names (codes " doesn't exist yet, but the outfile has ")) n
+    (codes " B: is the mapfile's name right?")
 advice_said front names LinkedMapfile =
     mapfile_said front names (codes " is a link, and the first save puts a file in its place")
 advice_said front names UnsafeMapfile =
@@ -58,7 +60,8 @@ advice_said front names MountedOutfile =
     outfile_said front names (codes " is mounted: unmount it")
 advice_said front names (LongPlan e n) =
     number_said (number_said (mapfile_said (front ++ codes "test ") names (codes " ends at ")) e
-    (codes ", and nothing past it can be read: the plan has at least ")) n (codes " reads; a smaller length or option -n makes fewer")
+    (codes ", and nothing past it can be read: the plan has at least ")) n
+    (codes " reads; a smaller length or option -n makes fewer")
 advice_said front names NothingToCompare =
     mapfile_said front names (codes " calls nothing finished that is to be compared")
 advice_said front names LateMapfile =
@@ -68,7 +71,8 @@ advice_said front names EmptyDomain =
 
 -- the line of a warning: the program's name, the text, each control character as a question mark, and a newline
 abbrev pub warning_text : List ℕ → Names → Advice → List ℕ
-warning_text program names advice = map shown_byte (advice_said (program ++ codes ": warning: ") names advice) ++ 10 ∷ []
+warning_text program names advice =
+    map shown_byte (advice_said (program ++ codes ": warning: ") names advice) ++ 10 ∷ []
 
 -- the lines of warnings, as pieces for standard error
 abbrev pub warning_pieces : List ℕ → Names → List Advice → List SpokenPiece

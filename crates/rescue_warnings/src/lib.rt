@@ -1,4 +1,5 @@
-//! What a person is warned of before a run, by what the arguments name and what is read of it without changing anything.
+//! What a person is warned of before a run, by what the arguments name and what is read of it without changing
+//! anything.
 #![tactic(auto)]
 
 pub mod advice;

@@ -1,5 +1,5 @@
-//! What the last pieces of a mapfile say: where its last block ends, and its last finished one. A long mapfile isn't read
-//! a second time for it.
+//! What the last pieces of a mapfile say: where its last block ends, and its last finished one. A long mapfile isn't
+//! read a second time for it.
 ghost use Rattle.std.specs.Prelude.{◌≤◌, length, IfSome};
 
 use crate::facts::{Finished, MapText};
@@ -157,8 +157,8 @@ fn read_tail(alloc: Global, mut file: File, length: u64) -> Option<MapText> {
     })
 }
 
-/// What the mapfile of a name says, if that is known. Of a long one it reads pieces from its end, until one of them has a
-/// finished block.
+/// What the mapfile of a name says, if that is known. Of a long one it reads pieces from its end, until one of them has
+/// a finished block.
 pub fn look_at_map(rt: &HostRuntime, name: &str) -> Option<MapText> {
     let Some(found) = if_there(fs::metadata(rt, name)).ok()? else {
         return Some(MapText::NoFile);
