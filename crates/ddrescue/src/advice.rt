@@ -92,7 +92,7 @@ fn left_cause<'a>(command: &Command<'a>, last: &[u8]) -> Option<Cause<'a>> {
     }
     Some(Cause::Left {
         bytes,
-        skips: options.no_trim || options.no_scrape,
+        skips: !options.passes.trims || !options.passes.scrapes,
     })
 }
 

@@ -32,7 +32,7 @@ fn facts_of(rt: &HostRuntime, work: Work, command: &Command<'_>) -> Facts
         complete_only: options.complete_only,
         domain_map: command.domain_map.is_some(),
         domain: look_at_named(rt, command.domain_map),
-        scrapes: !options.no_trim && !options.no_scrape,
+        scrapes: options.passes.trims && options.passes.scrapes,
         infile: look_at_file(rt, command.infile),
         outfile: look_at_file(rt, command.outfile),
         map: look_at_named(rt, command.mapfile),

@@ -34,7 +34,7 @@ pub record InRange (bytes : ℕ) (sectors : Option ℕ) (first most from : ℕ) 
 
 abbrev pub AreInRange : (sector : ℕ) → Options → Type 0
 AreInRange sector o =
-    InRange sector o.cluster_sectors o.skip o.skip_max o.input_position o.output_position o.retries o.sample
+    InRange sector o.cluster_sectors o.skip o.skip_max o.input_position o.output_position o.passes.retries o.sample
 
 -- what an option keeps; `quiet` says whether it asks that nothing be said
 pub record Keeps (sector : ℕ) (o : Options) (quiet : Bool) (o' : Options) : Type 0 where
@@ -92,7 +92,7 @@ module _ (sector : ℕ) (o : Options) (h : AreInRange sector o) where
     sample = h.sample;
   }
 
-  with_retries : (n : ℕ) → n ≤ 65535 → AreInRange sector (record o { retries = n })
+  with_retries : (n : ℕ) → n ≤ 65535 → AreInRange sector (record o { passes = record o.passes { retries = n } })
   with_retries n p = record {
     sector = h.sector;
     cluster = h.cluster;
@@ -178,10 +178,10 @@ skips_keep s o o' v =
     (λ k. refl) (λ k p h. with_skips s o h k.0 k.1 (ordered k p)) (λ k. or_false o.quiet)
 
 retries_keep : (s : ℕ) (o o' : Options) (m : Option ℕ)
-    → option_map (λ n. record o { retries = n }) (option_and_then (within_range 0 65535) m) ≡ Some o'
+    → option_map (λ n. record o { passes = record o.passes { retries = n } }) (option_and_then (within_range 0 65535) m) ≡ Some o'
     → Keeps s o false o'
 retries_keep s o o' m =
-    value_keeps s o o' (λ n. record o { retries = n }) (option_and_then (within_range 0 65535) m) (λ n. refl)
+    value_keeps s o o' (λ n. record o { passes = record o.passes { retries = n } }) (option_and_then (within_range 0 65535) m) (λ n. refl)
     (λ n p h. with_retries s o h n (in_range 0 65535 m n p).1) (λ n. or_false o.quiet)
 
 sample_keeps : (s : ℕ) (o o' : Options) (v : Option (List ℕ))

@@ -12,6 +12,7 @@ pub use Rattle.option_values.specs.Values.{IsWord, empty_operand}
 use Rattle.option_values.specs.Values.{is_given, is_of, last_of, last_value, word_in}
 pub use Rattle.option_values.specs.Grammar.{Unread, Wrong, unless_empty, unread_error}
 use Rattle.option_values.specs.Grammar.{Grammar, AreOptionsOf, AskFor, AskForOnly, AreRefusedBy, AskSilence, IsRefusalBy, IsErrorBy}
+use Rattle.run_options.specs.Passes.{all_phases_once}
 use Rattle.ddrescue_words.specs.declared.options.Options.{Options}
 use Rattle.ddrescue_words.specs.declared.command.Command.{Command as CommandCode}
 use Rattle.ddrescue_words.specs.declared.command.Task.{Task as TaskCode}
@@ -44,7 +45,7 @@ sample_command = record {
   mapfile = Some (codes "map");
   domain_map = None;
   test_map = None;
-  options = record (no_options 512) { retries = 1 };
+  options = record (no_options 512) { passes = record all_phases_once { retries = 1 } };
 }
 
 -- the names of the maps that options give
@@ -220,7 +221,7 @@ pub record AreInLimits (o : Options) : Type 0 where
   pub skip_max : in_sectors o o.skip_max < 2 ^ 63
   pub input_position : o.input_position < 2 ^ 63
   pub output_position : IfSome o.output_position (λ n. n < 2 ^ 63)
-  pub retries : o.retries ≤ 65535
+  pub retries : o.passes.retries ≤ 65535
 
 -- a task asks that nothing be said
 abbrev pub is_quiet : Task → Bool

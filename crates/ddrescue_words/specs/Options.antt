@@ -10,6 +10,7 @@ use Rattle.option_values.specs.Values.{options_in as options_by}
 use Rattle.run_options.specs.declared.limits.AreaLimit.{AreaLimit}
 use Rattle.run_options.specs.declared.limits.AreaLimit.TheVariants.{New, Total}
 use Rattle.run_options.specs.Limits.{no_limits}
+use Rattle.run_options.specs.Passes.{all_phases_once}
 use Rattle.ddrescue_words.specs.declared.options.Options.{Options}
 
 -- ---- sizes in sectors
@@ -150,19 +151,20 @@ lettered_rows =
     ∷ flag 76 (codes "loose-domain") (λ o. record o { loose = true })
     ∷ valued domain_letter (codes "domain-mapfile") (λ sector o value. if is_name value then Some o else None)
     ∷ flag 77 (codes "retrim") (λ o. record o { retrim = true })
-    ∷ flag 110 (codes "no-scrape") (λ o. record o { no_scrape = true })
-    ∷ flag 78 (codes "no-trim") (λ o. record o { no_trim = true })
+    ∷ flag 110 (codes "no-scrape") (λ o. record o { passes = record o.passes { scrapes = false } })
+    ∷ flag 78 (codes "no-trim") (λ o. record o { passes = record o.passes { trims = false } })
     ∷ valued 111 (codes "output-position") (λ sector o value. option_map (λ n. record o { output_position = Some n })
     (size_by sector value))
     ∷ flag quiet_letter (codes "quiet") (λ o. record o { quiet = true })
-    ∷ valued 114 (codes "retry-passes") (λ sector o value. option_map (λ n. record o { retries = n })
+    ∷ valued 114 (codes "retry-passes")
+    (λ sector o value. option_map (λ n. record o { passes = record o.passes { retries = n } })
     (option_and_then (within_range 0 65535) (number_by value)))
-    ∷ flag 82 (codes "reverse") (λ o. record o { reverse = true })
+    ∷ flag 82 (codes "reverse") (λ o. record o { passes = record o.passes { reverse = true } })
     ∷ valued 115 (codes "size") (λ sector o value. option_map (λ n. record o { size = Some n }) (size_by sector value))
     ∷ valued 84 (codes "timeout")
     (λ sector o value. option_map (λ n. record o { limits = record o.limits { timeout = Some n } })
     (option_and_then (λ text. result_ok (interval text)) value))
-    ∷ flag 117 (codes "unidirectional") (λ o. record o { unidirectional = true })
+    ∷ flag 117 (codes "unidirectional") (λ o. record o { passes = record o.passes { one_way = true } })
     ∷ flag 118 (codes "verbose") (λ o. record o { verbose = true })
     ∷ valued 88 (codes "max-read-errors")
     (λ sector o value. option_map (λ n. record o { limits = record o.limits { errors = Some n } }) (number_by value))
@@ -204,14 +206,10 @@ no_options sector = record {
   input_position = 0;
   output_position = None;
   size = None;
-  retries = 0;
+  passes = all_phases_once;
   limits = no_limits;
   try_again = false;
   retrim = false;
-  no_trim = false;
-  no_scrape = false;
-  reverse = false;
-  unidirectional = false;
   complete_only = false;
   fill = None;
   generate = false;

@@ -19,6 +19,7 @@ use option_words::reader::read_words;
 use option_words::reading::{Item, WordReading};
 use option_words::table::OptionTable;
 use option_words::words::Words;
+use run_options::passes::Passes;
 use std::alloc::Global;
 
 /// What the words of a command line ask for: the files, and what the options say.
@@ -65,7 +66,10 @@ pub fn sample_command() -> Command<'static>
         domain_map: None,
         test_map: None,
         options: Options {
-            retries: 1,
+            passes: Passes {
+                retries: 1,
+                ..Passes::all_phases_once()
+            },
             ..Options::none(512)
         },
     }

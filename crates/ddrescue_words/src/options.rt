@@ -14,6 +14,7 @@ use option_values::values::{is_name, number_by, size_by, within_range};
 use option_words::row::{Row, Takes};
 use option_words::table::OptionTable;
 use run_options::limits::{AreaLimit, Limits};
+use run_options::passes::Passes;
 use size_suffixes::interval::read_interval;
 
 /// The size of a cluster in bytes, where no option gives it and no sector is larger.
@@ -215,22 +216,14 @@ pub struct Options {
     pub output_position: Option<u64>,
     /// How many bytes are rescued at most; no limit if it isn't given.
     pub size: Option<u64>,
-    /// How many passes go over the bad sectors again; 0 if it isn't given.
-    pub retries: u32,
+    /// The passes of the run; if nothing else is asked for, each phase but retrying.
+    pub passes: Passes,
     /// The limits of the run; none of those that aren't given.
     pub limits: Limits,
     /// What the mapfile leaves to trim or to scrape is copied again; by default it isn't.
     pub try_again: bool,
     /// What the mapfile calls failed is trimmed again; by default it isn't.
     pub retrim: bool,
-    /// Nothing is trimmed; by default it is.
-    pub no_trim: bool,
-    /// Nothing is scraped; by default it is.
-    pub no_scrape: bool,
-    /// Each pass goes the other way; by default the first goes upwards.
-    pub reverse: bool,
-    /// All passes go one way; by default they alternate.
-    pub unidirectional: bool,
     /// Only what the mapfile lists is rescued; by default what it leaves out is too.
     pub complete_only: bool,
     /// A pattern is written over what has one of these statuses in the mapfile; nothing is if it isn't given.
@@ -263,14 +256,10 @@ impl Options {
             input_position: 0,
             output_position: None,
             size: None,
-            retries: 0,
+            passes: Passes::all_phases_once(),
             limits: Limits::none(),
             try_again: false,
             retrim: false,
-            no_trim: false,
-            no_scrape: false,
-            reverse: false,
-            unidirectional: false,
             complete_only: false,
             fill: None,
             generate: false,
@@ -445,15 +434,15 @@ fn with_letter(options: Options, sector: u64, letter: char, value: Option<&str>)
         'K' => skip, skip_max = read_skips(sector, value?)?;
         'L' => loose = true;
         'M' => retrim = true;
-        'n' => no_scrape = true;
-        'N' => no_trim = true;
+        'n' => passes = Passes { scrapes: false, ..options.passes };
+        'N' => passes = Passes { trims: false, ..options.passes };
         'o' => output_position = Some(size?);
         'q' => quiet = true;
-        'r' => retries = read_retries(value)?;
-        'R' => reverse = true;
+        'r' => passes = Passes { retries: read_retries(value)?, ..options.passes };
+        'R' => passes = Passes { reverse: true, ..options.passes };
         's' => size = Some(size?);
         'T' => limits = Limits { timeout: Some(read_timeout(value?)?), ..options.limits };
-        'u' => unidirectional = true;
+        'u' => passes = Passes { one_way: true, ..options.passes };
         'v' => verbose = true;
         'X' => limits = Limits { errors: Some(number_by(value)?), ..options.limits };
     )

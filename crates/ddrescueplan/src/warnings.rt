@@ -22,7 +22,7 @@ fn facts_of(rt: &HostRuntime, command: &Command<'_>) -> Facts {
         complete_only: false,
         domain_map: false,
         domain: None,
-        scrapes: !options.no_trim && !options.no_scrape,
+        scrapes: options.passes.trims && options.passes.scrapes,
         infile: Some(Found::Regular {
             length: command.length,
         }),

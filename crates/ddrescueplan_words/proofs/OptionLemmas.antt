@@ -72,7 +72,7 @@ module _ (sector : ℕ) (o : Options) (h : AreInRange sector o) where
     sample = h.sample;
   }
 
-  with_retries : (n : ℕ) → n ≤ 65535 → AreInRange sector (record o { retries = n })
+  with_retries : (n : ℕ) → n ≤ 65535 → AreInRange sector (record o { passes = record o.passes { retries = n } })
   with_retries n p = record {
     sector = h.sector;
     cluster = h.cluster;
@@ -184,12 +184,12 @@ skips_keep s o o' v =
     (λ k. still_plain o (record o { skip = k.0; skip_max = k.1 }) refl refl refl refl refl refl)
 
 retries_keep : (s : ℕ) (o o' : Options) (m : Option ℕ)
-    → option_map (λ n. record o { retries = n }) (option_and_then (within_range 0 65535) m) ≡ Some o'
+    → option_map (λ n. record o { passes = record o.passes { retries = n } }) (option_and_then (within_range 0 65535) m) ≡ Some o'
     → Keeps s o false o'
 retries_keep s o o' m =
-    value_keeps s o o' (λ n. record o { retries = n }) (option_and_then (within_range 0 65535) m) (λ n. refl)
+    value_keeps s o o' (λ n. record o { passes = record o.passes { retries = n } }) (option_and_then (within_range 0 65535) m) (λ n. refl)
     (λ n p h. with_retries s o h n (in_range 0 65535 m n p).1) (λ n. or_false o.quiet)
-    (λ n. still_plain o (record o { retries = n }) refl refl refl refl refl refl)
+    (λ n. still_plain o (record o { passes = record o.passes { retries = n } }) refl refl refl refl refl refl)
 
 length_keeps : (s : ℕ) (o o' : Options) (m : Option ℕ) → option_map (λ n. record o { size = Some n }) m ≡ Some o'
     → Keeps s o false o'
@@ -207,13 +207,13 @@ rows_keep = (
       (
         (λ s o o' v. lifted s o o' false _ (λ n. skips_keep s o.rescue n v)),
         (
-          (λ s o o' v. lifted s o o' false (Some (record o.rescue { no_scrape = true }))
-              (λ n. alone s o.rescue n (record o.rescue { no_scrape = true }) refl (λ h. h) refl
-              (λ p. still_plain o.rescue (record o.rescue { no_scrape = true }) refl refl refl refl refl refl p))),
+          (λ s o o' v. lifted s o o' false (Some (record o.rescue { passes = record o.rescue.passes { scrapes = false } }))
+              (λ n. alone s o.rescue n (record o.rescue { passes = record o.rescue.passes { scrapes = false } }) refl (λ h. h) refl
+              (λ p. still_plain o.rescue (record o.rescue { passes = record o.rescue.passes { scrapes = false } }) refl refl refl refl refl refl p))),
           (
-            (λ s o o' v. lifted s o o' false (Some (record o.rescue { no_trim = true }))
-                (λ n. alone s o.rescue n (record o.rescue { no_trim = true }) refl (λ h. h) refl
-                (λ p. still_plain o.rescue (record o.rescue { no_trim = true }) refl refl refl refl refl refl p))),
+            (λ s o o' v. lifted s o o' false (Some (record o.rescue { passes = record o.rescue.passes { trims = false } }))
+                (λ n. alone s o.rescue n (record o.rescue { passes = record o.rescue.passes { trims = false } }) refl (λ h. h) refl
+                (λ p. still_plain o.rescue (record o.rescue { passes = record o.rescue.passes { trims = false } }) refl refl refl refl refl refl p))),
             (
               (λ s o o' v. lifted s o o' true (Some (record o.rescue { quiet = true }))
                   (λ n. flag_keeps s o.rescue n true (record o.rescue { quiet = true }) refl (λ h. h) (or_true o.rescue.quiet)
@@ -221,15 +221,15 @@ rows_keep = (
               (
                 (λ s o o' v. lifted s o o' false _ (λ n. retries_keep s o.rescue n (number_by v))),
                 (
-                  (λ s o o' v. lifted s o o' false (Some (record o.rescue { reverse = true }))
-                      (λ n. alone s o.rescue n (record o.rescue { reverse = true }) refl (λ h. h) refl
-                      (λ p. still_plain o.rescue (record o.rescue { reverse = true }) refl refl refl refl refl refl p))),
+                  (λ s o o' v. lifted s o o' false (Some (record o.rescue { passes = record o.rescue.passes { reverse = true } }))
+                      (λ n. alone s o.rescue n (record o.rescue { passes = record o.rescue.passes { reverse = true } }) refl (λ h. h) refl
+                      (λ p. still_plain o.rescue (record o.rescue { passes = record o.rescue.passes { reverse = true } }) refl refl refl refl refl refl p))),
                   (
                     (λ s o o' v. lifted s o o' false _ (λ n. length_keeps s o.rescue n (size_by s v))),
                     (
-                      (λ s o o' v. lifted s o o' false (Some (record o.rescue { unidirectional = true }))
-                          (λ n. alone s o.rescue n (record o.rescue { unidirectional = true }) refl (λ h. h) refl
-                          (λ p. still_plain o.rescue (record o.rescue { unidirectional = true }) refl refl refl refl refl refl p))),
+                      (λ s o o' v. lifted s o o' false (Some (record o.rescue { passes = record o.rescue.passes { one_way = true } }))
+                          (λ n. alone s o.rescue n (record o.rescue { passes = record o.rescue.passes { one_way = true } }) refl (λ h. h) refl
+                          (λ p. still_plain o.rescue (record o.rescue { passes = record o.rescue.passes { one_way = true } }) refl refl refl refl refl refl p))),
                       tt,
                     ),
                   ),

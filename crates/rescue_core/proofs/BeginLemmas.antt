@@ -1,9 +1,9 @@
 -- A run at its start, and at the start of its next pass.
-use Rattle.std.proofs.Common.{◌≡◌, ℕ, ◌<◌, min, Bool, true, false, ◌&&◌, not, nat_eq, List, ◌∷◌, ◌^◌, length, drop, Option, Some, None, refl, sym, ap, ◌∙◌, arith, ⊎_elim}
+use Rattle.std.proofs.Common.{◌≡◌, ℕ, ◌<◌, min, Bool, true, false, ◌&&◌, nat_eq, List, ◌∷◌, ◌^◌, length, drop, Option, Some, None, refl, sym, ap, ◌∙◌, arith, ⊎_elim}
 use Rattle.std.specs.List.{slice_get}
 use Rattle.std.proofs.Math.Bool.{and-true}
 use Rattle.std.proofs.Math.Path.{fun_ext}
-use Rattle.std.proofs.lemmas.Bool.{cond-true, not-true, eq-eqb}
+use Rattle.std.proofs.lemmas.Bool.{cond-true, eq-eqb}
 use Rattle.block_list.specs.declared.block.Range.{Range}
 use Rattle.block_list.specs.declared.status.Status.{Status}
 use Rattle.mapfile_text.specs.declared.state.MapState.{MapState}
@@ -31,16 +31,14 @@ use Rattle.rescue_core.proofs.PassLemmas.{next_passes, IsOn, next_on, copying_le
 
 -- the phase of the next pass isn't off
 trims_on : (r : RunState) (room : ℕ) (p : Pass) → IsRunning r room → IsOn (setting_in r) r.phase p → p.phase ≡ Trimming
-    → r.settings.no_trim ≡ false
+    → r.settings.passes.trims ≡ true
 trims_on r room p running on is =
-    ⊎_elim (λ (here : r.phase ≡ Trimming). running.trims here)
-    (λ (some : not r.settings.no_trim ≡ true). not-true r.settings.no_trim some) (on.trims is)
+    ⊎_elim (λ (here : r.phase ≡ Trimming). running.trims here) (λ some. some) (on.trims is)
 
 scrapes_on : (r : RunState) (room : ℕ) (p : Pass) → IsRunning r room → IsOn (setting_in r) r.phase p → p.phase ≡ Scraping
-    → r.settings.no_scrape ≡ false
+    → r.settings.passes.scrapes ≡ true
 scrapes_on r room p running on is =
-    ⊎_elim (λ (here : r.phase ≡ Scraping). running.scrapes here)
-    (λ (some : not r.settings.no_scrape ≡ true). not-true r.settings.no_scrape some) (on.scrapes is)
+    ⊎_elim (λ (here : r.phase ≡ Scraping). running.scrapes here) (λ some. some) (on.scrapes is)
 
 -- a run goes on to its next pass
 pub running_passed : (r : RunState) (room : ℕ) (phase : Phase) (pass : ℕ) → r.machine.passes ≡ passes_from (setting_in r) r.phase r.pass
@@ -74,7 +72,7 @@ pub passed_is : (settings : Settings) (domain : List Range) (names : Option MapN
     (progress : Progress) (tally : Tally) (heard : Bool) (phase' : Phase) (pass : ℕ) (progress' : Progress)
     → slice_get (passes_from (setting_with settings domain names line) phase progress.pass) 1 ≡ Some (numbered phase' pass)
     → progress'.pass ≡ pass → progress'.cursor ≡ start_of (setting_with settings domain names line) (numbered phase' pass) map
-    → progress'.mode ≡ Lead → progress'.skip ≡ settings.skip
+    → progress'.mode ≡ Lead → progress'.skip ≡ settings.skips.first
     → run_at settings domain names line map phase' progress' tally heard
     ≡ passed (run_at settings domain names line map phase progress tally heard) phase' pass
 passed_is settings domain names line map phase progress tally heard phase' pass progress' next is begins lead skip =
@@ -109,7 +107,7 @@ pub running_started : (settings : Settings) (domain : List Range) (names : Optio
     (loaded : Option MapState) (progress : Progress) (tally : Tally) (heard : Bool) (room : ℕ) → IsSound settings
     → Suits settings (covers domain) (length map) → length map < 2 ^ 63 → progress.pass ≡ first_pass loaded
     → progress.cursor ≡ first_cursor (setting_with settings domain names line) loaded map → progress.mode ≡ Lead
-    → progress.skip ≡ settings.skip → room ≡ settings.cluster
+    → progress.skip ≡ settings.skips.first → room ≡ settings.cluster
     → IsRunning (run_at settings domain names line map Copying progress tally heard) room
 running_started settings domain names line map loaded progress tally heard room sound suits short pass cursor lead skip size =
     let s : Setting = setting_with settings domain names line in

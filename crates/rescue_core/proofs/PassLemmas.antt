@@ -20,7 +20,7 @@ abbrev after_last : Setting → Phase → ℕ
 after_last s Copying = 6
 after_last s Trimming = 2
 after_last s Scraping = 2
-after_last s Retrying = s.retries + 1
+after_last s Retrying = s.passes.retries + 1
 
 passes_in-are : (s : Setting) (phase : Phase) (number : ℕ)
     → passes_in s phase number ≡ map (numbered phase) (range_with_len number (after_last s phase - number))
@@ -52,13 +52,13 @@ chain_after_scraping s = subst (IsChain s) (append-nil (passes_in s Retrying 1))
 
 chain_after_trimming : (s : Setting) → IsChain s (passes_after s Trimming)
 chain_after_trimming s =
-    cond_both s.scrapes (passes_in s Scraping 1) [] (λ (ps : List Pass). IsChain s (ps ++ passes_in s Retrying 1))
+    cond_both s.passes.scrapes (passes_in s Scraping 1) [] (λ (ps : List Pass). IsChain s (ps ++ passes_in s Retrying 1))
     (λ on. chain_in s Scraping 1 (chain_after_scraping s)) (λ off. chain_after_scraping s)
 
 chain_after_copying : (s : Setting) → IsChain s (passes_after s Copying)
 chain_after_copying s =
-    cond_both s.trims (passes_in s Trimming 1) []
-    (λ (ps : List Pass). IsChain s (ps ++ (if s.scrapes then passes_in s Scraping 1 else []) ++ passes_in s Retrying 1))
+    cond_both s.passes.trims (passes_in s Trimming 1) []
+    (λ (ps : List Pass). IsChain s (ps ++ (if s.passes.scrapes then passes_in s Scraping 1 else []) ++ passes_in s Retrying 1))
     (λ on. chain_in s Trimming 1 (chain_after_trimming s)) (λ off. chain_after_trimming s)
 
 chain_after : (s : Setting) (phase : Phase) → IsChain s (passes_after s phase)
@@ -82,8 +82,8 @@ next_passes s phase number p is = second_of s (passes_from s phase number) p (ch
 
 -- a pass after one of a phase is of a phase that isn't off
 pub record IsOn (s : Setting) (phase : Phase) (p : Pass) : Type 0 where
-  pub trims : p.phase ≡ Trimming → (phase ≡ Trimming) ⊎ (s.trims ≡ true)
-  pub scrapes : p.phase ≡ Scraping → (phase ≡ Scraping) ⊎ (s.scrapes ≡ true)
+  pub trims : p.phase ≡ Trimming → (phase ≡ Trimming) ⊎ (s.passes.trims ≡ true)
+  pub scrapes : p.phase ≡ Scraping → (phase ≡ Scraping) ⊎ (s.passes.scrapes ≡ true)
 
 in_on : (s : Setting) (phase at : Phase) (number : ℕ) → IsOn s phase (numbered at number) → All (IsOn s phase) (passes_in s at number)
 in_on s phase at number on =
@@ -92,15 +92,15 @@ in_on s phase at number on =
     (All-map (IsOn s phase) (numbered at) (range_with_len number (after_last s at - number))
     (λ k d within. record { trims = on.trims; scrapes = on.scrapes }))
 
-trimming_on : (s : Setting) (phase : Phase) → All (IsOn s phase) (if s.trims then passes_in s Trimming 1 else [])
+trimming_on : (s : Setting) (phase : Phase) → All (IsOn s phase) (if s.passes.trims then passes_in s Trimming 1 else [])
 trimming_on s phase =
-    cond_both s.trims (passes_in s Trimming 1) [] (All (IsOn s phase))
+    cond_both s.passes.trims (passes_in s Trimming 1) [] (All (IsOn s phase))
     (λ on. in_on s phase Trimming 1 (record { trims = λ is. inr on; scrapes = λ is. absurd (cc) }))
     (λ off. All-nil (IsOn s phase))
 
-scraping_on : (s : Setting) (phase : Phase) → All (IsOn s phase) (if s.scrapes then passes_in s Scraping 1 else [])
+scraping_on : (s : Setting) (phase : Phase) → All (IsOn s phase) (if s.passes.scrapes then passes_in s Scraping 1 else [])
 scraping_on s phase =
-    cond_both s.scrapes (passes_in s Scraping 1) [] (All (IsOn s phase))
+    cond_both s.passes.scrapes (passes_in s Scraping 1) [] (All (IsOn s phase))
     (λ on. in_on s phase Scraping 1 (record { trims = λ is. absurd (cc); scrapes = λ is. inr on }))
     (λ off. All-nil (IsOn s phase))
 
@@ -108,10 +108,10 @@ retrying_on : (s : Setting) (phase : Phase) → All (IsOn s phase) (passes_in s 
 retrying_on s phase = in_on s phase Retrying 1 (record { trims = λ is. absurd (cc); scrapes = λ is. absurd (cc) })
 
 abbrev scraping_passes : Setting → List Pass
-scraping_passes s = if s.scrapes then passes_in s Scraping 1 else []
+scraping_passes s = if s.passes.scrapes then passes_in s Scraping 1 else []
 
 abbrev trimming_passes : Setting → List Pass
-trimming_passes s = if s.trims then passes_in s Trimming 1 else []
+trimming_passes s = if s.passes.trims then passes_in s Trimming 1 else []
 
 after_on : (s : Setting) (phase at : Phase) → All (IsOn s phase) (passes_after s at)
 after_on s phase Copying =

@@ -39,13 +39,13 @@ cursor_within s m e there =
     (λ upwards. omega arith) (λ down. omega arith))
 
 -- and the next jump isn't longer than the longest
-skip_within : (s : Setting) (m : Machine) (e : Event) → s.skip ≤ s.skip_max → m.skip ≤ s.skip_max
-    → skip_after s m e ≤ s.skip_max
+skip_within : (s : Setting) (m : Machine) (e : Event) → s.skips.first ≤ s.skips.most → m.skip ≤ s.skips.most
+    → skip_after s m e ≤ s.skips.most
 skip_within s m e first now =
-    cond_both (is_jump s m e) (min (2 * m.skip) s.skip_max)
-    (if is_failed e.reading || is_slow s e then m.skip else s.skip) (λ (x : ℕ). x ≤ s.skip_max)
+    cond_both (is_jump s m e) (min (2 * m.skip) s.skips.most)
+    (if is_failed e.reading || is_slow s e then m.skip else s.skips.first) (λ (x : ℕ). x ≤ s.skips.most)
     (λ jumps. omega arith)
-    (λ other. cond_both (is_failed e.reading || is_slow s e) m.skip s.skip (λ (x : ℕ). x ≤ s.skip_max)
+    (λ other. cond_both (is_failed e.reading || is_slow s e) m.skip s.skips.first (λ (x : ℕ). x ≤ s.skips.most)
     (λ bad. now) (λ good. first))
 
 -- how far trimming upwards comes by a read before a range, and by one at its back

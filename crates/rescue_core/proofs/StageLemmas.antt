@@ -75,11 +75,11 @@ tail_trims r room low is at =
     (true_from_ne_false (is_trimming r.machine) (λ off.
     let e : Tail low ≡ Lead = sym at ∙ is.order.lead off in absurd (cc)))
 
-never_trims : (r : RunState) (room : ℕ) (e : Event) → IsTurn r room e → (r.settings.no_trim ≡ false → IsGone NonTrimmed r)
+never_trims : (r : RunState) (room : ℕ) (e : Event) → IsTurn r room e → (r.settings.passes.trims ≡ true → IsGone NonTrimmed r)
     → (low : ℕ) → r.machine.mode ≡ Tail low → ⊥
 never_trims r room e t gone low at =
     let trims : (pass_of r.machine).phase ≡ Trimming = tail_trims r room low t.running at in
-    let on : r.settings.no_trim ≡ false
+    let on : r.settings.passes.trims ≡ true
     = t.running.trims (sym (ap (λ (p : Pass). p.phase) t.running.pass) ∙ trims) in
     never_asked r room e t (subst (λ (phase : Phase). IsGone (taken phase) r) (sym trims) (gone on))
 

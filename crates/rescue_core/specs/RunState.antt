@@ -1,5 +1,5 @@
 -- What is known of a run between its turns.
-use Rattle.std.specs.Prelude.{◌≡◌, ℕ, ◌+◌, ◌-◌, ◌*◌, ◌^◌, ◌<◌, ◌≤◌, Bool, true, false, not, List, [], length, drop, Option, Some, None, is_some}
+use Rattle.std.specs.Prelude.{◌≡◌, ℕ, ◌+◌, ◌-◌, ◌*◌, ◌^◌, ◌<◌, ◌≤◌, Bool, true, false, List, [], length, drop, Option, Some, None, is_some}
 use Rattle.block_list.specs.declared.block.Range.{Range}
 use Rattle.block_list.specs.declared.status.Status.{Status}
 use Rattle.block_list.specs.declared.status.Status.TheVariants.{NonTrimmed}
@@ -59,14 +59,8 @@ setting_with settings domain names line = record {
   retrim = false;
   sector = settings.sector;
   cluster = settings.cluster;
-  skip = settings.skip;
-  skip_max = settings.skip_max;
-  min_rate = settings.min_rate;
-  trims = not settings.no_trim;
-  scrapes = not settings.no_scrape;
-  retries = settings.retries;
-  reverse = settings.reverse;
-  one_way = settings.one_way;
+  skips = settings.skips;
+  passes = settings.passes;
   limits = settings.limits;
   verbose = false;
 }
@@ -82,11 +76,11 @@ pub record IsSound (settings : Settings) : Type 0 where
   pub some : 0 < sectors
   pub cluster : settings.cluster ≡ sectors * settings.sector
   pub cluster_max : settings.cluster ≤ 16777216
-  pub skip : settings.skip ≤ settings.skip_max
-  pub skip_max : settings.skip_max < 2 ^ 63
+  pub skip : settings.skips.first ≤ settings.skips.most
+  pub skip_max : settings.skips.most < 2 ^ 63
   pub ipos : settings.ipos < 2 ^ 63
   pub opos : settings.opos < 2 ^ 63
-  pub retries : settings.retries < 2 ^ 32
+  pub retries : settings.passes.retries < 2 ^ 32
 
 -- a domain for a map of this many positions: it begins at an input's position or past it, and ends with the map
 pub record Suits (settings : Settings) (domain : ℕ → Bool) (top : ℕ) : Type 0 where
@@ -152,13 +146,13 @@ pub record IsRunning (r : RunState) (room : ℕ) : Type 0 where
   pub suits : Suits r.settings (covers r.domain) (length r.machine.map)
   pub short : length r.machine.map < 2 ^ 63
   pub cursor : r.machine.cursor ≤ length r.machine.map
-  pub skip : r.machine.skip ≤ r.settings.skip_max
+  pub skip : r.machine.skip ≤ r.settings.skips.most
   pub order : IsInOrder (setting_in r) r.machine
   -- the pass that it is in is one of its phase
   pub pass : pass_of r.machine ≡ numbered r.phase r.pass
   -- and it isn't off
-  pub trims : r.phase ≡ Trimming → r.settings.no_trim ≡ false
-  pub scrapes : r.phase ≡ Scraping → r.settings.no_scrape ≡ false
+  pub trims : r.phase ≡ Trimming → r.settings.passes.trims ≡ true
+  pub scrapes : r.phase ≡ Scraping → r.settings.passes.scrapes ≡ true
   pub led : IsLed r
   -- a cluster is read at once
   pub room_is : room ≡ r.settings.cluster

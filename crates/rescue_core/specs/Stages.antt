@@ -16,12 +16,12 @@ pub data Reached : Type 0 where
 -- unless trimming is off
 pub record IsTrimmed (r : RunState) : Type 0 where
   pub tried : IsGone NonTried r
-  pub trimmed : r.settings.no_trim ≡ false → IsGone NonTrimmed r
+  pub trimmed : r.settings.passes.trims ≡ true → IsGone NonTrimmed r
 
 -- after scraping none is non-scraped either, unless scraping is off
 pub record IsScraped (r : RunState) : Type 0 where
   pub trimmed : IsTrimmed r
-  pub scraped : r.settings.no_scrape ≡ false → IsGone NonScraped r
+  pub scraped : r.settings.passes.scrapes ≡ true → IsGone NonScraped r
 
 -- at the end no pass has a request left
 pub record IsOver (r : RunState) : Type 0 where

@@ -41,7 +41,7 @@ pub(crate) fn go_on_by_kind<T: Tiles>(
     requires within { request.pos + request.len ≤ length (T.statuses tiles.old) }
     requires back { IsBackOf progress.old.mode request.pos }
     requires spare { 6 ≤ T.spare tiles.old }
-    requires skip { progress.old.skip ≤ settings.now.skip_max }
+    requires skip { progress.old.skip ≤ settings.now.skips.most }
     requires given { gathered.turn.given ≤ request.len }
     ensures { GoesOnAfter settings.now domain.now phase request gathered (T.statuses tiles.old) (T.statuses tiles.new)
         progress.old progress.new tally.old tally.new counts.old counts.new result }
@@ -89,7 +89,7 @@ fn go_on<T: Tiles>(
     requires within { request.pos + request.len ≤ length (T.statuses tiles.old) }
     requires back { IsBackOf progress.old.mode request.pos }
     requires spare { 6 ≤ T.spare tiles.old }
-    requires skip { progress.old.skip ≤ settings.now.skip_max }
+    requires skip { progress.old.skip ≤ settings.now.skips.most }
     requires given { gathered.turn.given ≤ request.len }
     ensures { GoesOnAfter settings.now domain.now phase request gathered (T.statuses tiles.old) (T.statuses tiles.new)
         progress.old progress.new tally.old tally.new counts.old counts.new result }

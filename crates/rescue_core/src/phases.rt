@@ -156,7 +156,7 @@ impl<T: Tiles> Rescue<Copying, T> {
 impl<T: Tiles> Rescue<Trimming, T> {
     /// Trimming is over, once no position of the domain is non-trimmed, or if it is off.
     pub fn end_trimming(self) -> Rescue<Scraping, T>
-        requires gone { self.settings.no_trim ≡ false → IsGone NonTrimmed self }
+        requires gone { self.settings.passes.trims ≡ true → IsGone NonTrimmed self }
         ensures { result ≡ self }
     {
         let Rescue { stage: _, running } = self;
@@ -170,7 +170,7 @@ impl<T: Tiles> Rescue<Trimming, T> {
 impl<T: Tiles> Rescue<Scraping, T> {
     /// Scraping is over, once no position of the domain is non-scraped, or if it is off.
     pub fn end_scraping(self) -> Rescue<Retrying, T>
-        requires gone { self.settings.no_scrape ≡ false → IsGone NonScraped self }
+        requires gone { self.settings.passes.scrapes ≡ true → IsGone NonScraped self }
         ensures { result ≡ self }
     {
         let Rescue { stage: _, running } = self;

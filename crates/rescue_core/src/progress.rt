@@ -29,7 +29,7 @@ pub(crate) fn progress_after(
     more: bool,
 )
     requires sound { IsSound settings.now }
-    requires skip { progress.old.skip ≤ settings.now.skip_max }
+    requires skip { progress.old.skip ≤ settings.now.skips.most }
     requires within { request.pos + request.len ≤ top }
     requires given { turn.given ≤ request.len }
     requires short { top < 2 ^ 63 }
@@ -97,11 +97,11 @@ fn next_skip(settings: &Settings, skip: u64, jumped: bool, turn: Turn) -> u64
         → jumped ≡ is_jump (setting_in r) r.machine e → result ≡ skip_after (setting_in r) r.machine e }
 {
     if jumped {
-        settings.skip_max.min(2 * skip)
+        settings.skips.most.min(2 * skip)
     } else if turn.failed() || turn.slow {
         skip
     } else {
-        settings.skip
+        settings.skips.first
     }
 }
 

@@ -42,8 +42,8 @@ pub(crate) fn is_up(settings: &Settings, pass: u32) -> bool
     ensures { (domain : List Range) (names : Option MapNames) (line : List ℕ) (phase : Phase)
         → result ≡ is_up (setting_with settings.now domain names line) (numbered phase pass) }
 {
-    let odd = settings.one_way || pass % 2 == 1;
-    if settings.reverse { !odd } else { odd }
+    let odd = settings.passes.one_way || pass % 2 == 1;
+    if settings.passes.reverse { !odd } else { odd }
 }
 
 /// Where a pass begins in a map that ends at `end`.

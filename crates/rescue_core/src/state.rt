@@ -42,7 +42,7 @@ impl Progress {
             pass,
             cursor: start_of(settings, pass, end),
             mode: TrimMode::Lead,
-            skip: settings.skip,
+            skip: settings.skips.first,
         }
     }
 

@@ -36,9 +36,10 @@ pub(crate) fn turn_after(
 {
     let whole = got.count() == request.len;
     let given = got.count() as u64;
-    let slow = settings.min_rate > 0
+    let slow = settings.skips.min_rate > 0
         && given * 1000
             < settings
+                .skips
                 .min_rate
                 .saturating_mul(after.saturating_sub(before));
     Turn {

@@ -26,7 +26,7 @@ plain s = record s { infile = []; outfile = []; has_mapfile = false; names = nam
 
 -- no read is slow, and there is no limit
 pub record IsUnlimited (s : Setting) : Type 0 where
-  pub rate : s.min_rate ≡ 0
+  pub rate : s.skips.min_rate ≡ 0
   pub limits : s.limits ≡ no_limits
 
 -- a state without its times and counts, of which no request depends
@@ -110,8 +110,8 @@ after_by s m pos asked n over slow =
       mode = if is_trimming m
           then mode_after m.mode (not (failed_by asked n over)) (is_wanted s marks (pos + asked)) pos (pos + asked)
           else Lead;
-      skip = if jump_by m asked n over slow then min (2 * m.skip) s.skip_max
-          else if failed_by asked n over || slow then m.skip else s.skip;
+      skip = if jump_by m asked n over slow then min (2 * m.skip) s.skips.most
+          else if failed_by asked n over || slow then m.skip else s.skips.first;
       over = if over then Some (earlier m.over (pos + n)) else m.over;
     })
 
@@ -138,8 +138,8 @@ and_false false b is = refl
 slow_never : (s : Setting) (e : Event) → IsUnlimited s → is_slow s e ≡ false
 slow_never s e u =
     and_false (nat_eq (length e.reading.given) e.reading.asked)
-    (nat_lt (length e.reading.given * 1000) (s.min_rate * (e.after - e.before)))
-    (below_none (length e.reading.given * 1000) (e.after - e.before) s.min_rate u.rate)
+    (nat_lt (length e.reading.given * 1000) (s.skips.min_rate * (e.after - e.before)))
+    (below_none (length e.reading.given * 1000) (e.after - e.before) s.skips.min_rate u.rate)
 
 -- reads of one shape: they ask for the same, and got as much
 pub record SameShape (r q : Reading) : Type 0 where

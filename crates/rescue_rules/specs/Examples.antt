@@ -2,6 +2,7 @@
 use Rattle.std.specs.Prelude.{◌≡◌, ℕ, ◌+◌, true, false, nat_lt, List, [], ◌∷◌, map, replicate, None}
 use Rattle.block_list.specs.declared.status.Status.TheVariants.{NonTried, BadSector, Finished}
 use Rattle.run_options.specs.Limits.{no_limits}
+use Rattle.run_options.specs.Passes.{all_phases_once}
 use Rattle.rescue_rules.specs.Setting.{Setting}
 use Rattle.rescue_rules.specs.declared.phase.Phase.TheVariants.{Copying}
 use Rattle.rescue_rules.specs.Passes.{Pass, numbered}
@@ -27,14 +28,8 @@ small end cluster skip = record {
   retrim = false;
   sector = 2;
   cluster = cluster;
-  skip = skip;
-  skip_max = skip + skip;
-  min_rate = 0;
-  trims = true;
-  scrapes = true;
-  retries = 0;
-  reverse = false;
-  one_way = false;
+  skips = record { first = skip; most = skip + skip; min_rate = 0 };
+  passes = all_phases_once;
   limits = no_limits;
   verbose = false;
 }

@@ -8,7 +8,7 @@ use Rattle.rescue_rules.specs.Step.{Event, step, limit_met}
 
 -- the state at the start of a pass, which others follow
 abbrev pub begun : Setting → Machine → Pass → List Pass → Machine
-begun s m p ps = record m { passes = p ∷ ps; cursor = start_of s p m.map; mode = Lead; skip = s.skip }
+begun s m p ps = record m { passes = p ∷ ps; cursor = start_of s p m.map; mode = Lead; skip = s.skips.first }
 
 -- the state at the end, where no pass is left
 abbrev pub ended : Machine → Machine

@@ -30,7 +30,7 @@ current_of Retrying = NowRetrying
 
 -- a pass with an odd number goes upwards, and with one way each does; in reverse it is the other way round
 abbrev pub is_up : Setting → Pass → Bool
-is_up s p = if s.reverse then not (s.one_way || nat_eq (p.number % 2) 1) else (s.one_way || nat_eq (p.number % 2) 1)
+is_up s p = if s.passes.reverse then not (s.passes.one_way || nat_eq (p.number % 2) 1) else (s.passes.one_way || nat_eq (p.number % 2) 1)
 
 abbrev pub numbered : Phase → ℕ → Pass
 numbered phase number = record { phase = phase; number = number }
@@ -45,14 +45,14 @@ abbrev pub passes_in : Setting → Phase → ℕ → List Pass
 passes_in s Copying number = map (numbered Copying) (range_with_len number (copying_passes + 1 - number))
 passes_in s Trimming number = map (numbered Trimming) (range_with_len number (2 - number))
 passes_in s Scraping number = map (numbered Scraping) (range_with_len number (2 - number))
-passes_in s Retrying number = map (numbered Retrying) (range_with_len number (s.retries + 1 - number))
+passes_in s Retrying number = map (numbered Retrying) (range_with_len number (s.passes.retries + 1 - number))
 
 -- the passes of the phases after one: trimming and scraping unless they are off, and retrying
 abbrev pub passes_after : Setting → Phase → List Pass
 passes_after s Copying =
-    (if s.trims then passes_in s Trimming 1 else []) ++ (if s.scrapes then passes_in s Scraping 1 else [])
+    (if s.passes.trims then passes_in s Trimming 1 else []) ++ (if s.passes.scrapes then passes_in s Scraping 1 else [])
     ++ passes_in s Retrying 1
-passes_after s Trimming = (if s.scrapes then passes_in s Scraping 1 else []) ++ passes_in s Retrying 1
+passes_after s Trimming = (if s.passes.scrapes then passes_in s Scraping 1 else []) ++ passes_in s Retrying 1
 passes_after s Scraping = passes_in s Retrying 1
 passes_after s Retrying = []
 

@@ -1,6 +1,8 @@
 -- What a rescue is asked to do.
 use Rattle.std.specs.Prelude.{ℕ, ◌+◌, ◌-◌, ◌*◌, ◌^◌, ◌<◌, ◌≤◌, ◌≡◌, Bool, true, List}
 use Rattle.run_options.specs.declared.limits.Limits.{Limits}
+use Rattle.run_options.specs.declared.passes.Passes.{Passes}
+use Rattle.run_options.specs.declared.skips.Skips.{Skips}
 use Rattle.save_resume.specs.MapNames.{MapNames}
 
 -- What the words of a rescue ask for, once its input's length is known. Sizes and positions are in bytes.
@@ -26,16 +28,10 @@ pub record Setting : Type 0 where
   -- a read is cut at a multiple of the sector; copying asks for a cluster at most, the other phases for a sector
   pub sector : ℕ
   pub cluster : ℕ
-  -- how far copying jumps after a failed or slow read, at first and at most; slow is below this many bytes a second
-  pub skip : ℕ
-  pub skip_max : ℕ
-  pub min_rate : ℕ
+  -- how far copying jumps after a failed or slow read, and which read is slow
+  pub skips : Skips
   -- which phases there are, how often retrying goes over the bad sectors, and the directions of the passes
-  pub trims : Bool
-  pub scrapes : Bool
-  pub retries : ℕ
-  pub reverse : Bool
-  pub one_way : Bool
+  pub passes : Passes
   -- what may fail, and for how long, before it stops
   pub limits : Limits
   -- whether a first line says how much is asked for
@@ -53,4 +49,4 @@ pub record IsSensible (s : Setting) : Type 0 where
   pub some : 0 < sectors
   pub cluster : s.cluster ≡ sectors * s.sector
   pub from : (x : ℕ) → s.domain x ≡ true → s.from ≤ x
-  pub retries : s.retries < 2 ^ 32
+  pub retries : s.passes.retries < 2 ^ 32

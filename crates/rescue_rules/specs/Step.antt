@@ -43,7 +43,7 @@ is_trimming m = trims (pass_of m).phase
 
 -- a whole read is slow that gave too few bytes a second
 abbrev pub is_slow : Setting → Event → Bool
-is_slow s e = is_whole e.reading && nat_lt (length e.reading.given * 1000) (s.min_rate * (e.after - e.before))
+is_slow s e = is_whole e.reading && nat_lt (length e.reading.given * 1000) (s.skips.min_rate * (e.after - e.before))
 
 -- what isn't kept is for trimming, if copying asked for it and it is longer than a sector; else it is bad
 abbrev pub rest_status : Setting → Machine → ℕ → Status
@@ -100,8 +100,8 @@ cursor_after s m e =
 -- a jump doubles the next one, and a read that neither failed nor was slow makes it small again
 abbrev pub skip_after : Setting → Machine → Event → ℕ
 skip_after s m e =
-    if is_jump s m e then min (2 * m.skip) s.skip_max
-    else if is_failed e.reading || is_slow s e then m.skip else s.skip
+    if is_jump s m e then min (2 * m.skip) s.skips.most
+    else if is_failed e.reading || is_slow s e then m.skip else s.skips.first
 
 -- the milliseconds between two due saves
 abbrev pub save_interval : ℕ

@@ -2,3 +2,5 @@
 #![tactic(auto)]
 
 pub mod limits;
+pub mod passes;
+pub mod skips;

@@ -1,5 +1,6 @@
 -- What a command asks for of an input.
-use Rattle.std.specs.Prelude.{ℕ, Bool, not, List, Option, Some, None, is_some, unwrap_or, option_map}
+use Rattle.std.specs.Prelude.{ℕ, Bool, List, Option, Some, None, is_some, unwrap_or, option_map}
+use Rattle.run_options.specs.declared.skips.Skips.{Skips}
 use Rattle.save_resume.specs.MapNames.{MapNames, names_of}
 use Rattle.block_list.specs.declared.status.Status.{Status}
 use Rattle.rescue_domain.specs.Domain.{whole_domain, in_map, listed_in}
@@ -48,6 +49,10 @@ in_list domain (Some k) = listed_in domain k.0 k.1
 abbrev pub domain_asked : Options → (end : ℕ) → Maps → ℕ → Bool
 domain_asked o end maps = in_list (in_map (whole_domain o.input_position o.size end) maps.domain) maps.listed
 
+-- the skips of copying, in whole sectors
+abbrev pub skips_asked : Options → Skips
+skips_asked o = record { first = in_sectors o o.skip; most = in_sectors o o.skip_max; min_rate = o.min_rate }
+
 -- what files with these names, this command line, these options and these maps ask for of an input with this length
 abbrev pub setting_asked : (infile outfile : List ℕ) → Option MapNames → (line : List ℕ) → Options → (end : ℕ) → Maps
     → Setting
@@ -66,14 +71,8 @@ setting_asked infile outfile names line o end maps = record {
   retrim = o.retrim;
   sector = o.sector;
   cluster = cluster_of o;
-  skip = in_sectors o o.skip;
-  skip_max = in_sectors o o.skip_max;
-  min_rate = o.min_rate;
-  trims = not o.no_trim;
-  scrapes = not o.no_scrape;
-  retries = o.retries;
-  reverse = o.reverse;
-  one_way = o.unidirectional;
+  skips = skips_asked o;
+  passes = o.passes;
   limits = o.limits;
   verbose = o.verbose;
 }

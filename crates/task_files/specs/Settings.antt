@@ -2,8 +2,8 @@
 use Rattle.std.specs.Prelude.{ℕ, List, [], ◌∷◌, Option, Some, None}
 use Rattle.rescue_core.specs.declared.settings.Settings.{Settings}
 use Rattle.ddrescue_words.specs.declared.options.Options.{Options}
-use Rattle.ddrescue_words.specs.Options.{cluster_of, in_sectors}
-use Rattle.task_files.specs.Asked.{output_from}
+use Rattle.ddrescue_words.specs.Options.{cluster_of}
+use Rattle.task_files.specs.Asked.{output_from, skips_asked}
 
 -- what options ask of a run
 abbrev pub settings_by : Options → Settings
@@ -12,15 +12,9 @@ settings_by o = record {
   cluster = cluster_of o;
   ipos = o.input_position;
   opos = output_from o;
-  skip = in_sectors o o.skip;
-  skip_max = in_sectors o o.skip_max;
-  min_rate = o.min_rate;
-  retries = o.retries;
+  skips = skips_asked o;
+  passes = o.passes;
   limits = o.limits;
-  no_trim = o.no_trim;
-  no_scrape = o.no_scrape;
-  reverse = o.reverse;
-  one_way = o.unidirectional;
 }
 
 -- the line, if there is one

@@ -13,6 +13,7 @@ use ddrescue_words::command::Command;
 use ddrescue_words::options::Options;
 use rescue_core::settings::Settings;
 use rescue_domain::domain::Domain;
+use run_options::skips::Skips;
 use std::alloc::Global;
 
 /// What the rescue is asked to do.
@@ -25,15 +26,13 @@ pub fn settings_for(options: &Options) -> Settings
         cluster: options.cluster(),
         ipos: options.input_position,
         opos: output_from(options),
-        skip: options.first_skip(),
-        skip_max: options.largest_skip(),
-        min_rate: options.min_rate,
-        retries: options.retries,
+        skips: Skips {
+            first: options.first_skip(),
+            most: options.largest_skip(),
+            min_rate: options.min_rate,
+        },
+        passes: options.passes,
         limits: options.limits,
-        no_trim: options.no_trim,
-        no_scrape: options.no_scrape,
-        reverse: options.reverse,
-        one_way: options.unidirectional,
     }
 }
 

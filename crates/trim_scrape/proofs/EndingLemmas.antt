@@ -110,25 +110,25 @@ left_well s map from shown time es x NonTried e inside within has =
 left_well s map from shown time es x NonTrimmed e inside within has =
     let p : Pass = numbered Trimming 1 in
     ⊎_elim
-    (λ (on : s.trims ≡ true).
+    (λ (on : s.passes.trims ≡ true).
     let f : Fails p (moves s (machine_of s map from shown time) es) x =
     fails s (machine_of s map from shown time) es p x e (record { last = λ is. absurd (cc) }) inside within has
     (owes_after s map from shown time x p (has_trimming s on)) in
     let never : Trimming ≡ Retrying = f.retries in
     absurd (cc))
-    (λ (off : s.trims ≡ false). Untrimmed off has)
-    (cases_Bool s.trims)
+    (λ (off : s.passes.trims ≡ false). Untrimmed off has)
+    (cases_Bool s.passes.trims)
 left_well s map from shown time es x NonScraped e inside within has =
     let p : Pass = numbered Scraping 1 in
     ⊎_elim
-    (λ (on : s.scrapes ≡ true).
+    (λ (on : s.passes.scrapes ≡ true).
     let f : Fails p (moves s (machine_of s map from shown time) es) x =
     fails s (machine_of s map from shown time) es p x e (record { last = λ is. absurd (cc) }) inside within has
     (owes_after s map from shown time x p (has_scraping s on)) in
     let never : Scraping ≡ Retrying = f.retries in
     absurd (cc))
-    (λ (off : s.scrapes ≡ false). Unscraped off has)
-    (cases_Bool s.scrapes)
+    (λ (off : s.passes.scrapes ≡ false). Unscraped off has)
+    (cases_Bool s.passes.scrapes)
 left_well s map from shown time es x BadSector e inside within has =
     Bad has (λ n some few.
     (fails s (machine_of s map from shown time) es (numbered Retrying n) x e (record { last = λ is. absurd (cc) })

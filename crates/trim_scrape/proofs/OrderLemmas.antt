@@ -51,7 +51,7 @@ abbrev after_last : Setting → Phase → ℕ
 after_last s Copying = 6
 after_last s Trimming = 2
 after_last s Scraping = 2
-after_last s Retrying = s.retries + 1
+after_last s Retrying = s.passes.retries + 1
 
 in_are : (s : Setting) (phase : Phase) (number : ℕ)
     → passes_in s phase number ≡ some_in phase number (after_last s phase - number)
@@ -100,19 +100,19 @@ ordered_in s phase number after later ordered =
 
 -- the passes of trimming and of scraping, unless they are off
 abbrev trimming_passes : Setting → List Pass
-trimming_passes s = if s.trims then passes_in s Trimming 1 else []
+trimming_passes s = if s.passes.trims then passes_in s Trimming 1 else []
 
 abbrev scraping_passes : Setting → List Pass
-scraping_passes s = if s.scrapes then passes_in s Scraping 1 else []
+scraping_passes s = if s.passes.scrapes then passes_in s Scraping 1 else []
 
 trimming_later : (s : Setting) (p : Pass) → order p.phase < 1 → All (Follows p) (trimming_passes s)
 trimming_later s p early =
-    cond_both s.trims (passes_in s Trimming 1) [] (All (Follows p)) (λ on. in_later s p Trimming 1 early)
+    cond_both s.passes.trims (passes_in s Trimming 1) [] (All (Follows p)) (λ on. in_later s p Trimming 1 early)
     (λ off. All-nil (Follows p))
 
 scraping_later : (s : Setting) (p : Pass) → order p.phase < 2 → All (Follows p) (scraping_passes s)
 scraping_later s p early =
-    cond_both s.scrapes (passes_in s Scraping 1) [] (All (Follows p)) (λ on. in_later s p Scraping 1 early)
+    cond_both s.passes.scrapes (passes_in s Scraping 1) [] (All (Follows p)) (λ on. in_later s p Scraping 1 early)
     (λ off. All-nil (Follows p))
 
 after_later : (s : Setting) (phase : Phase) (n : ℕ) → All (Follows (numbered phase n)) (passes_after s phase)
@@ -136,13 +136,13 @@ ordered_after_scraping s =
 
 ordered_after_trimming : (s : Setting) → AreOrdered (passes_after s Trimming)
 ordered_after_trimming s =
-    cond_both s.scrapes (passes_in s Scraping 1) [] (λ (ps : List Pass). AreOrdered (ps ++ passes_in s Retrying 1))
+    cond_both s.passes.scrapes (passes_in s Scraping 1) [] (λ (ps : List Pass). AreOrdered (ps ++ passes_in s Retrying 1))
     (λ on. ordered_in s Scraping 1 (passes_after s Scraping) (after_later s Scraping) (ordered_after_scraping s))
     (λ off. ordered_after_scraping s)
 
 ordered_after_copying : (s : Setting) → AreOrdered (passes_after s Copying)
 ordered_after_copying s =
-    cond_both s.trims (passes_in s Trimming 1) []
+    cond_both s.passes.trims (passes_in s Trimming 1) []
     (λ (ps : List Pass). AreOrdered (ps ++ scraping_passes s ++ passes_in s Retrying 1))
     (λ on. ordered_in s Trimming 1 (passes_after s Trimming) (after_later s Trimming) (ordered_after_trimming s))
     (λ off. ordered_after_trimming s)
@@ -189,25 +189,25 @@ contains_some phase n number (suc few) from to =
     (contains_here (numbered phase number) (some_in phase (number + 1) few)))
     (cases_lt number n)
 
-pub has_trimming : (s : Setting) → s.trims ≡ true → Contains (passes_after s Copying) (numbered Trimming 1)
+pub has_trimming : (s : Setting) → s.passes.trims ≡ true → Contains (passes_after s Copying) (numbered Trimming 1)
 has_trimming s on =
     Contains-append_left (trimming_passes s ++ scraping_passes s) (passes_in s Retrying 1) (numbered Trimming 1)
     (Contains-append_left (trimming_passes s) (scraping_passes s) (numbered Trimming 1)
-    (cond_both s.trims (passes_in s Trimming 1) [] (λ (ps : List Pass). Contains ps (numbered Trimming 1))
+    (cond_both s.passes.trims (passes_in s Trimming 1) [] (λ (ps : List Pass). Contains ps (numbered Trimming 1))
     (λ is. contains_here (numbered Trimming 1) []) (λ off. absurd (true≢false (sym on ∙ off)))))
 
-pub has_scraping : (s : Setting) → s.scrapes ≡ true → Contains (passes_after s Copying) (numbered Scraping 1)
+pub has_scraping : (s : Setting) → s.passes.scrapes ≡ true → Contains (passes_after s Copying) (numbered Scraping 1)
 has_scraping s on =
     Contains-append_left (trimming_passes s ++ scraping_passes s) (passes_in s Retrying 1) (numbered Scraping 1)
     (Contains-append_right (trimming_passes s) (scraping_passes s) (numbered Scraping 1)
-    (cond_both s.scrapes (passes_in s Scraping 1) [] (λ (ps : List Pass). Contains ps (numbered Scraping 1))
+    (cond_both s.passes.scrapes (passes_in s Scraping 1) [] (λ (ps : List Pass). Contains ps (numbered Scraping 1))
     (λ is. contains_here (numbered Scraping 1) []) (λ off. absurd (true≢false (sym on ∙ off)))))
 
-pub has_retrying : (s : Setting) (n : ℕ) → 0 < n → n ≤ s.retries
+pub has_retrying : (s : Setting) (n : ℕ) → 0 < n → n ≤ s.passes.retries
     → Contains (passes_after s Copying) (numbered Retrying n)
 has_retrying s n some few =
     Contains-append_right (trimming_passes s ++ scraping_passes s) (passes_in s Retrying 1) (numbered Retrying n)
-    (contains_some Retrying n 1 (s.retries + 1 - 1) (omega (arith, some)) (omega (arith, few)))
+    (contains_some Retrying n 1 (s.passes.retries + 1 - 1) (omega (arith, some)) (omega (arith, few)))
 
 -- After a pass of copying there are the others of copying, and those after copying.
 copying_are : (s : Setting) (number : ℕ) → number ≤ 5

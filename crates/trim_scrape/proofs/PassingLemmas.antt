@@ -215,7 +215,7 @@ first_is s Trimming number there =
 first_is s Scraping number there =
     subst (λ (n : ℕ). passes_from s Scraping n ≡ numbered Scraping n ∷ passes_from s Scraping (n + 1)) (sym there) refl
 first_is s Retrying number there =
-    let some : s.retries + 1 - number ≡ suc (s.retries + 1 - (number + 1)) = omega (arith, there) in
+    let some : s.passes.retries + 1 - number ≡ suc (s.passes.retries + 1 - (number + 1)) = omega (arith, there) in
     ap (λ (n : ℕ). map (numbered Retrying) (range_with_len number n) ++ passes_after s Retrying) some
 
 -- So a run goes on with that pass,

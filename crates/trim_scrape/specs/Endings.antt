@@ -23,10 +23,10 @@ pub record FailedInPass (pass : Pass) (ms : List Move) (x : ℕ) : Type 0 where
 -- scraping is off; or it is bad, and failed once more in each pass of retrying that was asked for.
 pub data IsLeftWell (s : Setting) (m : Machine) (events : List Event) (x : ℕ) : Type 0 where
   Rescued : Has (state_after s m events).map Finished x → IsLeftWell s m events x
-  Untrimmed : s.trims ≡ false → Has (state_after s m events).map NonTrimmed x → IsLeftWell s m events x
-  Unscraped : s.scrapes ≡ false → Has (state_after s m events).map NonScraped x → IsLeftWell s m events x
+  Untrimmed : s.passes.trims ≡ false → Has (state_after s m events).map NonTrimmed x → IsLeftWell s m events x
+  Unscraped : s.passes.scrapes ≡ false → Has (state_after s m events).map NonScraped x → IsLeftWell s m events x
   Bad : Has (state_after s m events).map BadSector x
-      → ((n : ℕ) → 0 < n → n ≤ s.retries → FailedInPass (numbered Retrying n) (moves s m events) x)
+      → ((n : ℕ) → 0 < n → n ≤ s.passes.retries → FailedInPass (numbered Retrying n) (moves s m events) x)
       → IsLeftWell s m events x
 
 -- each position is left so that is still in the domain: that lies before the input's end, if a read met it

@@ -14,7 +14,7 @@ abbrev pub IsPassOf : Setting → Phase → ℕ → Type 0
 IsPassOf s Copying number = ⊥
 IsPassOf s Trimming number = number ≡ 1
 IsPassOf s Scraping number = number ≡ 1
-IsPassOf s Retrying number = number ≤ s.retries
+IsPassOf s Retrying number = number ≤ s.passes.retries
 
 -- after trimming no position of the domain is non-trimmed, and after scraping none is non-scraped
 abbrev pub PhaseLeavesNone : Phase → RunState → Type 0

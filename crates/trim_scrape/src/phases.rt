@@ -80,7 +80,7 @@ pub fn run_trimming<S: Source, D: Site, K: Clock, C: Console, T: Tiles>(
     ensures past { IfOk result (λ r. IsPast TrimmingPhase r) }
 {
     let mut rescue = rescue;
-    if rescue.settings().no_trim {
+    if !rescue.settings().passes.trims {
         return Ok(rescue.end_trimming());
     }
     match run_pass(
@@ -123,7 +123,7 @@ pub fn run_scraping<S: Source, D: Site, K: Clock, C: Console, T: Tiles>(
     ensures past { IfOk result (λ r. IsPast ScrapingPhase r) }
 {
     let mut rescue = rescue;
-    if rescue.settings().no_scrape {
+    if !rescue.settings().passes.scrapes {
         return Ok(rescue.end_scraping());
     }
     match run_pass(
@@ -165,7 +165,7 @@ fn run_retries<S: Source, D: Site, K: Clock, C: Console, T: Tiles>(
     }) }
     ensures past { OnOk result (IsPast RetryingPhase rescue.new) }
 {
-    'passes: for pass in 1..=rescue.settings().retries {
+    'passes: for pass in 1..=rescue.settings().passes.retries {
         run_pass(rescue, Phase::Retrying, pass, source, site, clock, console)?;
     }
     Ok(())

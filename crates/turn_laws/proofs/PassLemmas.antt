@@ -14,7 +14,6 @@ use Rattle.rescue_rules.specs.MachineLaws.{HasNone}
 use Rattle.rescue_rules.specs.Step.{trims, is_trimming}
 use Rattle.rescue_rules.proofs.OverLemmas.{wanted_live}
 use Rattle.rescue_rules.proofs.ReadyLemmas.{order_lead, request_none}
-use Rattle.rescue_rules.proofs.SearchLemmas.{not_true}
 use Rattle.rescue_rules.proofs.StatusLemmas.{wanted_taken}
 use Rattle.rescue_core.specs.RunState.{RunState, setting_in, passed, IsGone}
 use Rattle.rescue_core.specs.Stages.{Known, IsTrimmed}
@@ -62,9 +61,9 @@ up_to_trimming : (s : Setting) (number : ℕ)
     → passes_from s Copying number ≡ passes_up_to s Trimming number ++ passes_after s Trimming
 up_to_trimming s number =
     let copying : List Pass = passes_in s Copying number in
-    let scraping : List Pass = if s.scrapes then passes_in s Scraping 1 else [] in
+    let scraping : List Pass = if s.passes.scrapes then passes_in s Scraping 1 else [] in
     let retrying : List Pass = passes_in s Retrying 1 in
-    cond_both s.trims (passes_in s Trimming 1) []
+    cond_both s.passes.trims (passes_in s Trimming 1) []
     (λ (ps : List Pass). (copying ++ (ps ++ scraping ++ retrying)) ≡ ((copying ++ ps) ++ (scraping ++ retrying)))
     (λ on. sym (append_assoc copying (passes_in s Trimming 1) (scraping ++ retrying)))
     (λ off. sym (append_assoc copying [] (scraping ++ retrying)))
@@ -75,7 +74,7 @@ up_to s Copying number other = refl
 up_to s Trimming number other = up_to_trimming s number
 up_to s Scraping number other =
     up_to_trimming s number
-    ∙ sym (append_assoc (passes_up_to s Trimming number) (if s.scrapes then passes_in s Scraping 1 else [])
+    ∙ sym (append_assoc (passes_up_to s Trimming number) (if s.passes.scrapes then passes_in s Scraping 1 else [])
     (passes_in s Retrying 1))
 up_to s Retrying number other = absurd (other refl)
 
@@ -93,10 +92,10 @@ begins_up_to s Copying number other few =
     subst (λ (ps : List Pass). ps ≡ numbered Copying number ∷ drop 1 ps) (append-nil (passes_in s Copying number))
     (begins_with s number [] few)
 begins_up_to s Trimming number other few =
-    begins_with s number (if s.trims then passes_in s Trimming 1 else []) few
+    begins_with s number (if s.passes.trims then passes_in s Trimming 1 else []) few
 begins_up_to s Scraping number other few =
-    let trimming : List Pass = if s.trims then passes_in s Trimming 1 else [] in
-    let scraping : List Pass = if s.scrapes then passes_in s Scraping 1 else [] in
+    let trimming : List Pass = if s.passes.trims then passes_in s Trimming 1 else [] in
+    let scraping : List Pass = if s.passes.scrapes then passes_in s Scraping 1 else [] in
     subst (λ (ps : List Pass). ps ≡ numbered Copying number ∷ drop 1 ps)
     (sym (append_assoc (passes_in s Copying number) trimming scraping))
     (begins_with s number (trimming ++ scraping) few)
@@ -120,10 +119,10 @@ none_trims : (r : RunState) (number : ℕ) → IsTrimmed r
 none_trims r number known =
     let s : Setting = setting_in r in
     let P : Pass → Type 0 = HasNone s r.machine in
-    All-append P (passes_in s Copying number) (if s.trims then passes_in s Trimming 1 else [])
+    All-append P (passes_in s Copying number) (if s.passes.trims then passes_in s Trimming 1 else [])
     (none_copies r number known.tried)
-    (cond_both s.trims (passes_in s Trimming 1) [] (All P)
-    (λ on. all_in P Trimming 1 1 (λ n. known.trimmed (not_true r.settings.no_trim on))) (λ off. All-nil P))
+    (cond_both s.passes.trims (passes_in s Trimming 1) [] (All P)
+    (λ on. all_in P Trimming 1 1 (λ n. known.trimmed on)) (λ off. All-nil P))
 
 none_up_to : (r : RunState) (phase : Phase) (number : ℕ) → (phase ≡ Retrying → ⊥) → Known (known_past phase) r
     → All (HasNone (setting_in r) r.machine) (passes_up_to (setting_in r) phase number)
@@ -132,10 +131,10 @@ none_up_to r Trimming number other known = none_trims r number known
 none_up_to r Scraping number other known =
     let s : Setting = setting_in r in
     let P : Pass → Type 0 = HasNone s r.machine in
-    All-append P (passes_up_to s Trimming number) (if s.scrapes then passes_in s Scraping 1 else [])
+    All-append P (passes_up_to s Trimming number) (if s.passes.scrapes then passes_in s Scraping 1 else [])
     (none_trims r number known.trimmed)
-    (cond_both s.scrapes (passes_in s Scraping 1) [] (All P)
-    (λ on. all_in P Scraping 1 1 (λ n. known.scraped (not_true r.settings.no_scrape on))) (λ off. All-nil P))
+    (cond_both s.passes.scrapes (passes_in s Scraping 1) [] (All P)
+    (λ on. all_in P Scraping 1 1 (λ n. known.scraped on)) (λ off. All-nil P))
 none_up_to r Retrying number other known = absurd (other refl)
 
 pub typed_leads_past : TypedLeadsPast
@@ -226,10 +225,10 @@ copying_is_under_way r c = record {
 }
 
 -- What is left for the phases after one is to come, and nothing is for those up to it.
-has_scraping_next : (s : Setting) → s.scrapes ≡ true → Contains (passes_after s Trimming) (numbered Scraping 1)
+has_scraping_next : (s : Setting) → s.passes.scrapes ≡ true → Contains (passes_after s Trimming) (numbered Scraping 1)
 has_scraping_next s on =
-    Contains-append_left (if s.scrapes then passes_in s Scraping 1 else []) (passes_in s Retrying 1) (numbered Scraping 1)
-    (cond_both s.scrapes (passes_in s Scraping 1) [] (λ (ps : List Pass). Contains ps (numbered Scraping 1))
+    Contains-append_left (if s.passes.scrapes then passes_in s Scraping 1 else []) (passes_in s Retrying 1) (numbered Scraping 1)
+    (cond_both s.passes.scrapes (passes_in s Scraping 1) [] (λ (ps : List Pass). Contains ps (numbered Scraping 1))
     (λ is. (0, omega arith, refl)) (λ off. absurd (true≢false (sym on ∙ off))))
 
 tried_past : (r : RunState) (phase : Phase) → Known (known_past phase) r → IsGone NonTried r
@@ -244,11 +243,11 @@ trimmed_past : (r : RunState) (phase : Phase) (x : ℕ) → IsPast phase r → K
 trimmed_past r Copying x b known on live has =
     Later (subst (λ (ps : List Pass). Contains ps (numbered Trimming 1)) (sym b.left) (has_trimming (setting_in r) on))
 trimmed_past r Trimming x b known on live has =
-    absurd (known.trimmed (not_true r.settings.no_trim on) x live has)
+    absurd (known.trimmed on x live has)
 trimmed_past r Scraping x b known on live has =
-    absurd (known.trimmed.trimmed (not_true r.settings.no_trim on) x live has)
+    absurd (known.trimmed.trimmed on x live has)
 trimmed_past r Retrying x b known on live has =
-    absurd (known.scraped.trimmed.trimmed (not_true r.settings.no_trim on) x live has)
+    absurd (known.scraped.trimmed.trimmed on x live has)
 
 scraped_past : (r : RunState) (phase : Phase) (x : ℕ) → IsPast phase r → Known (known_past phase) r
     → (setting_in r).scrapes ≡ true → is_live (setting_in r) r.machine x ≡ true → Has r.machine.map NonScraped x
@@ -258,9 +257,9 @@ scraped_past r Copying x b known on live has =
 scraped_past r Trimming x b known on live has =
     Later (subst (λ (ps : List Pass). Contains ps (numbered Scraping 1)) (sym b.left) (has_scraping_next (setting_in r) on))
 scraped_past r Scraping x b known on live has =
-    absurd (known.scraped (not_true r.settings.no_scrape on) x live has)
+    absurd (known.scraped on x live has)
 scraped_past r Retrying x b known on live has =
-    absurd (known.scraped.scraped (not_true r.settings.no_scrape on) x live has)
+    absurd (known.scraped.scraped on x live has)
 
 pub past_is_under_way : PastIsUnderWay
 past_is_under_way r phase first past order passes b known = record {

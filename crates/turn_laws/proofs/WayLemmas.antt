@@ -205,7 +205,7 @@ tried_on s m e by w x live has =
           apart (sym same ∙ has)
     ]
 
-trimmed_on : (s : Setting) (m : Machine) (e : Event) → Moves s m e → IsUnderWay s (ready s m) → s.trims ≡ true
+trimmed_on : (s : Setting) (m : Machine) (e : Event) → Moves s m e → IsUnderWay s (ready s m) → s.passes.trims ≡ true
     → IsToCome s (move_of s m e).after (numbered Trimming 1)
 trimmed_on s m e by w trim x live has =
     let k : Machine = ready s m in
@@ -227,7 +227,7 @@ trimmed_on s m e by w trim x live has =
           apart (sym same ∙ has)
     ]
 
-scraped_on : (s : Setting) (m : Machine) (e : Event) → Moves s m e → IsUnderWay s (ready s m) → s.scrapes ≡ true
+scraped_on : (s : Setting) (m : Machine) (e : Event) → Moves s m e → IsUnderWay s (ready s m) → s.passes.scrapes ≡ true
     → IsToCome s (move_of s m e).after (numbered Scraping 1)
 scraped_on s m e by w scrape x live has =
     let k : Machine = ready s m in

@@ -70,17 +70,17 @@ left_well s m es x NonTried e live within has =
 left_well s m es x NonTrimmed e live within has =
     let k : Machine = state_after s m es in
     ⊎_elim
-    (λ (on : s.trims ≡ true). absurd (none_comes s k (numbered Trimming 1) x (may_run s k e.came) e.over live has
+    (λ (on : s.passes.trims ≡ true). absurd (none_comes s k (numbered Trimming 1) x (may_run s k e.came) e.over live has
     (e.came.trimmed on x live has)))
-    (λ (off : s.trims ≡ false). Untrimmed off has)
-    (cases_Bool s.trims)
+    (λ (off : s.passes.trims ≡ false). Untrimmed off has)
+    (cases_Bool s.passes.trims)
 left_well s m es x NonScraped e live within has =
     let k : Machine = state_after s m es in
     ⊎_elim
-    (λ (on : s.scrapes ≡ true). absurd (none_comes s k (numbered Scraping 1) x (may_run s k e.came) e.over live has
+    (λ (on : s.passes.scrapes ≡ true). absurd (none_comes s k (numbered Scraping 1) x (may_run s k e.came) e.over live has
     (e.came.scraped on x live has)))
-    (λ (off : s.scrapes ≡ false). Unscraped off has)
-    (cases_Bool s.scrapes)
+    (λ (off : s.passes.scrapes ≡ false). Unscraped off has)
+    (cases_Bool s.passes.scrapes)
 left_well s m es x BadSector e live within has =
     let before : is_before m.over x ≡ true = live_before s m x (run_live s m es x live) in
     Bad has (λ n comes.

@@ -43,10 +43,10 @@ SpentLeadsPast = (r : RunState) (phase : Phase) (spent : List Pass) → IsSensib
 -- the passes up to the end of a phase, from one of copying on
 abbrev pub passes_up_to : Setting → Phase → (number : ℕ) → List Pass
 passes_up_to s Copying number = passes_in s Copying number
-passes_up_to s Trimming number = passes_in s Copying number ++ (if s.trims then passes_in s Trimming 1 else [])
+passes_up_to s Trimming number = passes_in s Copying number ++ (if s.passes.trims then passes_in s Trimming 1 else [])
 passes_up_to s Scraping number =
-    (passes_in s Copying number ++ (if s.trims then passes_in s Trimming 1 else []))
-    ++ (if s.scrapes then passes_in s Scraping 1 else [])
+    (passes_in s Copying number ++ (if s.passes.trims then passes_in s Trimming 1 else []))
+    ++ (if s.passes.scrapes then passes_in s Scraping 1 else [])
 passes_up_to s Retrying number = passes_from s Copying number
 
 -- what the type of a run knows that the phase after this one takes

@@ -30,16 +30,16 @@ pub record IsUnderWay (s : Setting) (m : Machine) : Type 0 where
   pub past : List Pass
   pub passes : past ++ m.passes ≡ passes_from s Copying first
   pub tried : IsToCome s m (numbered Copying copying_passes)
-  pub trimmed : s.trims ≡ true → IsToCome s m (numbered Trimming 1)
-  pub scraped : s.scrapes ≡ true → IsToCome s m (numbered Scraping 1)
+  pub trimmed : s.passes.trims ≡ true → IsToCome s m (numbered Trimming 1)
+  pub scraped : s.passes.scrapes ≡ true → IsToCome s m (numbered Scraping 1)
 
 -- What events leave of a position, from a state on. It is rescued; or it wasn't trimmed, and trimming is off; or it
 -- wasn't scraped, and scraping is off; or it is bad, and failed once more in each pass of retrying that still came to
 -- it.
 pub data IsLeftWellSince (s : Setting) (m : Machine) (events : List Event) (x : ℕ) : Type 0 where
   Rescued : Has (state_after s m events).map Finished x → IsLeftWellSince s m events x
-  Untrimmed : s.trims ≡ false → Has (state_after s m events).map NonTrimmed x → IsLeftWellSince s m events x
-  Unscraped : s.scrapes ≡ false → Has (state_after s m events).map NonScraped x → IsLeftWellSince s m events x
+  Untrimmed : s.passes.trims ≡ false → Has (state_after s m events).map NonTrimmed x → IsLeftWellSince s m events x
+  Unscraped : s.passes.scrapes ≡ false → Has (state_after s m events).map NonScraped x → IsLeftWellSince s m events x
   Bad : Has (state_after s m events).map BadSector x
       → ((n : ℕ) → StillComes s m (numbered Retrying n) x → FailedInPass (numbered Retrying n) (moves s m events) x)
       → IsLeftWellSince s m events x

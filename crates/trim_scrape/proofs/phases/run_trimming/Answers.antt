@@ -1,4 +1,5 @@
 use Rattle.std.proofs.Common.{sym, ap, ◌∙◌}
+use Rattle.std.proofs.lemmas.Bool.{not-true}
 use Rattle.rescue_core.specs.declared.settings.Settings.{Settings}
 use Rattle.copy_passes.proofs.TurnLemmas.{begins}
 use Rattle.trim_scrape.proofs.PastLemmas.{past_trimming, past_no_trimming}
@@ -12,7 +13,7 @@ returns-then-settings-clause-ends g c =
 pub returns-then-settings-clause-past : goal.returns-then-settings-clause-past
 returns-then-settings-clause-past g c =
     rw c.end_trimming.ensures (past_no_trimming _ c.requires.past
-    (ap (λ (s : Settings). s.no_trim) (sym c.settings.ensures) ∙ c.if-settings.true))
+    (ap (λ (s : Settings). s.passes.trims) (sym c.settings.ensures) ∙ not-true _ c.if-settings.true))
 
 pub returns-in-Ok-clause-past : goal.returns-in-Ok-clause-past
 returns-in-Ok-clause-past g c = rw c.end_trimming-in-Ok.ensures (past_trimming _ c.in-Ok.ensures.before)
