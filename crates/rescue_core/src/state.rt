@@ -36,7 +36,7 @@ impl Progress {
             (map : List Status) → length map ≡ end
             → result.cursor ≡ start_of (setting_with settings.now domain names line) (numbered phase pass) map }
         ensures mode { result.mode ≡ Lead }
-        ensures skip { result.skip ≡ settings.now.skip }
+        ensures skip { result.skip ≡ settings.now.skips.first }
     {
         Progress {
             pass,
@@ -52,7 +52,7 @@ impl Progress {
         ensures cursor { (domain : List Range) (names : Option MapNames) (line : List ℕ) (map : List Status)
             → length map ≡ end → result.cursor ≡ first_cursor (setting_with settings.now domain names line) loaded map }
         ensures mode { result.mode ≡ Lead }
-        ensures skip { result.skip ≡ settings.now.skip }
+        ensures skip { result.skip ≡ settings.now.skips.first }
     {
         let Some(state) = loaded else {
             return Progress::at_start(settings, 1, end);
