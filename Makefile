@@ -6,7 +6,7 @@
 # from a folder, and prove and build nothing.
 PREFIX ?= /usr/local
 PROGRAMS := ddrescue ddrescuelog ddrescuepart ddrescueverify ddrescueplan ddrescueshow
-DOCUMENTS := NEWS.md $(shell find docs -name "*.md" -o -name "*.png")
+DOCUMENTS := NEWS.md $(shell find docs -name "*.md" -o -name "*.svg")
 SHARE := $(PREFIX)/share
 MANUAL := $(SHARE)/man/man1
 BASH := $(SHARE)/bash-completion/completions
