@@ -238,7 +238,7 @@ tried_past r Scraping known = known.trimmed.tried
 tried_past r Retrying known = known.scraped.trimmed.tried
 
 trimmed_past : (r : RunState) (phase : Phase) (x : ℕ) → IsPast phase r → Known (known_past phase) r
-    → (setting_in r).trims ≡ true → is_live (setting_in r) r.machine x ≡ true → Has r.machine.map NonTrimmed x
+    → (setting_in r).passes.trims ≡ true → is_live (setting_in r) r.machine x ≡ true → Has r.machine.map NonTrimmed x
     → StillComes (setting_in r) r.machine (numbered Trimming 1) x
 trimmed_past r Copying x b known on live has =
     Later (subst (λ (ps : List Pass). Contains ps (numbered Trimming 1)) (sym b.left) (has_trimming (setting_in r) on))
@@ -250,7 +250,7 @@ trimmed_past r Retrying x b known on live has =
     absurd (known.scraped.trimmed.trimmed on x live has)
 
 scraped_past : (r : RunState) (phase : Phase) (x : ℕ) → IsPast phase r → Known (known_past phase) r
-    → (setting_in r).scrapes ≡ true → is_live (setting_in r) r.machine x ≡ true → Has r.machine.map NonScraped x
+    → (setting_in r).passes.scrapes ≡ true → is_live (setting_in r) r.machine x ≡ true → Has r.machine.map NonScraped x
     → StillComes (setting_in r) r.machine (numbered Scraping 1) x
 scraped_past r Copying x b known on live has =
     Later (subst (λ (ps : List Pass). Contains ps (numbered Scraping 1)) (sym b.left) (has_scraping (setting_in r) on))
