@@ -13,3 +13,4 @@ mod FigureLemmas
 mod StandLemmas
 mod SvgLemmas
 mod ProgressLemmas
+mod FollowLemmas

@@ -1,5 +1,5 @@
--- The line of a rescue's progress fits; and why a call that follows a rescue stopped.
-use Rattle.std.proofs.Common.{◌≡◌, ℕ, ◌+◌, ◌≤◌, nat_lt, Bool, true, false, cond, List, ◌++◌, length, refl, sym, ap, ◌∙◌, arith}
+-- The line of a rescue's progress fits.
+use Rattle.std.proofs.Common.{◌≡◌, ℕ, ◌+◌, ◌≤◌, nat_lt, Bool, true, false, cond, List, ◌++◌, length, refl, arith}
 use Rattle.std.proofs.lemmas.Bool.Decides.{nat_tests}
 use Rattle.std.proofs.lemmas.Fmt.{length-decimal-le}
 use Rattle.std.proofs.lemmas.List.{length-append}
@@ -9,10 +9,6 @@ use Rattle.rescue_rules.specs.Lines.{phase_text}
 use Rattle.rescue_lines.specs.declared.lines.Head.{Head}
 use Rattle.rescue_lines.specs.declared.lines.Head.TheVariants.{Phase, Last}
 use Rattle.rescue_lines.specs.Lines.{IsHead}
-use Rattle.rescue_console.specs.ConsoleState.{ConsoleState}
-use Rattle.rescue_console.specs.FeedState.{FeedState}
-use Rattle.ddrescueshow_cli.specs.declared.follow.FollowEnding.{FollowEnding}
-use Rattle.ddrescueshow_cli.specs.Following.{HasCause, IsPutCause, puts_after, takes_after}
 use Rattle.ddrescueshow_cli.specs.Progress.{ProgressFits, columns, done_text, errors_text, failed_text, fit, left_text, rate_text, where_text}
 
 fits_by : (long : Bool) (text part : List ℕ) → nat_lt columns (length text + length part) ≡ long → length text ≤ columns
@@ -45,23 +41,3 @@ pub progress_fits : ProgressFits
 progress_fits size rate f is =
     fits _ (left_text size rate f.rescued) (fits _ (rate_text rate) (fits _ (errors_text f.errors)
     (fits _ (failed_text f.failed) (fits _ (done_text size f.rescued) (where_short f.head is)))))
-
--- ---- why it stopped
-
--- after steps in which nothing failed
-pub stopped : (e : FollowEnding) (f f' f'' : FeedState) (c c' c'' : ConsoleState) → HasCause e f' f'' c' c''
-    → f'.faults ≡ f.faults → c'.out.faults ≡ c.out.faults → HasCause e f f'' c c''
-stopped e f f' f'' c c' c'' why takes puts = record {
-  alone = why.alone;
-  takes = why.takes ∙ ap (takes_after e) takes;
-  puts = why.puts ∙ ap (puts_after e) puts;
-}
-
--- and then a step that takes nothing
-pub ended : (e : FollowEnding) (f f' : FeedState) (c c' c'' : ConsoleState) → IsPutCause e c' c''
-    → f'.faults ≡ f.faults → c'.out.faults ≡ c.out.faults → HasCause e f f' c c''
-ended e f f' c c' c'' why takes puts = record {
-  alone = why.alone;
-  takes = takes ∙ sym (why.takes f.faults);
-  puts = why.puts ∙ ap (puts_after e) puts;
-}

@@ -50,15 +50,22 @@ puts_after FeedFault n = n
 puts_after ConsoleFault n = raised n
 puts_after NoMemory n = n
 
+-- whether each put on standard output succeeded
+abbrev pub is_heard : FollowEnding → Bool
+is_heard Done = true
+is_heard NotAlone = true
+is_heard FeedFault = true
+is_heard ConsoleFault = false
+is_heard NoMemory = true
+
+-- the answer at the end of the lines, by whether each put succeeded
+abbrev pub ending_of : (heard : Bool) → FollowEnding
+ending_of true = Done
+ending_of false = ConsoleFault
+
 -- Why an answer came of a call without other arguments: a failure is answered exactly if its count rose, and no other
 -- rose.
 pub record HasCause (e : FollowEnding) (feed feed' : FeedState) (console console' : ConsoleState) : Type 0 where
   pub alone : e ≢ NotAlone
   pub takes : feed'.faults ≡ takes_after e feed.faults
-  pub puts : console'.out.faults ≡ puts_after e console.out.faults
-
--- why a step stopped that takes nothing
-pub record IsPutCause (e : FollowEnding) (console console' : ConsoleState) : Type 0 where
-  pub alone : e ≢ NotAlone
-  pub takes : (n : ℕ) → takes_after e n ≡ n
   pub puts : console'.out.faults ≡ puts_after e console.out.faults

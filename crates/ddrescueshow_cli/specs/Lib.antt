@@ -9,4 +9,6 @@ pub mod Ddrescueshow
 pub mod Steps
 pub mod Progress
 pub mod Following
+pub mod PutLines
+pub mod FollowSteps
 pub mod Laws

@@ -1,5 +1,5 @@
 -- The line that says how far a rescue has come, by one of the rescue's own lines.
-use Rattle.std.specs.Prelude.{◌≡◌, ◌≢◌, ℕ, ◌+◌, ◌-◌, ◌/◌, ◌%◌, ◌≤◌, Bool, true, false, nat_eq, nat_lt, List, [], ◌∷◌, ◌++◌, length, replicate, Option, Some, None, codes, if◌then◌else◌}
+use Rattle.std.specs.Prelude.{◌≡◌, ◌≢◌, ℕ, ◌+◌, ◌-◌, ◌/◌, ◌%◌, ◌^◌, ◌<◌, ◌≤◌, Bool, true, false, nat_eq, nat_lt, List, [], ◌∷◌, ◌++◌, length, replicate, Option, Some, None, codes, if◌then◌else◌}
 use Rattle.std.specs.Fmt.{decimal}
 use Rattle.block_list.specs.declared.areas.Count.{Count}
 use Rattle.rescue_rules.specs.declared.report.Report.{Report}
@@ -7,7 +7,8 @@ use Rattle.rescue_rules.specs.Lines.{last_front, phase_text, report_text}
 use Rattle.rescue_lines.specs.declared.lines.Figures.{Figures}
 use Rattle.rescue_lines.specs.declared.lines.Head.{Head}
 use Rattle.rescue_lines.specs.declared.lines.Head.TheVariants.{Phase, Last}
-use Rattle.rescue_lines.specs.Lines.{IsHead, IsReport, figures_line, head_text}
+use Rattle.rescue_lines.specs.Lines.{IsHead, IsReport, figures_line, head_text, opening_front}
+use Rattle.ddrescueshow_cli.specs.declared.follower.Known.{Known}
 use Rattle.ddrescueshow_cli.specs.declared.rate.Sample.{Sample}
 use Rattle.ddrescueshow_cli.specs.Picture.{share, share_text}
 
@@ -95,10 +96,23 @@ abbrev pub passed_text : (is_up : Bool) → (line : List ℕ) → List ℕ
 passed_text true line = over_text [] ++ 13 ∷ [] ++ line
 passed_text false line = line
 
+-- the size of the domain after a line: the one with which the line begins, or else the one before it
+pub data IsSizeAfter (line : List ℕ) (size size' : Option ℕ) : Type 0 where
+  Opening : (n : ℕ) (rest : List ℕ) → n < 2 ^ 64 → line ≡ opening_front n ++ rest → size' ≡ Some n
+      → IsSizeAfter line size size'
+  Another : ((n : ℕ) (rest : List ℕ) → n < 2 ^ 64 → line ≢ opening_front n ++ rest) → size' ≡ size
+      → IsSizeAfter line size size'
+
+-- what is known after a line of figures
+abbrev pub after_figures : (terminal : Bool) → Known → Known
+after_figures terminal known = record { is_up = terminal; size = known.size }
+
 -- What is put of a line: that of its figures, if a rescue prints such a line, and else the line itself. Nothing more is
 -- told of the rate.
-pub data IsSaid (terminal is_up : Bool) (size : Option ℕ) (line text : List ℕ) : Type 0 where
+pub data IsSaid (terminal : Bool) (known known' : Known) (line text : List ℕ) : Type 0 where
   OfFigures : (f : Figures) (rate : Option ℕ) → line ≡ figures_line f
-      → text ≡ shown_text terminal (progress_text size rate f) → IsSaid terminal is_up size line text
+      → text ≡ shown_text terminal (progress_text known.size rate f) → known' ≡ after_figures terminal known
+      → IsSaid terminal known known' line text
   Passed : ((head : Head) (r : Report) → IsHead head → IsReport r → line ≢ report_text (head_text head) r)
-      → text ≡ passed_text is_up line → IsSaid terminal is_up size line text
+      → text ≡ passed_text known.is_up line → known'.is_up ≡ false → IsSizeAfter line known.size known'.size
+      → IsSaid terminal known known' line text

@@ -1,5 +1,6 @@
 //! What the definitions mean.
 ghost use Rattle.ddrescueshow_cli.specs.Progress.{ProgressFits};
+ghost use Rattle.ddrescueshow_cli.specs.PutLines.{AllLinesArePut};
 ghost use Rattle.ddrescueshow_cli.specs.Laws.{AllCellsTile, AllIsFinishedAt100, CellsAreLeast, FilesStand, HasOneVerdict, MarksHideNothing, PlainRowsAreCells, RunsAreCells, ShowKeepsPromises, SmallPicture, SvgIsShort};
 
 /// Each position of what is shown is in one cell, and no other position is in any.
@@ -45,6 +46,11 @@ pub fn a_small_map_is_drawn()
 /// The line of a rescue's progress fits 79 columns.
 pub fn progress_fits()
     ensures { ProgressFits }
+{}
+
+/// After `Done` all lines of standard input are on standard output, each as what is put of it.
+pub fn all_lines_are_put()
+    ensures { AllLinesArePut }
 {}
 
 /// Maps have one verdict at most.

@@ -5,6 +5,7 @@ mod cells;
 pub mod ending;
 mod figures;
 pub mod follow;
+mod follower;
 mod form;
 pub mod frame;
 pub mod laws;

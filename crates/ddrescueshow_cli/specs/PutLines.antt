@@ -1,0 +1,155 @@
+-- What is put of the lines of a rescue that is followed, and how such a call goes.
+use Rattle.std.specs.Prelude.{◌≡◌, ◌≢◌, ◌⊎◌, ℕ, ◌<◌, ◌≤◌, ⊤, Bool, true, false, IsTrue, List, [], ◌∷◌, ◌++◌, length, map, None, if◌then◌else◌}
+use Rattle.std.specs.List.{All, flat_map}
+use Rattle.program_promise.specs.Saying.{SaysAs}
+use Rattle.rescue_console.specs.ConsoleState.{ConsoleState}
+use Rattle.rescue_console.specs.FeedState.{FeedState}
+use Rattle.rescue_console.specs.Speaking.{SpeaksOn, out_pieces}
+use Rattle.ddrescueshow_cli.specs.declared.follow.FollowEnding.{FollowEnding}
+use Rattle.ddrescueshow_cli.specs.declared.follow.FollowEnding.TheVariants.{Done, FeedFault}
+use Rattle.ddrescueshow_cli.specs.declared.follower.Known.{Known}
+use Rattle.ddrescueshow_cli.specs.Following.{ending_of, follow_message, is_followed, is_heard}
+use Rattle.ddrescueshow_cli.specs.Progress.{IsSaid}
+
+-- ---- lines
+
+-- how long a line is at most; a longer one passes in pieces
+abbrev pub longest : ℕ
+longest = 4096
+
+-- no byte ends a line
+abbrev pub HasNoNewline : List ℕ → Type 0
+HasNoNewline line = All (λ byte. byte ≢ 10) line
+
+-- a whole line: it ends with its only newline, or it is as long as a line can be
+pub data IsWhole (line : List ℕ) : Type 0 where
+  Ended : (front : List ℕ) → line ≡ front ++ 10 ∷ [] → HasNoNewline front → length line ≤ longest → IsWhole line
+  Longest : HasNoNewline line → length line ≡ longest → IsWhole line
+
+-- a line that may go on, or no byte of one
+pub record IsUnfinished (line : List ℕ) : Type 0 where
+  pub unended : HasNoNewline line
+  pub short : length line < longest
+
+-- a line that came, and what was put of it
+pub record PutLine : Type 0 where
+  pub line : List ℕ
+  pub text : List ℕ
+
+-- the lines joined, and the texts in order
+abbrev pub lines_of : List PutLine → List ℕ
+lines_of puts = flat_map (λ p. p.line) puts
+
+abbrev pub texts_of : List PutLine → List (List ℕ)
+texts_of puts = map (λ p. p.text) puts
+
+-- each line is whole
+abbrev pub AreWhole : List PutLine → Type 0
+AreWhole [] = ⊤
+AreWhole (p ∷ ps) = IsWhole p.line × AreWhole ps
+
+-- each line is whole, except that the last one may be unfinished, and then it has a byte
+abbrev pub AreLines : List PutLine → Type 0
+AreLines [] = ⊤
+AreLines (p ∷ ps) = (IsWhole p.line × AreLines ps) ⊎ (IsUnfinished p.line × (p.line ≢ []) × (ps ≡ []))
+
+-- what is put of each line is what it says after the lines before it, and so is what is known after the last one
+abbrev pub Follows : (terminal : Bool) → List PutLine → (known known' : Known) → Type 0
+Follows terminal [] known known' = known' ≡ known
+Follows terminal (p ∷ ps) known known' =
+    (between : Known) × IsSaid terminal known between p.line p.text × Follows terminal ps between known'
+
+-- ---- how far a call has come
+
+-- the line so far, what is known after the lines before it, and the console
+pub record Stage : Type 0 where
+  pub line : List ℕ
+  pub known : Known
+  pub console : ConsoleState
+
+-- before the first line
+abbrev pub known_at_first : Known
+known_at_first = record { is_up = false; size = None }
+
+abbrev pub first_stage : ConsoleState → Stage
+first_stage console = record { line = []; known = known_at_first; console = console }
+
+-- These bytes came after the line so far. The whole lines in them were put, each by one put, and in order; what is left
+-- is the new line so far. If a put failed, it is the last one.
+pub record PutsLines (terminal : Bool) (came : List ℕ) (heard : Bool) (old new : Stage) : Type 0 where
+  pub puts : List PutLine
+  pub split : old.line ++ came ≡ lines_of puts ++ new.line
+  pub whole : AreWhole puts
+  pub follows : Follows terminal puts old.known new.known
+  pub speaks : SpeaksOn (out_pieces (texts_of puts)) true heard old.console new.console
+
+-- what is put after the last line: a newline, if a line of figures is up
+abbrev pub end_texts : Known → List (List ℕ)
+end_texts known = if known.is_up then (10 ∷ []) ∷ [] else []
+
+-- These bytes came after the line so far, and no others come. All lines were put, each by one put, and in order, and
+-- then the newline after the last one. If a put failed, it is the last one.
+pub record PutsLast (terminal : Bool) (came : List ℕ) (heard : Bool) (old : Stage) (console' : ConsoleState)
+    : Type 0 where
+  pub puts : List PutLine
+  pub split : old.line ++ came ≡ lines_of puts
+  pub lines : AreLines puts
+  pub known : Known
+  pub follows : Follows terminal puts old.known known
+  pub speaks : SpeaksOn (out_pieces (texts_of puts ++ end_texts known)) true heard old.console console'
+
+-- ---- how a call goes
+
+-- these bytes were taken from a feed, if it tells
+pub record Takes (came : List ℕ) (feed feed' : FeedState) : Type 0 where
+  pub tells : feed'.tells ≡ feed.tells
+  pub taken : IsTrue feed.tells → feed.left ≡ came ++ feed'.left
+
+-- It broke off before the end of the feed was found. After a take that failed no whole line is left.
+pub record BreaksOff (terminal : Bool) (e : FollowEnding) (feed feed' : FeedState) (old : Stage)
+    (console' : ConsoleState) : Type 0 where
+  pub came : List ℕ
+  pub takes : Takes came feed feed'
+  pub line : List ℕ
+  pub known : Known
+  pub puts : PutsLines terminal came (is_heard e) old (record { line = line; known = known; console = console' })
+  pub undone : e ≢ Done
+  pub unfinished : e ≡ FeedFault → IsUnfinished line
+
+-- It came to the end of the feed, and all was put, or a put failed.
+pub record ComesToEnd (terminal : Bool) (e : FollowEnding) (feed feed' : FeedState) (old : Stage)
+    (console' : ConsoleState) : Type 0 where
+  pub came : List ℕ
+  pub takes : Takes came feed feed'
+  pub none : IsTrue feed.tells → feed'.left ≡ []
+  pub heard : Bool
+  pub is : e ≡ ending_of heard
+  pub puts : PutsLast terminal came heard old console'
+
+-- one of both, before anything is said of the answer
+abbrev pub Goes : (terminal : Bool) → FollowEnding → (feed feed' : FeedState) → Stage → ConsoleState → Type 0
+Goes terminal e feed feed' old console' =
+    BreaksOff terminal e feed feed' old console' ⊎ ComesToEnd terminal e feed feed' old console'
+
+-- All that is put: first what is put of the lines, and then one message, unless all was put.
+pub record PutsAll (terminal : Bool) (e : FollowEnding) (feed feed' : FeedState) (console console' : ConsoleState)
+    : Type 0 where
+  pub between : ConsoleState
+  pub goes : Goes terminal e feed feed' (first_stage console) between
+  pub says : SaysAs (is_followed e) false (follow_message e) between console'
+
+-- ---- after `Done`
+
+-- All lines of a feed are on standard output, after what was there.
+pub record HasAllLines (terminal : Bool) (feed : FeedState) (console console' : ConsoleState) : Type 0 where
+  pub puts : List PutLine
+  pub all : lines_of puts ≡ feed.left
+  pub lines : AreLines puts
+  pub known : Known
+  pub follows : Follows terminal puts known_at_first known
+  pub out : console'.out.text ≡ console.out.text ++ flat_map (λ text. text) (texts_of puts ++ end_texts known)
+
+abbrev pub AllLinesArePut : Type 0
+AllLinesArePut = (terminal : Bool) (feed feed' : FeedState) (console console' : ConsoleState) → IsTrue feed.tells
+    → IsTrue console.tells → PutsAll terminal Done feed feed' console console'
+    → HasAllLines terminal feed console console'
