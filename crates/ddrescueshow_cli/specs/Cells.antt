@@ -46,8 +46,8 @@ end_of f k = min f.to (begin_of f k + f.cell)
 abbrev pub cells_of_row : Frame → (row : ℕ) → ℕ
 cells_of_row f row = min f.width (cells_in f - row * f.width)
 
--- a picture's cells and rows aren't empty, it has at most 1,000 rows of at most 1,000 cells, and its positions are below
--- 2^63
+-- a picture's cells and rows aren't empty, it has at most 1,000 rows of at most 1,000 cells, and its positions are
+-- below 2^63
 pub record IsFrame (f : Frame) : Type 0 where
   pub cell : 0 < f.cell
   pub width : 0 < f.width

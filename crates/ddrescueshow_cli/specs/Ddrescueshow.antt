@@ -39,11 +39,13 @@ show_program terminal = record {
 }
 
 -- what is done for a command
-abbrev pub ShowWorked : (terminal : Bool) → Command → (words : List (List ℕ)) → ShowEnding → (old new : WorldState) → Type 0
+abbrev pub ShowWorked : (terminal : Bool) → Command → (words : List (List ℕ)) → ShowEnding → (old new : WorldState)
+    → Type 0
 ShowWorked terminal c words e old new = Worked (show_program terminal) c words e old new
 
 -- what is done before any message is put
-abbrev pub ShowDone : (terminal : Bool) → (words : List (List ℕ)) → ShowEnding → (quiet : Bool) → (old new : WorldState) → Type 0
+abbrev pub ShowDone : (terminal : Bool) → (words : List (List ℕ)) → ShowEnding → (quiet : Bool)
+    → (old new : WorldState) → Type 0
 ShowDone terminal words e quiet old new = IsDone (show_program terminal) words e quiet old new
 
 -- What is promised of a call.

@@ -130,8 +130,8 @@ HasOneVerdict = (c : Command) (found : Found) (e e' : ShowEnding) (d d' : Deeds)
 
 -- Whatever is asked for, and however it ends, all files read as they did.
 abbrev pub FilesStand : Type 0
-FilesStand = (terminal : Bool) (t : Told ShowEnding) (c : Command) → Ddrescueshow terminal t → Asks t.words c → IsTrue t.before.site.tells
-    → (name : List ℕ) → files_in t.after.site name ≡ files_in t.before.site name
+FilesStand = (terminal : Bool) (t : Told ShowEnding) (c : Command) → Ddrescueshow terminal t → Asks t.words c
+    → IsTrue t.before.site.tells → (name : List ℕ) → files_in t.after.site name ≡ files_in t.before.site name
 
 -- ---- a small picture
 
@@ -156,13 +156,14 @@ small_options = record {
 abbrev pub small_runs : (row : ℕ) → List Run
 small_runs row = runs_of (marks_of (frame_of small_options 10) (λ x. true) small_map row)
 
--- The small map's picture has two rows, `++-+` and `?`, the first one in three runs; 8 of its 10 bytes are rescued, which
--- is 80.00 %.
+-- The small map's picture has two rows, `++-+` and `?`, the first one in three runs; 8 of its 10 bytes are rescued,
+-- which is 80.00 %.
 abbrev pub SmallPicture : Type 0
 SmallPicture =
     (frame_of small_options 10 ≡ record { from = 0; to = 10; cell = 2; width = 4 })
     × (rows_in (frame_of small_options 10) ≡ 2) × (flat_map (run_text Plain) (small_runs 0) ≡ codes "++-+")
     × (flat_map (run_text Plain) (small_runs 1) ≡ codes "?")
     × (small_runs 0 ≡ record { from = 0; count = 2; shown = Some Finished }
-    ∷ record { from = 2; count = 1; shown = Some BadSector } ∷ record { from = 3; count = 1; shown = Some Finished } ∷ [])
+    ∷ record { from = 2; count = 1; shown = Some BadSector }
+    ∷ record { from = 3; count = 1; shown = Some Finished } ∷ [])
     × ((line_of (summary_of (λ x. true) small_map) 4).bytes ≡ 8) × (share 8 10 ≡ 8000)

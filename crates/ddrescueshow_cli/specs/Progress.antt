@@ -67,8 +67,8 @@ left_text (Some size) (Some rate) rescued = left_by size rescued rate
 -- The line, by the size of the domain and the rate, if they are known. A part that doesn't fit any more is left out.
 abbrev pub progress_text : (size rate : Option ℕ) → Figures → List ℕ
 progress_text size rate f =
-    fit (fit (fit (fit (fit (where_text f.head) (done_text size f.rescued)) (failed_text f.failed)) (errors_text f.errors))
-    (rate_text rate)) (left_text size rate f.rescued)
+    fit (fit (fit (fit (fit (where_text f.head) (done_text size f.rescued)) (failed_text f.failed))
+    (errors_text f.errors)) (rate_text rate)) (left_text size rate f.rescued)
 
 -- It fits.
 abbrev pub ProgressFits : Type 0

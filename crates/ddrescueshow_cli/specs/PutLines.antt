@@ -126,7 +126,7 @@ pub record ComesToEnd (terminal : Bool) (e : FollowEnding) (feed feed' : FeedSta
   pub is : e ≡ ending_of heard
   pub puts : PutsLast terminal came heard old console'
 
--- one of both, before anything is said of the answer
+-- one of both, before the message
 abbrev pub Goes : (terminal : Bool) → FollowEnding → (feed feed' : FeedState) → Stage → ConsoleState → Type 0
 Goes terminal e feed feed' old console' =
     BreaksOff terminal e feed feed' old console' ⊎ ComesToEnd terminal e feed feed' old console'

@@ -61,8 +61,8 @@ is_too_large o = o.svg && nat_lt 16000 (o.width * o.rows)
 abbrev pub IsTooLarge : ShowOptions → ShowEnding → Type 0
 IsTooLarge o e = (is_too_large o ≡ true) × (e ≡ TooManyCells)
 
--- The rows before the picture is put: memory may run out, the picture may be too large, the mapfile is read and then the
--- domain map, and memory for the picture may run out.
+-- The rows before the picture is put: memory may run out, the picture may be too large, the mapfile is read and then
+-- the domain map, and memory for the picture may run out.
 abbrev pub show_rows : Command → Found → List (WorkStep ShowEnding)
 show_rows c found =
     Take ∷ Look (IsTooLarge c.options)
