@@ -235,7 +235,7 @@ impl<T: Tiles> Sweeping<T> {
         requires { IsFound self.now piece }
         ensures { result ≡ place (setting_of self.now) piece.pos }
     {
-        piece.pos - self.settings.ipos + self.settings.opos
+        piece.pos - self.settings.from + self.settings.to
     }
 
     /// Looks up a piece in the output, after taking memory for its marks, and marks as finished what is held of it.

@@ -45,7 +45,7 @@ pub(crate) fn gather<S: Source, D: Site, K: Clock>(
     requires fits { request.len ≤ length buf.old }
     requires cluster { length buf.old ≤ 16777216 }
     requires short { request.pos + request.len < 2 ^ 63 }
-    requires place { request.pos - settings.now.ipos + settings.now.opos + request.len < 2 ^ 63 }
+    requires place { request.pos - settings.now.from + settings.now.to + request.len < 2 ^ 63 }
     requires input { (S.state source.old).is_open ≡ true }
     requires image { (D.state site.old).is_open ≡ true }
     ensures gathered { IfOk result (λ got. Gathers request settings.now got (S.state source.old) (S.state source.new)
@@ -77,7 +77,7 @@ pub(crate) fn gather<S: Source, D: Site, K: Clock>(
         before,
         after,
     } = timed;
-    let at = request.pos.saturating_sub(settings.ipos) + settings.opos;
+    let at = request.pos.saturating_sub(settings.from) + settings.to;
     let Ok(kept) = land_kept(fetched, buf, site, at) else {
         return Err(Stop::Site(SiteCall::ImageWrite));
     };

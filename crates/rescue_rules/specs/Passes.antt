@@ -30,7 +30,10 @@ current_of Retrying = NowRetrying
 
 -- a pass with an odd number goes upwards, and with one way each does; in reverse it is the other way round
 abbrev pub is_up : Setting → Pass → Bool
-is_up s p = if s.passes.reverse then not (s.passes.one_way || nat_eq (p.number % 2) 1) else (s.passes.one_way || nat_eq (p.number % 2) 1)
+is_up s p =
+    if s.passes.reverse
+    then not (s.passes.one_way || nat_eq (p.number % 2) 1)
+    else (s.passes.one_way || nat_eq (p.number % 2) 1)
 
 abbrev pub numbered : Phase → ℕ → Pass
 numbered phase number = record { phase = phase; number = number }

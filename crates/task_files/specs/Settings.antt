@@ -10,8 +10,8 @@ abbrev pub settings_by : Options → Settings
 settings_by o = record {
   sector = o.sector;
   cluster = cluster_of o;
-  ipos = o.input_position;
-  opos = output_from o;
+  from = o.input_position;
+  to = output_from o;
   skips = skips_asked o;
   passes = o.passes;
   limits = o.limits;

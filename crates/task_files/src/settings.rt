@@ -24,8 +24,8 @@ pub fn settings_for(options: &Options) -> Settings
     Settings {
         sector: options.sector,
         cluster: options.cluster(),
-        ipos: options.input_position,
-        opos: output_from(options),
+        from: options.input_position,
+        to: output_from(options),
         skips: Skips {
             first: options.first_skip(),
             most: options.largest_skip(),
