@@ -8,8 +8,14 @@ pub overflow_add-counted : goal.overflow_add-counted
 overflow_add-counted c =
     let k = counted_yes c.args.blocks.now.items c.loop-i.i c.args.status c.block-block.result (omega arith)
     (ap (λ (b : Block). b.status) (sym c.block-block.ensures) ∙ c.is.ensures.0 c.if-is.true) in
-    omega (arith, k, ap (λ (b : Block). b.size) c.block-block.ensures, c.loop-i.invariant,
-      counted_end c.args.blocks.now.items (c.loop-i.i + 1) c.args.status, c.requires.short)
+    omega (
+      arith,
+      k,
+      ap (λ (b : Block). b.size) c.block-block.ensures,
+      c.loop-i.invariant,
+      counted_end c.args.blocks.now.items (c.loop-i.i + 1) c.args.status,
+      c.requires.short,
+    )
 
 pub loop-i-preserved : goal.loop-i-preserved
 loop-i-preserved c = elim c.if-is.branch [
