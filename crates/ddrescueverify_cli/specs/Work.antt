@@ -88,19 +88,20 @@ after_looks place looks d = record {
   };
 }
 
--- The comparison over a map: it looks at the first pieces, each by one read of the input and, if that was whole, one of
--- the image, and ends after them.
-pub record ComparesOver (c : Command) (line : List ℕ) (end : ℕ) (statuses : List Status) (shown : MapState)
-    (looks : List Look) (e : VerifyEnding) (d : Deeds) : Type 0 where
-  pub asks : AskForPieces (plan_of c.options end statuses).compared c.options.sector 0 (reads_of looks)
-  pub rest : Deeds
-  pub is : d ≡ after_looks (place_in (plan_of c.options end statuses)) looks rest
-  pub ends : EndsAfter c (plan_of c.options end statuses) (text_of line statuses shown looks) looks e rest
+-- By a command and its command line:
+module _ (c : Command) (line : List ℕ) where
+  -- The comparison over a map: it looks at the first pieces, each by one read of the input and, if that was whole, one
+  -- of the image, and ends after them.
+  pub record ComparesOver (end : ℕ) (statuses : List Status) (shown : MapState) (looks : List Look)
+      (e : VerifyEnding) (d : Deeds) : Type 0 where
+    pub asks : AskForPieces (plan_of c.options end statuses).compared c.options.sector 0 (reads_of looks)
+    pub rest : Deeds
+    pub is : d ≡ after_looks (place_in (plan_of c.options end statuses)) looks rest
+    pub ends : EndsAfter c (plan_of c.options end statuses) (text_of line statuses shown looks) looks e rest
 
--- The comparison over the map that the mapfile stands for, which ends at the input's end or past it.
-pub record Verifies (c : Command) (line : List ℕ) (found : Found) (end : ℕ) (looks : List Look) (e : VerifyEnding)
-    (d : Deeds) : Type 0 where
-  pub statuses : List Status
-  pub shown : MapState
-  pub stands : Stands found.mapfile end statuses (Some shown)
-  pub compares : ComparesOver c line end statuses shown looks e d
+  -- The comparison over the map that the mapfile stands for, which ends at the input's end or past it.
+  pub record Verifies (found : Found) (end : ℕ) (looks : List Look) (e : VerifyEnding) (d : Deeds) : Type 0 where
+    pub statuses : List Status
+    pub shown : MapState
+    pub stands : Stands found.mapfile end statuses (Some shown)
+    pub compares : ComparesOver end statuses shown looks e d

@@ -20,9 +20,9 @@ use Rattle.rescue_rules.specs.Lines.{report_text, last_front, is_done}
 use Rattle.rescue_rules.specs.Deeds.{save_of, doing_calls}
 use Rattle.sweep_rules.specs.Sweep.{filler, generator, Sweeper, Sweep, Swept, IsSweptOut, after_pieces, due_save, sweep_end, deeds_of}
 use Rattle.sweep_rules.specs.SweepWork.{SweepEndsBy, IsSaved, IsUnsaved, IsCut as WorkIsCut, IsBroken as WorkIsBroken, sweep_report, sweep_calls, pieces_lines, lost_call}
-use Rattle.fill_generate.specs.Sweeping.{Around, BreaksAfter, EndsSweep, Saved, Unsaved, Cut, Broken, SweepTold, LookupTold, EndsAreTold}
+use Rattle.fill_generate.specs.Sweeping.{Around, BreaksAfter, EndsSweep, Saved, Unsaved, Cut, Broken, SweepTold, LookupTold, EndsAreTold, SweepStopsAt, IsStarved, IsCut, IsBroken}
 use Rattle.fill_generate.specs.SweepState.{SweepState, setting_of}
-use Rattle.fill_generate.specs.Steps.{SweepWent, WentOn, WentUpTo, SweepStopsAt, IsStarved, IsCut, IsBroken, SavesLast, LastSaved, LastFailed, ClosesFiles, PiecesEnd, IsLookedUp}
+use Rattle.fill_generate.specs.Steps.{SweepWent, WentOn, WentUpTo, SavesLast, LastSaved, LastFailed, ClosesFiles, PiecesEnd, IsLookedUp}
 use Rattle.fill_generate.proofs.TellLemmas.{between, makes_more, breaks_after, says_more}
 use Rattle.fill_generate.proofs.ImageLemmas.{all_given}
 

@@ -28,7 +28,7 @@ use Rattle.sweep_rules.specs.SweepWork.{sweep_report, sweep_calls, piece_lines, 
 use Rattle.fill_generate.specs.declared.sweeping.Piece.{Piece}
 use Rattle.fill_generate.specs.SweepState.{SweepState, setting_of, standing, moved}
 use Rattle.fill_generate.specs.Modes.{IsSweeperOf, current_in}
-use Rattle.fill_generate.specs.Sweeping.{Around, BreaksAfter, times_after, IsApart}
+use Rattle.fill_generate.specs.Sweeping.{Around, BreaksAfter, SweepStopsAt, times_after, IsApart}
 use Rattle.fill_generate.specs.Marking.{finished_at, piece_at}
 use Rattle.rescue_core.specs.Closing.{drafting_at_stop}
 
@@ -74,76 +74,58 @@ pub record BreaksSave (stop : Stop) (calls : List Call) (site site' : SiteState)
 abbrev pub got_at : Piece → List ℕ → Swept
 got_at piece got = piece_at piece.pos piece.len got
 
--- A piece was done: what holds of its event besides, the state after it, the reading of the clock, and its line.
-pub record DoesPiece (G : Swept → Type 0) (s : Setting) (w : Sweeper) (m m' : Sweep) (heard heard' : Bool) (e : Swept)
-    (o : Around) : Type 0 where
-  pub asks : IsPiece s w m e.pos (e.pos + e.len)
-  pub gives : w.gives e ≡ true
-  pub given : G e
-  pub steps : m' ≡ after_piece w m e
-  pub timed : ReadsClock (e.after ∷ []) o.clock o.clock'
-  pub fit : e.after < 2 ^ 64
-  pub says : SpeaksOn (out_pieces (piece_lines s w m e)) heard heard' o.console o.console'
+-- What a sweeper does to pieces by a setting, with what holds of each event besides.
+module _ (G : Swept → Type 0) (s : Setting) (w : Sweeper) where
+  -- A piece was done: its event, the state after it, the reading of the clock, and its line.
+  pub record DoesPiece (m m' : Sweep) (heard heard' : Bool) (e : Swept) (o : Around) : Type 0 where
+    pub asks : IsPiece s w m e.pos (e.pos + e.len)
+    pub gives : w.gives e ≡ true
+    pub given : G e
+    pub steps : m' ≡ after_piece w m e
+    pub timed : ReadsClock (e.after ∷ []) o.clock o.clock'
+    pub fit : e.after < 2 ^ 64
+    pub says : SpeaksOn (out_pieces (piece_lines s w m e)) heard heard' o.console o.console'
 
--- and with its call, and the save that was due
-pub record DidPiece (G : Swept → Type 0) (s : Setting) (w : Sweeper) (m m' : Sweep) (heard heard' : Bool) (o : Around)
-    : Type 0 where
-  pub event : Swept
-  pub takes : DoesPiece G s w m m' heard heard' event o
-  pub calls : Makes (deed_calls s (deed_of w m event)) o.site o.site'
+  -- and with its call, and the save that was due
+  pub record DidPiece (m m' : Sweep) (heard heard' : Bool) (o : Around) : Type 0 where
+    pub event : Swept
+    pub takes : DoesPiece m m' heard heard' event o
+    pub calls : Makes (deed_calls s (deed_of w m event)) o.site o.site'
 
--- A sweep stopped at a piece:
-pub data Halted (G : Swept → Type 0) (s : Setting) (w : Sweeper) (m m' : Sweep) (heard heard' : Bool) (stop : Stop)
-    (o : Around) : Type 0 where
-  -- for want of memory, before its call
-  Starved : stop ≡ NoMemory → w.starves ≡ true → m' ≡ m → heard' ≡ heard → o.site' ≡ o.site → o.clock' ≡ o.clock
-      → o.console' ≡ o.console → Halted G s w m m' heard heard' stop o
-  -- at its call
-  Uncalled : (p q : ℕ) → IsPiece s w m p q → stop ≡ Site (call_name (lost_call w p q)) → m' ≡ m → heard' ≡ heard
-      → Breaks (call_name (lost_call w p q)) (lost_call w p q ∷ []) o.site o.site' → o.clock' ≡ o.clock
-      → o.console' ≡ o.console → Halted G s w m m' heard heard' stop o
-  -- at the save that was due after it
-  Unsaved : (event : Swept) → DoesPiece G s w m m' heard heard' event o → (call : SiteCall) → stop ≡ Site call
-      → BreaksAfter call (w.call event ∷ []) (save_of s (due_save w m event)) o.site o.site'
-      → Halted G s w m m' heard heard' stop o
+  -- A sweep stopped at a piece:
+  pub data Halted (m m' : Sweep) (heard heard' : Bool) (stop : Stop) (o : Around) : Type 0 where
+    -- for want of memory, before its call
+    Starved : stop ≡ NoMemory → w.starves ≡ true → m' ≡ m → heard' ≡ heard → o.site' ≡ o.site → o.clock' ≡ o.clock
+        → o.console' ≡ o.console → Halted m m' heard heard' stop o
+    -- at its call
+    Uncalled : (p q : ℕ) → IsPiece s w m p q → stop ≡ Site (call_name (lost_call w p q)) → m' ≡ m → heard' ≡ heard
+        → Breaks (call_name (lost_call w p q)) (lost_call w p q ∷ []) o.site o.site' → o.clock' ≡ o.clock
+        → o.console' ≡ o.console → Halted m m' heard heard' stop o
+    -- at the save that was due after it
+    Unsaved : (event : Swept) → DoesPiece m m' heard heard' event o → (call : SiteCall) → stop ≡ Site call
+        → BreaksAfter call (w.call event ∷ []) (save_of s (due_save w m event)) o.site o.site'
+        → Halted m m' heard heard' stop o
 
--- Pieces one after another, without their calls.
-pub record SweepWent (G : Swept → Type 0) (s : Setting) (w : Sweeper) (m m' : Sweep) (heard heard' : Bool)
-    (es : List Swept) (o : Around) : Type 0 where
-  pub run : IsSweep s w m es
-  pub given : All G es
-  pub state : m' ≡ after_pieces w m es
-  pub timed : ReadsClock (times_after es) o.clock o.clock'
-  pub fit : AreTimes (times_after es)
-  pub says : SpeaksOn (out_pieces (pieces_lines s w m es)) heard heard' o.console o.console'
+  -- Pieces one after another, without their calls.
+  pub record SweepWent (m m' : Sweep) (heard heard' : Bool) (es : List Swept) (o : Around) : Type 0 where
+    pub run : IsSweep s w m es
+    pub given : All G es
+    pub state : m' ≡ after_pieces w m es
+    pub timed : ReadsClock (times_after es) o.clock o.clock'
+    pub fit : AreTimes (times_after es)
+    pub says : SpeaksOn (out_pieces (pieces_lines s w m es)) heard heard' o.console o.console'
 
--- whole ones
-pub record WentOn (G : Swept → Type 0) (s : Setting) (w : Sweeper) (m m' : Sweep) (heard heard' : Bool) (o : Around)
-    : Type 0 where
-  pub events : List Swept
-  pub went : SweepWent G s w m m' heard heard' events o
-  pub made : Makes (sweep_calls s w m events) o.site o.site'
+  -- whole ones
+  pub record WentOn (m m' : Sweep) (heard heard' : Bool) (o : Around) : Type 0 where
+    pub events : List Swept
+    pub went : SweepWent m m' heard heard' events o
+    pub made : Makes (sweep_calls s w m events) o.site o.site'
 
--- The calls of pieces after which a sweep stopped, for want of memory, at the call of the next one, or at the save that
--- was due after the last one.
-pub data SweepStopsAt (s : Setting) (w : Sweeper) (m : Sweep) (es : List Swept) (stop : Stop) (site site' : SiteState)
-    : Type 0 where
-  IsStarved : stop ≡ NoMemory → w.starves ≡ true → (p q : ℕ) → IsPiece s w (after_pieces w m es) p q
-      → Makes (sweep_calls s w m es) site site' → SweepStopsAt s w m es stop site site'
-  IsCut : (p q : ℕ) → IsPiece s w (after_pieces w m es) p q → stop ≡ Site (call_name (lost_call w p q))
-      → BreaksAfter (call_name (lost_call w p q)) (sweep_calls s w m es) (lost_call w p q ∷ []) site site'
-      → SweepStopsAt s w m es stop site site'
-  IsBroken : (before : List Swept) (last : Swept) (call : SiteCall) → es ≡ before ++ last ∷ [] → stop ≡ Site call
-      → BreaksAfter call (sweep_calls s w m before ++ w.call last ∷ [])
-      (save_of s (due_save w (after_pieces w m before) last)) site site'
-      → SweepStopsAt s w m es stop site site'
-
--- pieces up to such a stop
-pub record WentUpTo (G : Swept → Type 0) (s : Setting) (w : Sweeper) (m m' : Sweep) (heard heard' : Bool) (stop : Stop)
-    (o : Around) : Type 0 where
-  pub events : List Swept
-  pub went : SweepWent G s w m m' heard heard' events o
-  pub stops : SweepStopsAt s w m events stop o.site o.site'
+  -- pieces up to such a stop
+  pub record WentUpTo (m m' : Sweep) (heard heard' : Bool) (stop : Stop) (o : Around) : Type 0 where
+    pub events : List Swept
+    pub went : SweepWent m m' heard heard' events o
+    pub stops : SweepStopsAt s w m events stop o.site o.site'
 
 -- what stays of the objects; the output stays open
 pub record ObjectsStay (o : Around) : Type 0 where
@@ -213,24 +195,25 @@ IsLookedUp s site e =
 abbrev pub gone_to : (r r' : SweepState) → SweepState
 gone_to r r' = record r { sweep = r'.sweep; heard = r'.heard }
 
--- a piece, by its outcome
-pub record PieceEnds {T : Type 0} (G : Swept → Type 0) (result : Result T Stop) (w : Sweeper) (piece : Piece)
-    (r r' : SweepState) (o : Around) : Type 0 where
-  pub stands : r' ≡ gone_to r r'
-  pub took : OnOk result (DidPiece G (setting_of r) w r.sweep r'.sweep r.heard r'.heard o)
-  pub passed : OnOk result (r'.sweep.cursor ≡ piece.pos + piece.len)
-  pub halted : IfErr result (λ stop. Halted G (setting_of r) w r.sweep r'.sweep r.heard r'.heard stop o)
-  pub no_draft : OnOk result (o.site'.is_drafting ≡ false)
-  pub draft_left : IfErr result (λ stop. o.site'.is_drafting ≡ drafting_at_stop stop)
-  pub objects : ObjectsStay o
+-- By the outcome, with what holds of each event besides:
+module _ {T : Type 0} (G : Swept → Type 0) where
+  -- what comes of a piece
+  pub record PieceEnds (result : Result T Stop) (w : Sweeper) (piece : Piece) (r r' : SweepState) (o : Around)
+      : Type 0 where
+    pub stands : r' ≡ gone_to r r'
+    pub took : OnOk result (DidPiece G (setting_of r) w r.sweep r'.sweep r.heard r'.heard o)
+    pub passed : OnOk result (r'.sweep.cursor ≡ piece.pos + piece.len)
+    pub halted : IfErr result (λ stop. Halted G (setting_of r) w r.sweep r'.sweep r.heard r'.heard stop o)
+    pub no_draft : OnOk result (o.site'.is_drafting ≡ false)
+    pub draft_left : IfErr result (λ stop. o.site'.is_drafting ≡ drafting_at_stop stop)
+    pub objects : ObjectsStay o
 
--- all pieces that are left
-pub record PiecesEnd {T : Type 0} (G : Swept → Type 0) (result : Result T Stop) (w : Sweeper) (r r' : SweepState)
-    (o : Around) : Type 0 where
-  pub stands : r' ≡ gone_to r r'
-  pub went : OnOk result (WentOn G (setting_of r) w r.sweep r'.sweep r.heard r'.heard o)
-  pub out : OnOk result (IsSweptOut (setting_of r) w r'.sweep)
-  pub halted : IfErr result (λ stop. WentUpTo G (setting_of r) w r.sweep r'.sweep r.heard r'.heard stop o)
-  pub no_draft : OnOk result (o.site'.is_drafting ≡ false)
-  pub draft_left : IfErr result (λ stop. o.site'.is_drafting ≡ drafting_at_stop stop)
-  pub objects : ObjectsStay o
+  -- and of all pieces that are left
+  pub record PiecesEnd (result : Result T Stop) (w : Sweeper) (r r' : SweepState) (o : Around) : Type 0 where
+    pub stands : r' ≡ gone_to r r'
+    pub went : OnOk result (WentOn G (setting_of r) w r.sweep r'.sweep r.heard r'.heard o)
+    pub out : OnOk result (IsSweptOut (setting_of r) w r'.sweep)
+    pub halted : IfErr result (λ stop. WentUpTo G (setting_of r) w r.sweep r'.sweep r.heard r'.heard stop o)
+    pub no_draft : OnOk result (o.site'.is_drafting ≡ false)
+    pub draft_left : IfErr result (λ stop. o.site'.is_drafting ≡ drafting_at_stop stop)
+    pub objects : ObjectsStay o

@@ -45,32 +45,31 @@ PlanIsBegun = (c : Command) (test : List Status) (end : PlanEnd) (old new : Cons
 abbrev pub EndsShort : Reading → Type 0
 EndsShort r = r.ended ≡ true → length r.given < r.asked
 
--- The reads of a rescue, as they are seen in test mode, where the input gave all that it was asked for: a run over a
--- map that wasn't tried, at whatever times.
-pub record RescueReads (c : RescueCommand) (line : List ℕ) (length time : ℕ) (test : List Status)
-    (raw : List Reading) (events : List Event) : Type 0 where
-  pub whole : All (λ r. is_whole r ≡ true) raw
-  pub ends : All EndsShort raw
-  pub seen_are : map (seen test) raw ≡ reads_of events
-  pub statuses : List Status
-  pub fresh : IsFresh length statuses None
-  pub run : IsRun (setting_of c line length no_maps)
-      (machine_over (setting_of c line length no_maps) statuses None time)
-      events
-
 -- no option sets a limit, and no read is slow
 pub record AreUnlimited (o : Options) : Type 0 where
   pub rate : o.min_rate ≡ 0
   pub limits : o.limits ≡ no_limits
 
--- The rescue's reads are the first ones of the plan for its options, and all of it if no request is left.
-pub record RescueIsPlanned (c : RescueCommand) (line : List ℕ) (length time : ℕ) (test : List Status)
-    (events : List Event) : Type 0 where
-  pub first : BeginsPlan (plan_setting c.options length) length test (map planned (reads_of events))
-  pub all : has_ended (setting_of c line length no_maps)
-      (state_after (setting_of c line length no_maps)
-      (machine_over (setting_of c line length no_maps) (untried_map length) None time) events) ≡ true
-      → IsPlan (plan_setting c.options length) length test (map planned (reads_of events))
+module _ (c : RescueCommand) (line : List ℕ) (length time : ℕ) (test : List Status) where
+  -- The reads of a rescue, as they are seen in test mode, where the input gave all that it was asked for: a run over a
+  -- map that wasn't tried, at whatever times.
+  pub record RescueReads (raw : List Reading) (events : List Event) : Type 0 where
+    pub whole : All (λ r. is_whole r ≡ true) raw
+    pub ends : All EndsShort raw
+    pub seen_are : map (seen test) raw ≡ reads_of events
+    pub statuses : List Status
+    pub fresh : IsFresh length statuses None
+    pub run : IsRun (setting_of c line length no_maps)
+        (machine_over (setting_of c line length no_maps) statuses None time)
+        events
+
+  -- The rescue's reads are the first ones of the plan for its options, and all of it if no request is left.
+  pub record RescueIsPlanned (events : List Event) : Type 0 where
+    pub first : BeginsPlan (plan_setting c.options length) length test (map planned (reads_of events))
+    pub all : has_ended (setting_of c line length no_maps)
+        (state_after (setting_of c line length no_maps)
+        (machine_over (setting_of c line length no_maps) (untried_map length) None time) events) ≡ true
+        → IsPlan (plan_setting c.options length) length test (map planned (reads_of events))
 
 abbrev pub RescuesArePlanned : Type 0
 RescuesArePlanned = (c : RescueCommand) (line : List ℕ) (length time : ℕ) (test : List Status) (raw : List Reading)

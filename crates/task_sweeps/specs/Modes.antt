@@ -60,28 +60,31 @@ generate_rows c found end = named_rows c found ++ Open c.infile ∷ files_rows f
 
 -- ---- the sweep after them
 
--- a sweep over a map, by its pieces and its end, and what it said
-pub record SweptOver (s : Setting) (w : Sweeper) (statuses : List Status) (state : Option MapState)
-    (pieces : List Swept) (end : RunEnd) (lines : List (List ℕ)) (e : Ending) (g : Gain) : Type 0 where
-  pub answer : e ≡ answer_of end
-  pub sweeps : Sweeps s w statuses state g end
-  pub pieces_are : sweeps.events ≡ pieces
-  pub says : lines ≡ opening_lines s (length statuses) ++ sweep_lines s w (sweep_begins w statuses state g) pieces end
+-- By a setting and what a sweeper does:
+module _ (s : Setting) (w : Sweeper) where
+  module _ (statuses : List Status) (state : Option MapState) where
+    -- a sweep over a map, by its pieces and its end, and what it said
+    pub record SweptOver (pieces : List Swept) (end : RunEnd) (lines : List (List ℕ)) (e : Ending) (g : Gain)
+        : Type 0 where
+      pub answer : e ≡ answer_of end
+      pub sweeps : Sweeps s w statuses state g end
+      pub pieces_are : sweeps.events ≡ pieces
+      pub says : lines
+          ≡ opening_lines s (length statuses) ++ sweep_lines s w (sweep_begins w statuses state g) pieces end
 
--- or none, where memory ran out before it began
-abbrev pub MaySweep : Setting → Sweeper → List Status → Option MapState → List Swept → RunEnd
-    → (lines : List (List ℕ)) → Ending → Gain → Type 0
-MaySweep s w statuses state pieces end lines e g =
-    (IsUnbegun e g lines × (pieces ≡ [])) ⊎ SweptOver s w statuses state pieces end lines e g
+    -- or none, where memory ran out before it began
+    abbrev pub MaySweep : List Swept → RunEnd → (lines : List (List ℕ)) → Ending → Gain → Type 0
+    MaySweep pieces end lines e g =
+        (IsUnbegun e g lines × (pieces ≡ [])) ⊎ SweptOver pieces end lines e g
 
--- the sweep over the map that the mapfile stands for, which opens no input
-pub record ThenSweep (s : Setting) (w : Sweeper) (mapfile : Option File) (pieces : List Swept) (end : RunEnd)
-    (lines : List (List ℕ)) (e : Ending) (d : Deeds) : Type 0 where
-  pub opens : d.opens ≡ []
-  pub statuses : List Status
-  pub state : Option MapState
-  pub stands : Stands mapfile s.end statuses state
-  pub sweeps : MaySweep s w statuses state pieces end lines e d.gain
+  -- the sweep over the map that the mapfile stands for, which opens no input
+  pub record ThenSweep (mapfile : Option File) (pieces : List Swept) (end : RunEnd) (lines : List (List ℕ))
+      (e : Ending) (d : Deeds) : Type 0 where
+    pub opens : d.opens ≡ []
+    pub statuses : List Status
+    pub state : Option MapState
+    pub stands : Stands mapfile s.end statuses state
+    pub sweeps : MaySweep statuses state pieces end lines e d.gain
 
 -- The work of a filling over a map that reaches so far, with the buffer that its pattern fills: the pattern is read
 -- before the output is opened.
