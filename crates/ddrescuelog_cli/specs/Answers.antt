@@ -106,22 +106,6 @@ FitsUsage (Modes given) c = ⊥
 FitsUsage (Operands given) c = ⊥
 FitsUsage PlaceTooLarge c = looks_at_places c.mode ≡ true
 
--- an answer comes only where the words ask for what it speaks of
-abbrev pub FitsCommand : LogEnding → Command → Type 0
-FitsCommand Done c = ⊤
-FitsCommand NotDone c = tests c.mode ≡ true
-FitsCommand Differ c = compares c.mode ≡ true
-FitsCommand (Usage fault) c = FitsUsage fault c
-FitsCommand Exists c = (creates c.mode ≡ true) × (c.options.forced ≡ false)
-FitsCommand (NoMap which) c = IsNamedMap which c
-FitsCommand (MapRefused which error) c = IsNamedMap which c
-FitsCommand (BadNumber line) c = creates c.mode ≡ true
-FitsCommand ListTooLong c = creates c.mode ≡ true
-FitsCommand (SiteFault call) c = MayCall call c
-FitsCommand FeedFault c = creates c.mode ≡ true
-FitsCommand ConsoleFault c = prints c.mode ≡ true
-FitsCommand NoMemory c = ⊤
-
 -- ---- the feed
 
 -- nothing was taken from the feed
@@ -155,39 +139,48 @@ TakenBefore DraftPublish old new = AllTaken old new
 TakenBefore MapSettle old new = AllTaken old new
 TakenBefore MapRemove old new = ⊥
 
--- ---- what is left
+-- ---- what an answer means
 
--- What an answer leaves: what a map to be created took of the feed by then, and whether a draft is left begun.
-pub record Leftovers : Type 1 where
+-- For which commands it comes, what a map to be created took of the feed by then, and whether a draft is left begun.
+pub record Meaning : Type 1 where
+  pub fits : Command → Type 0
   pub takes : (old new : FeedState) → Type 0
   pub drafting : Bool
 
 -- no draft is left
-abbrev pub only_takes : ((old new : FeedState) → Type 0) → Leftovers
-only_takes takes = record { takes = takes; drafting = false }
+abbrev pub means : (Command → Type 0) → ((old new : FeedState) → Type 0) → Meaning
+means fits takes = record { fits = fits; takes = takes; drafting = false }
 
 -- a map to be created has no such answer
 abbrev pub never : (old new : FeedState) → Type 0
 never old new = ⊥
 
--- A draft that was begun is left so after a failed append or sync.
-abbrev pub left_of : LogEnding → Leftovers
-left_of Done = only_takes AllTaken
-left_of NotDone = only_takes never
-left_of Differ = only_takes never
-left_of (Usage fault) = only_takes Untaken
-left_of Exists = only_takes Untaken
-left_of (NoMap which) = only_takes Untaken
-left_of (MapRefused which error) = only_takes Untaken
-left_of (BadNumber line) = only_takes AllTaken
-left_of ListTooLong = only_takes TooMuchTaken
-left_of (SiteFault call) = record { takes = TakenBefore call; drafting = drafting_after_fault call false }
-left_of FeedFault = only_takes TookFront
-left_of ConsoleFault = only_takes never
-left_of NoMemory = only_takes TookFront
+abbrev pub IsCreating : Command → Type 0
+IsCreating c = creates c.mode ≡ true
+
+-- An answer comes only where the words ask for what it speaks of. A draft that was begun is left so after a failed
+-- append or sync.
+abbrev pub meaning_of : LogEnding → Meaning
+meaning_of Done = means (λ c. ⊤) AllTaken
+meaning_of NotDone = means (λ c. tests c.mode ≡ true) never
+meaning_of Differ = means (λ c. compares c.mode ≡ true) never
+meaning_of (Usage fault) = means (FitsUsage fault) Untaken
+meaning_of Exists = means (λ c. IsCreating c × (c.options.forced ≡ false)) Untaken
+meaning_of (NoMap which) = means (IsNamedMap which) Untaken
+meaning_of (MapRefused which error) = means (IsNamedMap which) Untaken
+meaning_of (BadNumber line) = means IsCreating AllTaken
+meaning_of ListTooLong = means IsCreating TooMuchTaken
+meaning_of (SiteFault call) =
+    record { fits = MayCall call; takes = TakenBefore call; drafting = drafting_after_fault call false }
+meaning_of FeedFault = means IsCreating TookFront
+meaning_of ConsoleFault = means (λ c. prints c.mode ≡ true) never
+meaning_of NoMemory = means (λ c. ⊤) TookFront
+
+abbrev pub FitsCommand : LogEnding → Command → Type 0
+FitsCommand e c = (meaning_of e).fits c
 
 abbrev pub TakesAs : LogEnding → (old new : FeedState) → Type 0
-TakesAs e old new = (left_of e).takes old new
+TakesAs e old new = (meaning_of e).takes old new
 
 -- only a map to be created takes anything
 abbrev pub TakesFeed : (creates_map : Bool) → LogEnding → (old new : FeedState) → Type 0
@@ -195,4 +188,4 @@ TakesFeed true e old new = TakesAs e old new
 TakesFeed false e old new = Untaken old new
 
 abbrev pub drafting_left : LogEnding → Bool
-drafting_left e = (left_of e).drafting
+drafting_left e = (meaning_of e).drafting

@@ -10,8 +10,8 @@ use Rattle.partition_domain.proofs.VerdictLemmas.{has_one_answer}
 use Rattle.ddrescuepart_words.specs.Command.{Command}
 use Rattle.ddrescuepart_cli.specs.declared.ending.PartEnding.{PartEnding}
 use Rattle.ddrescuepart_cli.specs.declared.ending.PartEnding.TheVariants.{Done, Refused, NoMemory}
-use Rattle.ddrescuepart_cli.specs.Answers.{row_of}
-use Rattle.ddrescuepart_cli.specs.Work.{AnswersBy, PartWorks}
+use Rattle.ddrescuepart_cli.specs.Answers.{AnswersBy, row_of}
+use Rattle.ddrescuepart_cli.specs.Work.{PartWorks}
 use Rattle.ddrescuepart_cli.specs.Ddrescuepart.{part_program}
 use Rattle.ddrescuepart_cli.specs.Laws.{HasOneVerdict, IsBroughtUnless, IsVerdict, PartKeepsPromises}
 use Rattle.ddrescuepart_cli.proofs.PromiseLemmas.{part_made}

@@ -15,8 +15,8 @@ use Rattle.program_promise.proofs.PromiseLemmas.{asked}
 use Rattle.ddrescuepart_words.specs.Command.{Command, IsAsked, command_in, option_meanings, partition_by, quiet_letter, with_operands, with_partition}
 use Rattle.ddrescuepart_cli.specs.declared.ending.PartEnding.{PartEnding}
 use Rattle.ddrescuepart_cli.specs.declared.ending.PartEnding.TheVariants.{Usage}
-use Rattle.ddrescuepart_cli.specs.Answers.{row_of}
-use Rattle.ddrescuepart_cli.specs.Work.{AnswersBy, PartWorks}
+use Rattle.ddrescuepart_cli.specs.Answers.{AnswersBy, row_of}
+use Rattle.ddrescuepart_cli.specs.Work.{PartWorks}
 use Rattle.ddrescuepart_cli.specs.Ddrescuepart.{PartWorked, part_program}
 use Rattle.ddrescuepart_cli.proofs.WorkedLemmas.{starved_done}
 

@@ -26,8 +26,8 @@ use Rattle.partition_domain.proofs.ReadLemmas.{few_reads}
 use Rattle.ddrescuepart_words.specs.Command.{Command}
 use Rattle.ddrescuepart_cli.specs.declared.ending.PartEnding.{PartEnding}
 use Rattle.ddrescuepart_cli.specs.declared.ending.PartEnding.TheVariants.{Done, SourceFault, ConsoleFault, NoMemory}
-use Rattle.ddrescuepart_cli.specs.Answers.{ending_of, row_of}
-use Rattle.ddrescuepart_cli.specs.Work.{Agrees, AnswersBy, text_by, text_of}
+use Rattle.ddrescuepart_cli.specs.Answers.{AnswersBy, ending_of, row_of}
+use Rattle.ddrescuepart_cli.specs.Work.{Agrees, text_by, text_of}
 use Rattle.ddrescuepart_cli.specs.Ddrescuepart.{PartWorked, handed, part_program}
 
 -- ---- nothing was opened

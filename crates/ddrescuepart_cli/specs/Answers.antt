@@ -1,6 +1,6 @@
 -- The row of each answer, from which follows what it says of the words, which count rose, its exit status and its
--- message. No row stands for several answers.
-use Rattle.std.specs.Prelude.{ℕ, Bool, List, codes}
+-- message; and what it says of the disk. No row stands for several answers.
+use Rattle.std.specs.Prelude.{◌≡◌, ℕ, Bool, true, List, codes, is_some}
 use Rattle.fault_texts.specs.Texts.{numbered_text, message_of}
 use Rattle.program_promise.specs.Kinds.{AtOpen, AtRead, AtPut, is_silent_kind}
 use Rattle.program_promise.specs.Rows.{AnswerRow, asked_row, brought_row, failed_row, starved_row, wrong_row}
@@ -8,6 +8,8 @@ use Rattle.partition_domain.specs.declared.stop.Refusal.{Refusal}
 use Rattle.partition_domain.specs.declared.stop.Refusal.TheVariants.{Unread, NoSignature, Protective, NoPartition, ChainTooLong}
 use Rattle.partition_domain.specs.declared.stop.SearchStop.{SearchStop}
 use Rattle.partition_domain.specs.declared.stop.SearchStop.TheVariants.{SourceLost as SearchLost, Refused as SearchRefused}
+use Rattle.partition_domain.specs.Part.{next}
+use Rattle.partition_domain.specs.Reads.{HasPart, RefusedBy}
 use Rattle.ddrescuepart_cli.specs.declared.ending.PartEnding.{PartEnding}
 use Rattle.ddrescuepart_cli.specs.declared.ending.PartEnding.TheVariants.{Done, Usage, SourceFault, SourceLost, Refused, ConsoleFault, NoMemory}
 use Rattle.ddrescuepart_cli.specs.Names.{program_name}
@@ -28,6 +30,16 @@ row_of SourceLost = failed_row AtRead (codes "input lost")
 row_of (Refused refusal) = brought_row (said_of refusal).0 (said_of refusal).1
 row_of ConsoleFault = failed_row AtPut (codes "cannot write standard output")
 row_of NoMemory = starved_row
+
+-- What each answer says of the records that were read for partition k.
+abbrev pub AnswersBy : PartEnding → (k : ℕ) → (records : List (List ℕ)) → Type 0
+AnswersBy Done k records = HasPart k records
+AnswersBy (Usage fault) k records = ⊥
+AnswersBy SourceFault k records = ⊥
+AnswersBy SourceLost k records = is_some (next records k) ≡ true
+AnswersBy (Refused refusal) k records = RefusedBy refusal k records
+AnswersBy ConsoleFault k records = HasPart k records
+AnswersBy NoMemory k records = ⊥
 
 -- the answer for a search that stopped
 abbrev pub ending_of : SearchStop → PartEnding

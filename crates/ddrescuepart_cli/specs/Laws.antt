@@ -9,7 +9,8 @@ use Rattle.partition_domain.specs.Laws.{AreGivenBy}
 use Rattle.ddrescuepart_words.specs.Command.{Command, Asks}
 use Rattle.ddrescuepart_cli.specs.declared.ending.PartEnding.{PartEnding}
 use Rattle.ddrescuepart_cli.specs.declared.ending.PartEnding.TheVariants.{NoMemory}
-use Rattle.ddrescuepart_cli.specs.Work.{AnswersBy, PartWorks}
+use Rattle.ddrescuepart_cli.specs.Answers.{AnswersBy}
+use Rattle.ddrescuepart_cli.specs.Work.{PartWorks}
 use Rattle.ddrescuepart_cli.specs.Ddrescuepart.{Ddrescuepart, part_program}
 
 -- an answer that records lead to, whatever opens, losses, puts and memory do

@@ -1,16 +1,17 @@
 -- The work of `ddrescuepart`: memory is taken, the input is opened, and then records are read.
-use Rattle.std.specs.Prelude.{◌≡◌, ℕ, ◌≤◌, IsTrue, true, List, [], ◌∷◌, ◌++◌, length, All, is_some, Option, Some, None}
+use Rattle.std.specs.Prelude.{◌≡◌, ℕ, ◌≤◌, IsTrue, List, [], ◌∷◌, ◌++◌, length, All, Option, Some, None}
 use Rattle.faulty_source.specs.SourceState.{SourceState}
 use Rattle.work_rules.specs.Work.{Deeds, Faults, WorkStep, Take, Open, Works}
 use Rattle.work_rules.specs.Opens.{AreOpens}
 use Rattle.partition_domain.specs.declared.table.Partition.{Partition}
-use Rattle.partition_domain.specs.Part.{next, partition_of}
+use Rattle.partition_domain.specs.Part.{partition_of}
 use Rattle.partition_domain.specs.DomainMap.{domain_text}
-use Rattle.partition_domain.specs.Reads.{AreNext, HasPart, RefusedBy, records_of}
+use Rattle.partition_domain.specs.Reads.{AreNext, records_of}
 use Rattle.faulty_source.specs.Journal.{IsFrom}
 use Rattle.ddrescuepart_words.specs.Command.{Command}
 use Rattle.ddrescuepart_cli.specs.declared.ending.PartEnding.{PartEnding}
-use Rattle.ddrescuepart_cli.specs.declared.ending.PartEnding.TheVariants.{Done, Usage, SourceFault, SourceLost, Refused, ConsoleFault, NoMemory}
+use Rattle.ddrescuepart_cli.specs.declared.ending.PartEnding.TheVariants.{SourceFault, NoMemory}
+use Rattle.ddrescuepart_cli.specs.Answers.{AnswersBy}
 
 -- how faults are answered; no call on the files is made
 abbrev pub part_faults : Faults PartEnding
@@ -19,16 +20,6 @@ part_faults = record { call = λ call. NoMemory; memory = NoMemory; input = Sour
 -- the rows before the first read: all memory is taken before the input is opened
 abbrev pub part_rows : Command → List (WorkStep PartEnding)
 part_rows c = Take ∷ Open c.infile ∷ []
-
--- What each answer says of the records that were read for partition k.
-abbrev pub AnswersBy : PartEnding → (k : ℕ) → (records : List (List ℕ)) → Type 0
-AnswersBy Done k records = HasPart k records
-AnswersBy (Usage fault) k records = ⊥
-AnswersBy SourceFault k records = ⊥
-AnswersBy SourceLost k records = is_some (next records k) ≡ true
-AnswersBy (Refused refusal) k records = RefusedBy refusal k records
-AnswersBy ConsoleFault k records = HasPart k records
-AnswersBy NoMemory k records = ⊥
 
 -- how many reads a call makes at most: the first record, and those of the longest chain
 abbrev pub most_reads : ℕ
