@@ -1,26 +1,16 @@
 -- The row of each answer, from which follows what it says of the words, which count rose, its exit status and its
 -- message; and what it says of the disk. No row stands for several answers.
 use Rattle.std.specs.Prelude.{◌≡◌, ℕ, Bool, true, List, codes, is_some}
-use Rattle.fault_texts.specs.Texts.{numbered_text, message_of}
+use Rattle.fault_texts.specs.Texts.{message_of}
 use Rattle.program_promise.specs.Kinds.{AtOpen, AtRead, AtPut, is_silent_kind}
 use Rattle.program_promise.specs.Rows.{AnswerRow, asked_row, brought_row, failed_row, starved_row, wrong_row}
-use Rattle.partition_domain.specs.declared.stop.Refusal.{Refusal}
-use Rattle.partition_domain.specs.declared.stop.Refusal.TheVariants.{Unread, NoSignature, Protective, NoPartition, ChainTooLong}
 use Rattle.partition_domain.specs.declared.stop.SearchStop.{SearchStop}
 use Rattle.partition_domain.specs.declared.stop.SearchStop.TheVariants.{SourceLost as SearchLost, Refused as SearchRefused}
 use Rattle.partition_domain.specs.Part.{next}
-use Rattle.partition_domain.specs.Reads.{HasPart, RefusedBy}
+use Rattle.partition_domain.specs.Reads.{HasPart, RefusedBy, said_of}
 use Rattle.ddrescuepart_cli.specs.declared.ending.PartEnding.{PartEnding}
 use Rattle.ddrescuepart_cli.specs.declared.ending.PartEnding.TheVariants.{Done, Usage, SourceFault, SourceLost, Refused, ConsoleFault, NoMemory}
 use Rattle.ddrescuepart_cli.specs.Names.{program_name}
-
--- the exit status of a refusal, and the text on it
-abbrev pub said_of : Refusal → ℕ × List ℕ
-said_of (Unread sector) = (2, numbered_text (codes "sector ") sector (codes ": unread"))
-said_of (NoSignature sector) = (2, numbered_text (codes "sector ") sector (codes ": no signature"))
-said_of Protective = (2, codes "protective partition table")
-said_of NoPartition = (1, codes "no such partition")
-said_of ChainTooLong = (2, codes "chain too long")
 
 abbrev pub row_of : PartEnding → AnswerRow
 row_of Done = asked_row 0

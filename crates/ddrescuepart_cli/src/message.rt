@@ -1,35 +1,15 @@
 //! The message on an answer, on standard error.
 ghost use Rattle.std.specs.Prelude.{◌≡◌, ◌≤◌, ◌++◌};
 ghost use Rattle.arrayvec.specs.ArrayVec.{array_vec_len};
-ghost use Rattle.ddrescuepart_cli.specs.Answers.{is_silent, message, said_of, text_of_ending};
+ghost use Rattle.ddrescuepart_cli.specs.Answers.{is_silent, message, text_of_ending};
 
 use crate::ending::PartEnding;
 use fault_texts::faults::add_usage;
-use fault_texts::message::{Message, add, add_number, begin, end};
-use partition_domain::stop::Refusal;
+use fault_texts::message::{Message, add, begin, end};
 use program_promise::answer::Answer;
 
 /// The program's name, which begins its command line and its messages.
 pub(crate) const PROGRAM: &str = "ddrescuepart";
-
-/// Adds the message on a refusal.
-fn add_refusal(message: &mut Message, refusal: Refusal)
-    requires { array_vec_len message.old ≤ 20 }
-    ensures text { message.new.items ≡ message.old.items ++ (said_of refusal).1 }
-    ensures len { array_vec_len message.new ≤ 120 }
-{
-    match refusal {
-        Refusal::Unread { sector } => {
-            add_number(message, "sector ", sector as usize, ": unread");
-        }
-        Refusal::NoSignature { sector } => {
-            add_number(message, "sector ", sector as usize, ": no signature");
-        }
-        Refusal::Protective => add(message, "protective partition table"),
-        Refusal::NoPartition => add(message, "no such partition"),
-        Refusal::ChainTooLong => add(message, "chain too long"),
-    }
-}
 
 /// Adds the message on an answer.
 fn add_ending(message: &mut Message, ending: PartEnding)
@@ -42,7 +22,7 @@ fn add_ending(message: &mut Message, ending: PartEnding)
         PartEnding::Usage(fault) => add_usage(message, fault),
         PartEnding::SourceFault => add(message, "cannot open input"),
         PartEnding::SourceLost => add(message, "input lost"),
-        PartEnding::Refused(refusal) => add_refusal(message, refusal),
+        PartEnding::Refused(refusal) => refusal.add_to(message),
         PartEnding::ConsoleFault => add(message, "cannot write standard output"),
         PartEnding::NoMemory => add(message, "out of memory"),
     }

@@ -1,7 +1,8 @@
 -- Which reads are made for a partition, and what each outcome of its search says of what they gave.
-use Rattle.std.specs.Prelude.{◌≡◌, ⊤, ℕ, ◌+◌, ◌*◌, ◌<◌, true, false, List, [], ◌∷◌, ◌++◌, length, map, Option, Some, None, is_some}
+use Rattle.std.specs.Prelude.{◌≡◌, ⊤, ℕ, codes, ◌+◌, ◌*◌, ◌<◌, true, false, List, [], ◌∷◌, ◌++◌, length, map, Option, Some, None, is_some}
 use Rattle.std.specs.List.{list_all}
 use Rattle.fault_count.specs.Counts.{raised}
+use Rattle.fault_texts.specs.Texts.{numbered_text}
 use Rattle.faulty_source.specs.Journal.{Reading}
 use Rattle.partition_domain.specs.declared.table.TableEntry.{TableEntry}
 use Rattle.partition_domain.specs.declared.stop.Refusal.{Refusal}
@@ -86,7 +87,15 @@ pub record HasPart (k : ℕ) (records : List (List ℕ)) : Type 0 where
   pub count : ℕ
   pub part : Part records k first count
 
--- What a refusal says of the records that were read for partition k.
+-- What a refusal says to a person: the exit status, and the text.
+abbrev pub said_of : Refusal → ℕ × List ℕ
+said_of (Unread sector) = (2, numbered_text (codes "sector ") sector (codes ": unread"))
+said_of (NoSignature sector) = (2, numbered_text (codes "sector ") sector (codes ": no signature"))
+said_of Protective = (2, codes "protective partition table")
+said_of NoPartition = (1, codes "no such partition")
+said_of ChainTooLong = (2, codes "chain too long")
+
+-- What it says of the records that were read for partition k.
 abbrev pub RefusedBy : Refusal → (k : ℕ) → (records : List (List ℕ)) → Type 0
 RefusedBy (Unread sector) k records = IsUnread k records sector
 RefusedBy (NoSignature sector) k records = LacksSignature k records sector

@@ -1,4 +1,9 @@
-//! Why a search gives no partition.
+//! Why a search gives no partition, and what a person is told of that.
+ghost use Rattle.std.specs.Prelude.{◌≡◌, ◌≤◌, ◌++◌};
+ghost use Rattle.arrayvec.specs.ArrayVec.{array_vec_len};
+ghost use Rattle.partition_domain.specs.Reads.{said_of};
+
+use fault_texts::message::{Message, add, add_number};
 
 /// Why what was read of a disk gives no partition.
 #[derive(Clone, Copy, Debug, PartialEq, Eq)]
@@ -13,6 +18,27 @@ pub enum Refusal {
     NoPartition,
     /// The chain of records is longer than any chain may be, and none of them gives the partition.
     ChainTooLong,
+}
+
+impl Refusal {
+    /// Adds its text to a message.
+    pub fn add_to(self, message: &mut Message)
+        requires { array_vec_len message.old ≤ 20 }
+        ensures text { message.new.items ≡ message.old.items ++ (said_of self).1 }
+        ensures len { array_vec_len message.new ≤ 120 }
+    {
+        match self {
+            Refusal::Unread { sector } => {
+                add_number(message, "sector ", sector as usize, ": unread");
+            }
+            Refusal::NoSignature { sector } => {
+                add_number(message, "sector ", sector as usize, ": no signature");
+            }
+            Refusal::Protective => add(message, "protective partition table"),
+            Refusal::NoPartition => add(message, "no such partition"),
+            Refusal::ChainTooLong => add(message, "chain too long"),
+        }
+    }
 }
 
 /// Why a search stopped.
