@@ -1,5 +1,5 @@
 -- What one look at a piece does, by what the objects tell.
-use Rattle.std.specs.Prelude.{◌≡◌, ℕ, true, IsTrue, [], ◌∷◌, None, if◌then◌else◌}
+use Rattle.std.specs.Prelude.{◌≡◌, ℕ, ◌+◌, ◌-◌, ◌^◌, ◌<◌, true, IsTrue, [], ◌∷◌, None, if◌then◌else◌}
 use Rattle.faulty_source.specs.Journal.{Reading, is_whole, IsFrom}
 use Rattle.faulty_source.specs.SourceState.{SourceState}
 use Rattle.faulty_source.specs.SourceChanges.{Reads, Loses}
@@ -12,7 +12,14 @@ use Rattle.rescue_verify.specs.declared.halt.Halt.{Halt}
 use Rattle.rescue_verify.specs.declared.halt.Halt.TheVariants.{NoMemory, SourceLost, ImageFault}
 use Rattle.rescue_verify.specs.declared.look.LookResult.{LookResult}
 use Rattle.rescue_verify.specs.declared.look.LookResult.TheVariants.{Unread, Same, Different}
+use Rattle.rescue_verify.specs.declared.piece.Piece.{Piece}
 use Rattle.rescue_verify.specs.Looks.{Look, differs, seen_at, look_call}
+
+-- a piece isn't empty, and ends below 2^63, in the image too
+pub record CanLook (piece : Piece) : Type 0 where
+  pub some : piece.from < piece.to
+  pub short : piece.to < 2 ^ 63
+  pub placed : piece.place + (piece.to - piece.from) < 2 ^ 63
 
 -- what a look found
 abbrev pub seen_by : Look → LookResult
