@@ -25,6 +25,7 @@ use Rattle.rescue_verify.specs.declared.halt.Halt.{Halt}
 use Rattle.rescue_verify.specs.declared.halt.Halt.TheVariants.{NoMemory, SourceLost, ImageFault}
 use Rattle.rescue_verify.specs.declared.piece.Piece.{Piece}
 use Rattle.rescue_verify.specs.declared.tally.Tally.{Tally}
+use Rattle.rescue_verify.specs.Across.{across}
 use Rattle.rescue_verify.specs.Pieces.{IsPiece, AskForPieces, end_of_reads}
 use Rattle.rescue_verify.proofs.PieceLemmas.{asks_push}
 use Rattle.rescue_verify.specs.Looks.{Look, reads_of, differs, seen_at, seen_in, look_call, look_calls}
@@ -101,7 +102,7 @@ pub record SameImage (site site' : SiteState) : Type 0 where
 pub one_more : (p : ComparisonPlan) (from pos size : ℕ) (tally : Tally) (old new : List Status) (l : Look)
     (source s1 s2 : SourceState) (site d1 d2 : SiteState) → UpTo p from tally old new source s1 site d1
     → SourceKeeps source s1 → SameImage site d1
-    → IsPiece p.compared p.sector from pos (pos + size) → SeesPiece pos size (place_in p pos) l s1 s2 d1 d2
+    → IsPiece p.compared p.sector from pos (pos + size) → SeesPiece pos size (place_in p pos) l (across s1 s2 d1 d2)
     → UpTo p (pos + size) (tally_with tally l) old (judged new l) source s2 site d2
 one_more p from pos size tally old new l source s1 s2 site d1 d2 u keeps image piece sees =
     let looks : List Look = u.looks in
@@ -182,15 +183,15 @@ same_image p from tally old new source source' site site' u stays = record {
 pub takes_one : (p : ComparisonPlan) (from : ℕ) (piece : Piece) (tally tally' : Tally) (old new new' : List Status)
     (source s1 s2 : SourceState) (site d1 d2 : SiteState) → UpTo p from tally old new source s1 site d1
     → SourceStays source s1 → SiteStays site d1 → IsNext p from piece
-    → TakesPiece piece tally tally' new new' s1 s2 d1 d2
+    → TakesPiece piece tally tally' new new' (across s1 s2 d1 d2)
     → UpTo p piece.to tally' old new' source s2 site d2
 takes_one p from piece tally tally' old new new' source s1 s2 site d1 d2 u stays site_stays next takes =
     let size : ℕ = piece.to - piece.from in
     let end : piece.from + (piece.to - piece.from) ≡ piece.to = omega (arith, next.some) in
     let own : IsPiece p.compared p.sector from piece.from (piece.from + size) =
     subst (IsPiece p.compared p.sector from piece.from) (sym end) next.is_piece in
-    let sees : SeesPiece piece.from size (place_in p piece.from) takes.look s1 s2 d1 d2 =
-    subst (λ (place : ℕ). SeesPiece piece.from size place takes.look s1 s2 d1 d2) next.place_is takes.sees in
+    let sees : SeesPiece piece.from size (place_in p piece.from) takes.look (across s1 s2 d1 d2) =
+    subst (λ (place : ℕ). SeesPiece piece.from size place takes.look (across s1 s2 d1 d2)) next.place_is takes.sees in
     let more : UpTo p (piece.from + size) (tally_with tally takes.look) old (judged new takes.look) source s2 site d2 =
     one_more p from piece.from size tally old new takes.look source s1 s2 site d1 d2 u stays.keeps
     (same_image p from tally old new source s1 site d1 u site_stays) own sees in
@@ -216,7 +217,7 @@ sums_by false true pos n to c d u e h k = (omega arith, omega arith)
 sums_by false false pos n to c d u e h k = (omega arith, omega arith)
 
 pub takes_grow : (piece : Piece) (tally tally' : Tally) (old new : List Status) (source source' : SourceState)
-    (site site' : SiteState) → TakesPiece piece tally tally' old new source source' site site' → CanTake piece old
+    (site site' : SiteState) → TakesPiece piece tally tally' old new (across source source' site site') → CanTake piece old
     → IsTallyUpTo piece.from tally → Grows piece.to tally' old new
 takes_grow piece tally tally' old new source source' site site' takes can counted =
     let l : Look = takes.look in
@@ -292,7 +293,7 @@ halted_by_tells false X told untold = untold (λ t. absurd (cc))
 
 halted_looking : (halt : Halt) (p : ComparisonPlan) (from pos size : ℕ) (source source' : SourceState) (site site' : SiteState)
     → IsPiece p.compared p.sector from pos (pos + size)
-    → HaltsLooking halt pos size (place_in p pos) source source' site site' → Halted halt p from source source' site site'
+    → HaltsLooking halt pos size (place_in p pos) (across source source' site site') → Halted halt p from source source' site site'
 halted_looking NoMemory p from pos size source source' site site' piece h = record {
   reads = [];
   calls = [];
@@ -342,14 +343,14 @@ halted_looking ImageFault p from pos size source source' site site' piece h =
 pub came_to_halt : (halt : Halt) (p : ComparisonPlan) (from : ℕ) (piece : Piece) (tally : Tally)
     (old new now : List Status) (source s1 s2 : SourceState) (site d1 d2 : SiteState)
     → UpTo p from tally old new source s1 site d1 → SourceKeeps source s1 → d1.tells ≡ site.tells → IsNext p from piece
-    → HaltsLooking halt piece.from (piece.to - piece.from) piece.place s1 s2 d1 d2
-    → Compares p old now (Err halt) source s2 site d2
+    → HaltsLooking halt piece.from (piece.to - piece.from) piece.place (across s1 s2 d1 d2)
+    → Compares p old now (Err halt) (across source s2 site d2)
 came_to_halt halt p from piece tally old new now source s1 s2 site d1 d2 u keeps tells next h =
     let size : ℕ = piece.to - piece.from in
     let halted : Halted halt p from s1 s2 d1 d2 =
     halted_looking halt p from piece.from size s1 s2 d1 d2
     (long_piece p.compared p.sector from piece.from piece.to next.some next.is_piece)
-    (subst (λ (place : ℕ). HaltsLooking halt piece.from size place s1 s2 d1 d2) next.place_is h) in
+    (subst (λ (place : ℕ). HaltsLooking halt piece.from size place (across s1 s2 d1 d2)) next.place_is h) in
     record {
       looks = u.looks;
       reads = halted.reads;
@@ -368,7 +369,7 @@ came_to_halt halt p from piece tally old new now source s1 s2 site d1 d2 u keeps
 
 -- memory ran out before the first piece
 pub nothing_compared : (p : ComparisonPlan) (map : List Status) (source : SourceState) (site : SiteState)
-    → Compares p map map (Err NoMemory) source source site site
+    → Compares p map map (Err NoMemory) (across source source site site)
 nothing_compared p map source site = record {
   looks = [];
   reads = [];
@@ -383,7 +384,7 @@ nothing_compared p map source site = record {
 
 -- what is counted of a look that halted, after looks that counted nothing
 pub halted_counts : (halt : Halt) (pos size place : ℕ) (s0 s s' : SourceState) (d0 d d' : SiteState)
-    → s.losses ≡ s0.losses → d.faults ≡ d0.faults → HaltsLooking halt pos size place s s' d d'
+    → s.losses ≡ s0.losses → d.faults ≡ d0.faults → HaltsLooking halt pos size place (across s s' d d')
     → LossesRise (Err halt) s0 s' d0 d'
 halted_counts NoMemory pos size place s0 s s' d0 d d' losses faults h =
     (ap (λ (x : SourceState). x.losses) h.0 ∙ losses, ap (λ (x : SiteState). x.faults) h.1 ∙ faults)

@@ -17,6 +17,7 @@ use Rattle.rescue_verify.specs.declared.halt.Halt.TheVariants.{NoMemory, SourceL
 use Rattle.rescue_verify.specs.declared.tally.Tally.{Tally}
 use Rattle.rescue_verify.specs.declared.piece.Comparison.{Comparison}
 use Rattle.rescue_verify.specs.declared.piece.Piece.{Piece}
+use Rattle.rescue_verify.specs.Across.{Across}
 use Rattle.rescue_verify.specs.Pieces.{IsPiece, NoneFrom, AskForPieces, end_of_reads}
 use Rattle.rescue_verify.specs.Looks.{Look, reads_of, differs, seen_in, look_calls, compared_bytes, differing_bytes, unread_bytes}
 use Rattle.rescue_verify.specs.Looking.{CanLook, SeesPiece}
@@ -91,10 +92,10 @@ pub record AreAsLong (old new : Buffers) : Type 0 where
   pub there : vec_len new.there ≡ vec_len old.there
 
 -- The piece was compared, counted, and marked in the map if it differs.
-pub record TakesPiece (piece : Piece) (tally tally' : Tally) (old new : List Status)
-    (source source' : SourceState) (site site' : SiteState) : Type 0 where
+pub record TakesPiece (piece : Piece) (tally tally' : Tally) (old new : List Status) (a : Across)
+    : Type 0 where
   pub look : Look
-  pub sees : SeesPiece piece.from (piece.to - piece.from) piece.place look source source' site site'
+  pub sees : SeesPiece piece.from (piece.to - piece.from) piece.place look a
   pub counts : tally' ≡ tally_with tally look
   pub map_is : new ≡ judged old look
 
@@ -138,15 +139,16 @@ pub record HasLooked (p : ComparisonPlan) (looks : List Look) (source source' : 
       → looks ≡ map (seen_in (bytes_of (image_in site)) (place_in p)) (reads_of looks)
 
 -- What a comparison did, by its outcome: looks at the first pieces, in order, and what came after them.
-pub record Compares (p : ComparisonPlan) (old new : List Status) (result : Result Tally Halt)
-    (source source' : SourceState) (site site' : SiteState) : Type 0 where
+pub record Compares (p : ComparisonPlan) (old new : List Status) (result : Result Tally Halt) (a : Across)
+    : Type 0 where
   pub looks : List Look
   pub reads : List Reading
   pub calls : List Entry
   pub asks : AskForPieces p.compared p.sector 0 (reads_of looks)
   pub ends : EndsComparing p old new result looks reads calls
-  pub journal : IsTrue source.tells → source'.journal ≡ source.journal ++ (reads_of looks ++ reads)
-  pub right : IsTrue source.tells → All (IsFrom source.bytes) (reads_of looks ++ reads)
-  pub record_ : IsTrue site.tells → site'.calls ≡ site.calls ++ (map Done (look_calls (place_in p) looks) ++ calls)
-  pub seen : IsTrue site.tells
-      → looks ≡ map (seen_in (bytes_of (image_in site)) (place_in p)) (reads_of looks)
+  pub journal : IsTrue a.source.tells → a.source'.journal ≡ a.source.journal ++ (reads_of looks ++ reads)
+  pub right : IsTrue a.source.tells → All (IsFrom a.source.bytes) (reads_of looks ++ reads)
+  pub record_ : IsTrue a.site.tells
+      → a.site'.calls ≡ a.site.calls ++ (map Done (look_calls (place_in p) looks) ++ calls)
+  pub seen : IsTrue a.site.tells
+      → looks ≡ map (seen_in (bytes_of (image_in a.site)) (place_in p)) (reads_of looks)

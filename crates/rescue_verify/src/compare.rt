@@ -4,6 +4,7 @@ ghost use Rattle.faulty_source.specs.SourceChanges.{Stays as SourceStays};
 ghost use Rattle.crash_site.specs.SiteChanges.{Stays as SiteStays};
 ghost use Rattle.rescue_domain.specs.Domain.{IsIn};
 ghost use Rattle.rescue_domain.specs.Parts.{covers};
+ghost use Rattle.rescue_verify.specs.Across.{across};
 ghost use Rattle.rescue_verify.specs.Comparing.{AreAsLong, CanTake, Compares, HaveRoom, IsSound, IsTallyUpTo, LossesRise, TakesPiece, plan_by};
 ghost use Rattle.rescue_verify.specs.Looking.{HaltsLooking};
 
@@ -52,9 +53,9 @@ fn compare_piece<S: Source, D: Site, T: Tiles>(
     requires input { (S.state source.old).is_open ≡ true }
     requires image { (D.state site.old).is_open ≡ true }
     ensures takes { OnOk result (TakesPiece piece tally.old tally.new (T.statuses tiles.old) (T.statuses tiles.new)
-        (S.state source.old) (S.state source.new) (D.state site.old) (D.state site.new)) }
+        (across (S.state source.old) (S.state source.new) (D.state site.old) (D.state site.new))) }
     ensures halts { IfErr result (λ halt. HaltsLooking halt piece.from (piece.to - piece.from) piece.place
-        (S.state source.old) (S.state source.new) (D.state site.old) (D.state site.new)) }
+        (across (S.state source.old) (S.state source.new) (D.state site.old) (D.state site.new))) }
     ensures room { AreAsLong buffers.old buffers.new }
     ensures source { SourceStays (S.state source.old) (S.state source.new) }
     ensures site { SiteStays (D.state site.old) (D.state site.new) }
@@ -91,7 +92,7 @@ pub fn compare<S: Source, D: Site, T: Tiles>(
     requires input { (S.state source.old).is_open ≡ true }
     requires image { (D.state site.old).is_open ≡ true }
     ensures compares { Compares (plan_by comparison.entry) (T.statuses tiles.old) (T.statuses tiles.new) result
-        (S.state source.old) (S.state source.new) (D.state site.old) (D.state site.new) }
+        (across (S.state source.old) (S.state source.new) (D.state site.old) (D.state site.new)) }
     ensures counts { LossesRise result (S.state source.old) (S.state source.new) (D.state site.old) (D.state site.new) }
     ensures source { SourceStays (S.state source.old) (S.state source.new) }
     ensures site { SiteStays (D.state site.old) (D.state site.new) }

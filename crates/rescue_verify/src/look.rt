@@ -2,6 +2,7 @@
 ghost use Rattle.std.specs.Prelude.{◌≡◌, ◌-◌, ◌≤◌, true, length, IfOk, IfErr};
 ghost use Rattle.faulty_source.specs.SourceChanges.{Stays as SourceStays};
 ghost use Rattle.crash_site.specs.SiteChanges.{Stays as SiteStays};
+ghost use Rattle.rescue_verify.specs.Across.{across};
 ghost use Rattle.rescue_verify.specs.Looks.{Look};
 ghost use Rattle.rescue_verify.specs.Looking.{CanLook, HaltsLooking, SeesPiece, seen_by};
 
@@ -36,10 +37,10 @@ pub(crate) fn look<S: Source, D: Site>(
     requires input { (S.state source.old).is_open ≡ true }
     requires image { (D.state site.old).is_open ≡ true }
     ensures looks { IfOk result (λ seen. (l : Look) × (seen ≡ seen_by l)
-        × SeesPiece piece.from (piece.to - piece.from) piece.place l (S.state source.old) (S.state source.new)
-        (D.state site.old) (D.state site.new)) }
+        × SeesPiece piece.from (piece.to - piece.from) piece.place l (across (S.state source.old) (S.state source.new)
+        (D.state site.old) (D.state site.new))) }
     ensures halts { IfErr result (λ halt. HaltsLooking halt piece.from (piece.to - piece.from) piece.place
-        (S.state source.old) (S.state source.new) (D.state site.old) (D.state site.new)) }
+        (across (S.state source.old) (S.state source.new) (D.state site.old) (D.state site.new))) }
     ensures source { SourceStays (S.state source.old) (S.state source.new) }
     ensures site { SiteStays (D.state site.old) (D.state site.new) }
 {
