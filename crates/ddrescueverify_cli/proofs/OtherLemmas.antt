@@ -63,7 +63,7 @@ reads_leave d (e ∷ es) reads =
 
 module _ (names : MapNames) (n : List ℕ) (other : n ≢ names.map) (apart : n ≢ names.draft) where
   saved_goes : (text : List ℕ) (rest : List Entry) → HasSaved names text [] rest → WentOn (save_calls names text) [] rest
-  (across saved_goes text rest (inl made)) = made_goes (save_calls names text) [] rest made
+  saved_goes text rest (inl made) = made_goes (save_calls names text) [] rest made
   saved_goes text rest (inr (at, broke)) = broke_goes at (save_calls names text) [] rest broke
 
   save_leaves : (d : Folder) (text : List ℕ) (rest : List Entry) → HasSaved names text [] rest
