@@ -42,6 +42,13 @@ use std::alloc::Global;
 /// The most bytes that a list may have.
 const LIST_LIMIT: usize = 1 << 28;
 
+/// How the blocks of a map are marked: those that a list has, and the rest.
+#[derive(Clone, Copy)]
+pub(crate) struct Marks {
+    pub listed: Status,
+    pub rest: Status,
+}
+
 /// Goes on only if no file has a name, which one read asks, unless that is forced.
 fn refuse_existing<D: Site>(site: &mut D, name: &str, forced: bool) -> Result<(), LogEnding>
     ensures asks { AsksIfThere forced name.now result (D.state site.old) (D.state site.new) }
@@ -154,16 +161,15 @@ fn end_of(options: &LogOptions, numbers: &[u64]) -> u64
 fn map_of(
     alloc: Global,
     options: &LogOptions,
-    listed: Status,
-    rest: Status,
+    marks: Marks,
     domain_map: &Option<PlainTiles>,
     list: Vec<u8>,
 ) -> Result<PlainTiles, LogEnding>
     requires shape { IsShape (shape_of options.now) }
     requires size { ends_beyond options.now options.now.size ≡ false }
     requires short { length list.items ≤ list_limit }
-    ensures made { IfOk result (λ t. AreOfList options.now listed rest (statuses_in domain_map.now) list.items
-        t.statuses) }
+    ensures made { IfOk result (λ t. AreOfList options.now marks.listed marks.rest (statuses_in domain_map.now)
+        list.items t.statuses) }
     ensures refused { IfErr result (λ e. (e ≡ OutOfMemory) ⊎ ListRefused options.now list.items e) }
 {
     let numbers = numbers_of(alloc, list, options)?;
@@ -173,6 +179,7 @@ fn map_of(
         return Err(LogEnding::NoMemory);
     };
     let shape = shape_of(options);
+    let Marks { listed, rest } = marks;
     match create(alloc, &numbers, shape, &domain, end, listed, rest) {
         Ok(map) => Ok(map),
         Err(_) => Err(LogEnding::NoMemory),
@@ -183,19 +190,18 @@ fn map_of(
 fn make_map<I: Feed>(
     alloc: Global,
     options: &LogOptions,
-    listed: Status,
-    rest: Status,
+    marks: Marks,
     domain_map: &Option<PlainTiles>,
     feed: &mut I,
 ) -> Result<PlainTiles, LogEnding>
     requires shape { IsShape (shape_of options.now) }
     requires size { ends_beyond options.now options.now.size ≡ false }
-    ensures makes { MakesList options.now listed rest (statuses_in domain_map.now) result
+    ensures makes { MakesList options.now marks.listed marks.rest (statuses_in domain_map.now) result
         (I.state feed.old) (I.state feed.new) }
     ensures feed { FeedLeft (ended_as result) (I.state feed.old) (I.state feed.new) }
 {
     match take_list(alloc, feed) {
-        Ok(list) => map_of(alloc, options, listed, rest, domain_map, list),
+        Ok(list) => map_of(alloc, options, marks, domain_map, list),
         Err(fault) => Err(fault),
     }
 }
@@ -223,13 +229,12 @@ pub(crate) fn create_map<D: Site, I: Feed>(
     alloc: Global,
     command: &Command,
     heading: &Heading,
-    listed: Status,
-    rest: Status,
+    marks: Marks,
     site: &mut D,
     feed: &mut I,
 ) -> LogEnding
     requires limits { AreInLimits (told_by command.now) }
-    requires mode { (told_by command.now).mode ≡ LogMode.Create listed rest }
+    requires mode { (told_by command.now).mode ≡ LogMode.Create marks.listed marks.rest }
     ensures work { (line : List ℕ)
         → heading.now ≡ record { program = Ddrescuelog; line = line; start_s = 0; now_s = 0 }
         → CreatesMap (told_by command.now) line result (D.state site.old) (D.state site.new) (I.state feed.old) }
@@ -243,7 +248,7 @@ pub(crate) fn create_map<D: Site, I: Feed>(
         Ok(domain_map) => domain_map,
         Err(refusal) => return refusal,
     };
-    match make_map(alloc, &command.options, listed, rest, &domain_map, feed) {
+    match make_map(alloc, &command.options, marks, &domain_map, feed) {
         Ok(map) => save_map(site, &names, heading, &map),
         Err(refusal) => refusal,
     }

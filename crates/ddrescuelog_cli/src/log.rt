@@ -13,7 +13,7 @@ ghost use Rattle.ddrescuelog_cli.specs.After.{SiteLeft};
 ghost use Rattle.ddrescuelog_cli.specs.Worked.{Ran};
 ghost use Rattle.ddrescuelog_cli.specs.Ddrescuelog.{Ddrescuelog, LogDone, LogWorked, handed};
 
-use crate::create::create_map;
+use crate::create::{Marks, create_map};
 use crate::ending::LogEnding;
 use crate::find::find;
 use crate::load::load_maps;
@@ -94,7 +94,8 @@ fn run<D: Site, I: Feed, P: Console>(
     };
     match command.mode {
         LogMode::Create { listed, rest } => {
-            create_map(alloc, command, &heading, listed, rest, site, feed)
+            let marks = Marks { listed, rest };
+            create_map(alloc, command, &heading, marks, site, feed)
         }
         _ => run_over_maps(alloc, command, &heading, site, console),
     }

@@ -17,5 +17,6 @@ mod progress;
 pub mod rate;
 mod runs;
 pub mod show;
+mod subject;
 mod svg;
 mod text;

@@ -10,12 +10,12 @@ use crate::form::Form;
 use crate::frame::Frame;
 use crate::plain::{add_colors, add_legend, add_lines};
 use crate::runs::add_runs;
+use crate::subject::Subject;
 use crate::svg::{add_svg_foot, add_svg_front, add_svg_head};
 use crate::text::{add, add_padded};
 use block_list::tiles::{NoMemory, Tiles};
 use map_algebra::pieces::Nearby;
 use map_algebra::summary::Summary;
-use rescue_domain::domain::Domain;
 use std::alloc::Global;
 
 /// Adds how a picture begins.
@@ -62,22 +62,20 @@ fn add_end(text: &mut Vec<u8>, form: Form) -> Result<(), NoMemory>
 fn add_row<T: Tiles>(
     text: &mut Vec<u8>,
     form: Form,
-    frame: &Frame,
-    tiles: &T,
-    domain: &Domain,
+    subject: &Subject<'_, T>,
     near: &mut Nearby,
     row: u64,
 ) -> Result<(), NoMemory>
-    requires frame { IsFrame frame.now }
-    requires within { row < rows_in frame.now }
-    requires map { frame.now.to ≤ length (T.statuses tiles.now) }
+    requires frame { IsFrame subject.now.frame }
+    requires within { row < rows_in subject.now.frame }
+    requires map { subject.now.frame.to ≤ length (T.statuses subject.now.tiles.now) }
     ensures { OnOk result (text.new.items ≡ text.old.items
-        ++ row_text form frame.now (covers domain.now) (T.statuses tiles.now) row) }
+        ++ row_text form subject.now.frame (covers subject.now.domain.now) (T.statuses subject.now.tiles.now) row) }
 {
-    add_front(text, form, frame, row)?;
-    let first = row * frame.width;
-    let count = frame.cells_of_row(row);
-    add_runs(text, form, frame, tiles, domain, near, first, count)?;
+    add_front(text, form, &subject.frame, row)?;
+    let first = row * subject.frame.width;
+    let count = subject.frame.cells_of_row(row);
+    add_runs(text, form, subject, near, first, count)?;
     add_end(text, form)
 }
 
@@ -85,21 +83,19 @@ fn add_row<T: Tiles>(
 fn add_rows<T: Tiles>(
     text: &mut Vec<u8>,
     form: Form,
-    frame: &Frame,
-    tiles: &T,
-    domain: &Domain,
+    subject: &Subject<'_, T>,
 ) -> Result<(), NoMemory>
-    requires frame { IsFrame frame.now }
-    requires map { frame.now.to ≤ length (T.statuses tiles.now) }
+    requires frame { IsFrame subject.now.frame }
+    requires map { subject.now.frame.to ≤ length (T.statuses subject.now.tiles.now) }
     ensures { OnOk result (text.new.items ≡ text.old.items
-        ++ flat_map (row_text form frame.now (covers domain.now) (T.statuses tiles.now))
-        (range_with_len 0 (rows_in frame.now))) }
+        ++ flat_map (row_text form subject.now.frame (covers subject.now.domain.now)
+        (T.statuses subject.now.tiles.now)) (range_with_len 0 (rows_in subject.now.frame))) }
 {
     let mut near = Nearby::start();
-    let rows = frame.rows();
+    let rows = subject.frame.rows();
     let mut row = 0;
     while row < rows {
-        add_row(text, form, frame, tiles, domain, &mut near, row)?;
+        add_row(text, form, subject, &mut near, row)?;
         row += 1;
     }
     Ok(())
@@ -121,20 +117,18 @@ fn add_foot(text: &mut Vec<u8>, form: Form, frame: &Frame) -> Result<(), NoMemor
 pub(crate) fn draw<T: Tiles>(
     alloc: Global,
     form: Form,
-    frame: &Frame,
-    tiles: &T,
-    domain: &Domain,
+    subject: &Subject<'_, T>,
 ) -> Result<Vec<u8>, NoMemory>
-    requires frame { IsFrame frame.now }
-    requires map { frame.now.to ≤ length (T.statuses tiles.now) }
-    requires within { IsWithinMap (covers domain.now) (T.statuses tiles.now) }
-    ensures { IfOk result (λ text. text.items
-        ≡ picture_text form frame.now (covers domain.now) (T.statuses tiles.now)) }
+    requires frame { IsFrame subject.now.frame }
+    requires map { subject.now.frame.to ≤ length (T.statuses subject.now.tiles.now) }
+    requires within { IsWithinMap (covers subject.now.domain.now) (T.statuses subject.now.tiles.now) }
+    ensures { IfOk result (λ text. text.items ≡ picture_text form subject.now.frame
+        (covers subject.now.domain.now) (T.statuses subject.now.tiles.now)) }
 {
-    let summary = Summary::of(tiles, domain);
+    let summary = Summary::of(subject.tiles, subject.domain);
     let mut text = Vec::new(alloc);
-    add_head(&mut text, form, frame, &summary)?;
-    add_rows(&mut text, form, frame, tiles, domain)?;
-    add_foot(&mut text, form, frame)?;
+    add_head(&mut text, form, &subject.frame, &summary)?;
+    add_rows(&mut text, form, subject)?;
+    add_foot(&mut text, form, &subject.frame)?;
     Ok(text)
 }

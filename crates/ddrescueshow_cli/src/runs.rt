@@ -2,20 +2,18 @@
 ghost use Rattle.std.specs.Prelude.{◌≡◌, ◌+◌, ◌<◌, ◌≤◌, ◌++◌, ◌∷◌, List, Option, flat_map, length, IfOk, OnOk};
 ghost use Rattle.block_list.specs.declared.status.Status.{Status as StatusOf};
 ghost use Rattle.rescue_domain.specs.Parts.{covers};
-ghost use Rattle.ddrescueshow_cli.specs.Cells.{IsFrame, cells_in, mark};
+ghost use Rattle.ddrescueshow_cli.specs.Cells.{IsFrame, cells_in};
 ghost use Rattle.ddrescueshow_cli.specs.Picture.{run_text};
 ghost use Rattle.ddrescueshow_cli.specs.Runs.{cell_symbol, marks_from, runs_of, runs_on, same_shown};
 
-use crate::cells::worst;
 use crate::form::Form;
-use crate::frame::Frame;
 use crate::plain::add_block;
+use crate::subject::Subject;
 use crate::svg::add_rect;
 use crate::text::add_bytes;
 use block_list::status::Status;
 use block_list::tiles::{NoMemory, Tiles};
 use map_algebra::pieces::Nearby;
-use rescue_domain::domain::Domain;
 
 /// Cells of a row that show the same, from one on.
 #[derive(Clone, Copy, Debug, PartialEq, Eq)]
@@ -40,24 +38,6 @@ fn shows_same(first: Option<Status>, second: Option<Status>) -> bool
     ensures { result ≡ same_shown first second }
 {
     symbol_of(first) == symbol_of(second)
-}
-
-/// What a cell shows.
-fn mark_of<T: Tiles>(
-    frame: &Frame,
-    tiles: &T,
-    domain: &Domain,
-    near: &mut Nearby,
-    cell: u64,
-) -> Option<Status>
-    requires frame { IsFrame frame.now }
-    requires within { cell < cells_in frame.now }
-    requires map { frame.now.to ≤ length (T.statuses tiles.now) }
-    ensures { result ≡ mark frame.now (covers domain.now) (T.statuses tiles.now) cell }
-{
-    let from = frame.begin_of(cell);
-    let to = frame.end_of(cell);
-    worst(tiles, domain, near, from, to)
 }
 
 /// Adds a run.
@@ -104,29 +84,28 @@ fn run_with(
 pub(crate) fn add_runs<T: Tiles>(
     text: &mut Vec<u8>,
     form: Form,
-    frame: &Frame,
-    tiles: &T,
-    domain: &Domain,
+    subject: &Subject<'_, T>,
     near: &mut Nearby,
     first: u64,
     count: u64,
 ) -> Result<(), NoMemory>
-    requires frame { IsFrame frame.now }
+    requires frame { IsFrame subject.now.frame }
     requires some { 0 < count }
     requires few { count ≤ 1000 }
-    requires within { first + count ≤ cells_in frame.now }
-    requires map { frame.now.to ≤ length (T.statuses tiles.now) }
+    requires within { first + count ≤ cells_in subject.now.frame }
+    requires map { subject.now.frame.to ≤ length (T.statuses subject.now.tiles.now) }
     ensures { OnOk result (text.new.items ≡ text.old.items ++ flat_map (run_text form)
-        (runs_of (marks_from frame.now (covers domain.now) (T.statuses tiles.now) first count))) }
+        (runs_of (marks_from subject.now.frame (covers subject.now.domain.now)
+        (T.statuses subject.now.tiles.now) first count))) }
 {
     let mut run = Run {
         from: 0,
         count: 1,
-        shown: mark_of(frame, tiles, domain, near, first),
+        shown: subject.mark_of(near, first),
     };
     let mut done = 1;
     while done < count {
-        let shown = mark_of(frame, tiles, domain, near, first + done);
+        let shown = subject.mark_of(near, first + done);
         run = run_with(text, form, run, shown)?;
         done += 1;
     }

@@ -14,6 +14,7 @@ use crate::form::Form;
 use crate::frame::Frame;
 use crate::load::{read_map, read_named};
 use crate::picture::draw;
+use crate::subject::Subject;
 use block_list::plain_tiles::PlainTiles;
 use block_list::tiles::{NoMemory, Tiles};
 use crash_site::site::Site;
@@ -61,7 +62,12 @@ fn draw_maps(
     let end = tiles.end();
     let domain = shown_of(alloc, command, tiles, domain_map)?;
     let form = Form::of(options, terminal);
-    let text = draw(alloc, form, &Frame::of(options, end), tiles, &domain)?;
+    let subject = Subject {
+        frame: Frame::of(options, end),
+        tiles,
+        domain: &domain,
+    };
+    let text = draw(alloc, form, &subject)?;
     Ok(text)
 }
 

@@ -5,6 +5,7 @@ use Rattle.std.proofs.lemmas.Bool.Decides.{nat_tests}
 use Rattle.block_list.specs.declared.status.Status.{Status}
 use Rattle.rescue_domain.specs.Domain.{IsIn, whole_domain}
 use Rattle.rescue_domain.specs.Places.{AreAllPlaced, IsAnyBeyond}
+use Rattle.rescue_verify.specs.Across.{across}
 use Rattle.rescue_verify.specs.Pieces.{compared_in}
 use Rattle.faulty_source.specs.SourceState.{SourceState}
 use Rattle.crash_site.specs.SiteState.{SiteState}
@@ -72,10 +73,10 @@ module _ (o : VerifyOptions) (end : ℕ) (statuses : List Status) (covered : ℕ
   pub compares_as : (to : ℕ) → to ≡ output_from o → (now : List Status) (result : Result Tally Halt)
       (source source' : SourceState) (site site' : SiteState)
       → Compares (record { compared = covered; sector = o.sector; from = o.input_position; to = to }) statuses now result
-      source source' site site'
-      → Compares (plan_of o end statuses) statuses now result source source' site site'
+      (across source source' site site')
+      → Compares (plan_of o end statuses) statuses now result (across source source' site site')
   compares_as to at now result source source' site site' compares =
-      subst (λ (p : ComparisonPlan). Compares p statuses now result source source' site site') (plan_is to at) compares
+      subst (λ (p : ComparisonPlan). Compares p statuses now result (across source source' site site')) (plan_is to at) compares
 
 -- a comparison that stopped is answered by what was counted
 pub halt_cause : (halt : Halt) (source source' : SourceState) (site site' : SiteState)

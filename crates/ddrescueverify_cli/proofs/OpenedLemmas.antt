@@ -25,6 +25,7 @@ use Rattle.work_rules.specs.Holds.{after_entries, after_open}
 use Rattle.work_rules.proofs.FrontLemmas.{load_reads, reads_stand}
 use Rattle.work_rules.proofs.PartLemmas.{stopped_more, through_then, grew_both}
 use Rattle.rescue_verify.specs.declared.tally.Tally.{Tally}
+use Rattle.rescue_verify.specs.Across.{across}
 use Rattle.rescue_verify.specs.Looks.{Look, reads_of, seen_in, look_calls}
 use Rattle.rescue_verify.specs.Verified.{judged_by}
 use Rattle.rescue_verify.specs.Comparing.{ComparisonPlan, tally_of, Compares}
@@ -58,7 +59,7 @@ not_opened infile (Err e) s0 s1 never call plan =
 
 pub input_fails : (c : Command) (l : List ℕ) (s0 s1 : SourceState) (d : SiteState)
     → (IsTrue s0.tells → s1.journal ≡ s0.journal) → AreOpens (Unopened c.infile ∷ []) s0 s1
-    → WentOn c l (Err SourceFault) s0 s1 d d
+    → WentOn c l (Err SourceFault) (across s0 s1 d d)
 input_fails c l s0 s1 d same opens = record {
   outside = record { line = l; found = found_in c (files_in d); end = length s0.bytes; looks = [] };
   did = record { opens = Unopened c.infile ∷ []; gain = record { calls = []; reads = []; times = [] } };
@@ -82,7 +83,7 @@ abbrev later_rows : (c : Command) → (mapfile : Option File) → (end : ℕ) �
 later_rows c mapfile end = load_rows c.mapfile mapfile ++ LookAt (PlacesRefused c.options end) ∷ Take ∷ []
 
 pub output_fails : (c : Command) (l : List ℕ) (end : ℕ) (e : VerifyEnding) (s0 s1 : SourceState) (d0 d1 : SiteState)
-    → HasInput c.infile end s0 s1 → OpensOutput {T = Unit {0}} c.outfile (Err e) d0 d1 → WentOn c l (Err e) s0 s1 d0 d1
+    → HasInput c.infile end s0 s1 → OpensOutput {T = Unit {0}} c.outfile (Err e) d0 d1 → WentOn c l (Err e) (across s0 s1 d0 d1)
 output_fails c l end e s0 s1 d0 d1 input o =
     let found : Found = record { output = o.file; mapfile = files_in d0 c.mapfile } in
     record {
@@ -162,7 +163,7 @@ own_found c n end r d0 d1 d2 h p tells =
 
 pub load_fails : (c : Command) (l : List ℕ) (n : MapNames) (end : ℕ) (e : VerifyEnding) (s0 s1 : SourceState)
     (d0 d1 d2 : SiteState) → HasInput c.infile end s0 s1 → HasLoaded c n end (Err e) d0 d1 d2
-    → WentOn c l (Err e) s0 s1 d0 d2
+    → WentOn c l (Err e) (across s0 s1 d0 d2)
 load_fails c l n end e s0 s1 d0 d1 d2 input h =
     let o : OpensOutput {T = Unit {0}} c.outfile (Ok tt) d0 d1 = h.output in
     let p : Loads c.mapfile end (Err e) d1 d2 = own_loads c n end (Err e) d0 d1 d2 h in
@@ -276,7 +277,7 @@ all_worked : (c : Command) (l : List ℕ) (n : MapNames) (end : ℕ) (loaded : L
     → (h : HasLoaded c n end (Ok loaded) d0 d1 d2) → d2.tells ≡ d0.tells
     → After c l end (record { output = h.output.file; mapfile = (own_loads c n end (Ok loaded) d0 d1 d2 h).file })
     result s1 s2 d0 d2 d3
-    → WentOn c l result s0 s2 d0 d3
+    → WentOn c l result (across s0 s2 d0 d3)
 all_worked c l n end loaded result s0 s1 s2 d0 d1 d2 d3 input h told b =
     let o : OpensOutput {T = Unit {0}} c.outfile (Ok tt) d0 d1 = h.output in
     let p : Loads c.mapfile end (Ok loaded) d1 d2 = own_loads c n end (Ok loaded) d0 d1 d2 h in
@@ -348,7 +349,7 @@ own_looks c looks image output same are =
 pub compare_fails : (c : Command) (l : List ℕ) (n : MapNames) (end : ℕ) (loaded : LoadedMap) (new : List Status)
     (e : VerifyEnding) (s0 s1 s2 : SourceState) (d0 d1 d2 d3 : SiteState) → HasInput c.infile end s0 s1
     → HasLoaded c n end (Ok loaded) d0 d1 d2 → Keeps d1 d2 → SourceStays s1 s2
-    → StopsComparing c.options end loaded.tiles.statuses new e s1 s2 d2 d3 → WentOn c l (Err e) s0 s2 d0 d3
+    → StopsComparing c.options end loaded.tiles.statuses new e (across s1 s2 d2 d3) → WentOn c l (Err e) (across s0 s2 d0 d3)
 compare_fails c l n end loaded new e s0 s1 s2 d0 d1 d2 d3 input h keeps stays (Beyond far is same stands) =
     all_worked c l n end loaded (Err e) s0 s1 s2 d0 d1 d2 d3 input h (keeps.tells ∙ h.keeps.tells)
     (nothing_after c l end _ e s1 s2 d0 d2 d3 same stands
@@ -472,9 +473,9 @@ pub compare_saves : (c : Command) (l : List ℕ) (n : MapNames) (h : HeadingLine
     (new : List Status) (tally : Tally) (result : Result (Unit {0}) VerifyEnding) (s0 s1 s2 : SourceState)
     (d0 d1 d2 d3 d4 : SiteState) → HasInput c.infile end s0 s1 → HasLoaded c n end (Ok loaded) d0 d1 d2
     → Keeps d1 d2 → SourceStays s1 s2 → SiteStays d2 d3 → (IsBeyond c.options end → ⊥) → h ≡ heading_of l
-    → Compares (plan_of c.options end loaded.tiles.statuses) loaded.tiles.statuses new (Ok tally) s1 s2 d2 d3
+    → Compares (plan_of c.options end loaded.tiles.statuses) loaded.tiles.statuses new (Ok tally) (across s1 s2 d2 d3)
     → SavesText n (printed h (shown_for loaded.state tally.differing) new) result d3 d4
-    → WentOn c l (tally_or tally result) s0 s2 d0 d4
+    → WentOn c l (tally_or tally result) (across s0 s2 d0 d4)
 compare_saves c l n h end loaded new tally result s0 s1 s2 d0 d1 d2 d3 d4 input loads keeps stays site_stays near heads
     compares saved =
     let p : Loads c.mapfile end (Ok loaded) d1 d2 = own_loads c n end (Ok loaded) d0 d1 d2 loads in

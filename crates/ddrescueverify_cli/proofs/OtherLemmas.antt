@@ -17,6 +17,7 @@ use Rattle.work_rules.specs.Work.{Deeds, Works}
 use Rattle.work_rules.proofs.SavedLemmas.{HasSaved}
 use Rattle.work_rules.proofs.SpareLemmas.{spared, save_spares}
 use Rattle.ddrescueverify_words.specs.Command.{Command}
+use Rattle.rescue_verify.specs.Across.{across}
 use Rattle.ddrescueverify_cli.specs.declared.ending.VerifyEnding.{VerifyEnding}
 use Rattle.ddrescueverify_cli.specs.Outside.{Agrees, Outside}
 use Rattle.ddrescueverify_cli.specs.Work.{Verifies, verify_faults, verify_rows}
@@ -103,7 +104,7 @@ module _ (c : Command) (d : Folder) (n : List ℕ) (other : n ≢ c.mapfile) (ap
 
 -- a file that isn't the mapfile nor its draft reads as it did
 pub others_stand : (c : Command) (o : Outside) (did : Deeds) (e : VerifyEnding) (source source' : SourceState)
-    (site site' : SiteState) → Agrees c o did source source' site site' → SiteKeeps site site' → IsTrue site.tells
+    (site site' : SiteState) → Agrees c o did (across source source' site site') → SiteKeeps site site' → IsTrue site.tells
     → Works verify_faults (verify_rows c o.found o.end) (Verifies c o.line o.found o.end o.looks) e did
     → (name : List ℕ) → name ≢ c.mapfile → name ≢ (names_of c.mapfile).draft
     → files_in site' name ≡ files_in site name

@@ -22,6 +22,7 @@ use Rattle.rescue_rules.specs.Start.{Stands as StandsFor}
 use Rattle.rescue_rules.specs.Stops.{has_barrier, is_sync}
 use Rattle.work_rules.specs.Work.{Deeds, Works}
 use Rattle.work_rules.proofs.SavedLemmas.{HasSaved, stops_by_save, saved_by, save_after}
+use Rattle.rescue_verify.specs.Across.{across}
 use Rattle.rescue_verify.specs.Looks.{Look, reads_of, seen_in}
 use Rattle.rescue_verify.specs.Verified.{judged_by}
 use Rattle.ddrescueverify_words.specs.Command.{Command}
@@ -344,7 +345,7 @@ nothing_stops c line o did site e none short =
     }
 
 module _ (c : Command) (o : Outside) (did : Deeds) (e : VerifyEnding) (source source' : SourceState)
-    (site site' : SiteState) (agrees : Agrees c o did source source' site site') (tells : IsTrue site.tells)
+    (site site' : SiteState) (agrees : Agrees c o did (across source source' site site')) (tells : IsTrue site.tells)
     (works : Works verify_faults (verify_rows c o.found o.end) (Verifies c o.line o.found o.end o.looks) e did) where
   -- the shape of the calls of a whole call
   pub own_shape : Shape c (files_in site c.outfile ≡ None → ⊥) (is_saved e)

@@ -14,6 +14,7 @@ use Rattle.save_resume.proofs.FillLemmas.{keeps_self as site_keeps}
 use Rattle.save_resume.proofs.NameLemmas.{ne_of}
 use Rattle.work_rules.specs.Work.{Deeds, Works}
 use Rattle.rescue_verify.specs.declared.tally.Tally.{Tally}
+use Rattle.rescue_verify.specs.Across.{across}
 use Rattle.rescue_verify.specs.Comparing.{tally_of}
 use Rattle.faulty_source.specs.Journal.{IsFrom}
 use Rattle.ddrescueverify_words.specs.Command.{Command}
@@ -67,7 +68,7 @@ apart_of i o n is =
 -- what the work did and counted, and what was answered and put
 pub record Went (c : Command) (line : List ℕ) (result : Result Tally VerifyEnding) (e : VerifyEnding)
     (s s' : SourceState) (d d' : SiteState) (p q : ConsoleState) : Type 0 where
-  pub went : WentOn c line result s s' d d'
+  pub went : WentOn c line result (across s s' d d')
   pub cause : WorkCause result s s' d d'
   pub draft : d'.is_drafting ≡ drafting_after result
   pub source : SourceKeeps s s'

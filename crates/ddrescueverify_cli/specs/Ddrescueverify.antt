@@ -7,6 +7,7 @@ use Rattle.crash_site.specs.SiteChanges.{Keeps as SiteKeeps}
 use Rattle.rescue_console.specs.ConsoleState.{ConsoleState}
 use Rattle.save_resume.specs.MapNames.{names_of}
 use Rattle.work_rules.specs.Work.{Deeds}
+use Rattle.rescue_verify.specs.Across.{across}
 use Rattle.rescue_verify.specs.Comparing.{tally_of}
 use Rattle.ddrescueverify_words.specs.Command.{Command, verify_grammar}
 use Rattle.program_promise.specs.World.{WorldState, no_clock, no_feed, Told}
@@ -66,7 +67,7 @@ verify_program = record {
   Fits = λ c e. FitsNames (same_of c) e;
   rows = λ c o. verify_rows c o.found o.end;
   Run = λ c line o. Verifies c o.line o.found o.end o.looks;
-  Agrees = λ c o did old new. Agrees c o did old.source new.source old.site new.site;
+  Agrees = λ c o did old new. Agrees c o did (across old.source new.source old.site new.site);
   Leaves = LeavesAs;
   Begins = λ w. w.site.is_drafting ≡ false;
   Keeps = KeepsAs;

@@ -1,10 +1,10 @@
 -- What a command finds outside of it, and that it is what the objects tell.
 use Rattle.std.specs.Prelude.{◌≡◌, ℕ, IsTrue, List, ◌++◌, length, map, All, Option}
-use Rattle.faulty_source.specs.SourceState.{SourceState}
 use Rattle.crash_site.specs.Files.{File, bytes_of}
-use Rattle.crash_site.specs.SiteState.{SiteState, files_in}
+use Rattle.crash_site.specs.SiteState.{files_in}
 use Rattle.rescue_domain.specs.Places.{place_from}
 use Rattle.work_rules.specs.Work.{Deeds}
+use Rattle.rescue_verify.specs.Across.{Across}
 use Rattle.rescue_verify.specs.Looks.{Look, reads_of, seen_in}
 use Rattle.faulty_source.specs.Journal.{IsFrom}
 use Rattle.ddrescueverify_words.specs.Command.{Command}
@@ -32,17 +32,16 @@ pub record Outside : Type 0 where
   pub looks : List Look
 
 -- What an object tells is its own:
-pub record Agrees (c : Command) (o : Outside) (did : Deeds) (source source' : SourceState) (site site' : SiteState)
-    : Type 0 where
+pub record Agrees (c : Command) (o : Outside) (did : Deeds) (a : Across) : Type 0 where
   -- the opens are those that the source counts;
-  pub opens : AreOpens did.opens source source'
+  pub opens : AreOpens did.opens a.source a.source'
   -- if the source tells, the length is its own, and the reads, which gave its own bytes;
-  pub end : IsTrue source.tells → o.end ≡ length source.bytes
-  pub reads : IsTrue source.tells → source'.journal ≡ source.journal ++ did.gain.reads
-  pub right : IsTrue source.tells → All (IsFrom source.bytes) did.gain.reads
+  pub end : IsTrue a.source.tells → o.end ≡ length a.source.bytes
+  pub reads : IsTrue a.source.tells → a.source'.journal ≡ a.source.journal ++ did.gain.reads
+  pub right : IsTrue a.source.tells → All (IsFrom a.source.bytes) did.gain.reads
   -- if the files tell, they are the ones found, and the calls are their own;
-  pub found : IsTrue site.tells → o.found ≡ found_in c (files_in site)
-  pub calls : IsTrue site.tells → site'.calls ≡ site.calls ++ did.gain.calls
+  pub found : IsTrue a.site.tells → o.found ≡ found_in c (files_in a.site)
+  pub calls : IsTrue a.site.tells → a.site'.calls ≡ a.site.calls ++ did.gain.calls
   -- and what each look saw in the image is what the output has there.
-  pub seen : IsTrue site.tells
-      → o.looks ≡ map (seen_in (bytes_of (files_in site c.outfile)) (place_by c)) (reads_of o.looks)
+  pub seen : IsTrue a.site.tells
+      → o.looks ≡ map (seen_in (bytes_of (files_in a.site c.outfile)) (place_by c)) (reads_of o.looks)

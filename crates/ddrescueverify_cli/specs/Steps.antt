@@ -4,7 +4,6 @@ use Rattle.fault_count.specs.Counts.{Rose}
 use Rattle.block_list.specs.declared.status.Status.{Status}
 use Rattle.mapfile_text.specs.declared.read.MapError.{MapError}
 use Rattle.mapfile_text.specs.declared.read.MapError.TheVariants.{NoStatusLine, NoMemory as OutOfMemory}
-use Rattle.faulty_source.specs.SourceState.{SourceState}
 use Rattle.crash_site.specs.declared.site.SiteCall.{SiteCall}
 use Rattle.crash_site.specs.declared.site.SiteCall.TheVariants.{ImageOpen}
 use Rattle.crash_site.specs.Files.{File}
@@ -19,6 +18,7 @@ use Rattle.work_rules.specs.Work.{Deeds, Make, Works}
 use Rattle.work_rules.specs.Parts.{Did, DidPart}
 use Rattle.rescue_verify.specs.declared.halt.Halt.{Halt}
 use Rattle.rescue_verify.specs.declared.tally.Tally.{Tally}
+use Rattle.rescue_verify.specs.Across.{Across}
 use Rattle.rescue_verify.specs.Comparing.{Compares, tally_of}
 use Rattle.ddrescueverify_words.specs.declared.options.VerifyOptions.{VerifyOptions}
 use Rattle.ddrescueverify_words.specs.Command.{Command, AreInLimits, told_by}
@@ -68,15 +68,14 @@ LoadCause e faults faults' =
 
 -- Why a comparison after the mapfile saves nothing: a position has no place, or each has one, and memory ran out before
 -- it began, or it stopped.
-pub data StopsComparing (o : VerifyOptions) (end : ℕ) (old new : List Status) (e : VerifyEnding)
-    (source source' : SourceState) (site site' : SiteState) : Type 0 where
-  Beyond : IsBeyond o end → e ≡ Usage PlaceTooLarge → source' ≡ source → site' ≡ site
-      → StopsComparing o end old new e source source' site site'
-  Starved : (IsBeyond o end → ⊥) → e ≡ NoMemory → source' ≡ source → site' ≡ site
-      → StopsComparing o end old new e source source' site site'
+pub data StopsComparing (o : VerifyOptions) (end : ℕ) (old new : List Status) (e : VerifyEnding) (a : Across)
+    : Type 0 where
+  Beyond : IsBeyond o end → e ≡ Usage PlaceTooLarge → a.source' ≡ a.source → a.site' ≡ a.site
+      → StopsComparing o end old new e a
+  Starved : (IsBeyond o end → ⊥) → e ≡ NoMemory → a.source' ≡ a.source → a.site' ≡ a.site
+      → StopsComparing o end old new e a
   Halted : (halt : Halt) → (IsBeyond o end → ⊥) → e ≡ answer_of_halt halt
-      → Compares (plan_of o end old) old new (Err halt) source source' site site'
-      → StopsComparing o end old new e source source' site site'
+      → Compares (plan_of o end old) old new (Err halt) a → StopsComparing o end old new e a
 
 -- the save of a text: there are its calls, which are the site's own where it tells
 pub record SavesText {T : Type 0} (names : MapNames) (text : List ℕ) (result : Result T VerifyEnding)
@@ -101,10 +100,9 @@ DidWork c o did (Err e) =
     Works verify_faults (opened_rows c o.found o.end) (Verifies c o.line o.found o.end o.looks) e did
 
 -- What the work did once the names were checked: there is an outside that agrees with what the objects tell.
-pub record WentOn (c : Command) (line : List ℕ) (result : Result Tally VerifyEnding) (source source' : SourceState)
-    (site site' : SiteState) : Type 0 where
+pub record WentOn (c : Command) (line : List ℕ) (result : Result Tally VerifyEnding) (a : Across) : Type 0 where
   pub outside : Outside
   pub did : Deeds
   pub line_is : outside.line ≡ line
-  pub agrees : Agrees c outside did source source' site site'
+  pub agrees : Agrees c outside did a
   pub works : DidWork c outside did result

@@ -3,6 +3,7 @@ ghost use Rattle.std.specs.Prelude.{◌≡◌, ◌<◌, ◌≤◌, ◌^◌, true
 ghost use Rattle.option_words.specs.declared.fault.UsageFault.{UsageFault as Fault};
 ghost use Rattle.faulty_source.specs.SourceChanges.{Keeps as SourceKeeps, Stays as SourceStays};
 ghost use Rattle.crash_site.specs.SiteChanges.{Keeps as SiteKeeps, Stays as SiteStays};
+ghost use Rattle.rescue_verify.specs.Across.{across};
 ghost use Rattle.rescue_verify.specs.Comparing.{Compares};
 ghost use Rattle.ddrescueverify_words.specs.Command.{AreInLimits, AreRefused, told_by};
 ghost use Rattle.program_promise.specs.World.{told};
@@ -74,10 +75,11 @@ fn compare_loaded<S: Source, D: Site>(
     requires input { (S.state source.old).is_open ≡ true }
     requires image { (D.state site.old).is_open ≡ true }
     ensures compares { IfOk result (λ tally. Compares (plan_of options.now end loaded.old.tiles.statuses)
-        loaded.old.tiles.statuses loaded.new.tiles.statuses (Ok tally) (S.state source.old) (S.state source.new)
-        (D.state site.old) (D.state site.new)) }
+        loaded.old.tiles.statuses loaded.new.tiles.statuses (Ok tally) (across (S.state source.old) (S.state source.new)
+        (D.state site.old) (D.state site.new))) }
     ensures stops { IfErr result (λ e. StopsComparing options.now end loaded.old.tiles.statuses
-        loaded.new.tiles.statuses e (S.state source.old) (S.state source.new) (D.state site.old) (D.state site.new)) }
+        loaded.new.tiles.statuses e (across (S.state source.old) (S.state source.new) (D.state site.old)
+        (D.state site.new))) }
     ensures placed { OnOk result (IsBeyond options.now end → ⊥) }
     ensures cause { WorkCause result (S.state source.old) (S.state source.new) (D.state site.old) (D.state site.new) }
     ensures state { loaded.new.state ≡ loaded.old.state }
@@ -113,8 +115,8 @@ fn verify<S: Source, D: Site>(
 ) -> Result<Tally, VerifyEnding>
     requires no_draft { (D.state site.old).is_drafting ≡ false }
     requires planned { IsPlanned plan.now }
-    ensures went { WentOn (told_by plan.now.command) plan.now.heading.line result (S.state source.old)
-        (S.state source.new) (D.state site.old) (D.state site.new) }
+    ensures went { WentOn (told_by plan.now.command) plan.now.heading.line result (across (S.state source.old)
+        (S.state source.new) (D.state site.old) (D.state site.new)) }
     ensures cause { WorkCause result (S.state source.old) (S.state source.new) (D.state site.old) (D.state site.new) }
     ensures draft { (D.state site.new).is_drafting ≡ drafting_after result }
     ensures source { SourceKeeps (S.state source.old) (S.state source.new) }

@@ -1,5 +1,5 @@
 -- How looks follow each other.
-use Rattle.std.proofs.Common.{◌≡◌, ℕ, ◌+◌, ◌-◌, ◌<◌, ◌≤◌, Bool, true, false, not, if◌then◌else◌, IsTrue, List, [], ◌∷◌, ◌++◌, ◌&&◌, map, length, All, Option, Some, None, Err, refl, sym, ap, ◌∙◌, subst, arith, append-nil, append_assoc, inl, inr, drop, length-append, length-take-le, take}
+use Rattle.std.proofs.Common.{◌≡◌, ℕ, ◌+◌, ◌-◌, ◌^◌, ◌<◌, ◌≤◌, Bool, true, false, not, if◌then◌else◌, IsTrue, List, [], ◌∷◌, ◌++◌, ◌&&◌, map, length, All, Option, Some, None, Err, refl, sym, ap, ◌∙◌, subst, arith, append-nil, append_assoc, inl, inr}
 use Rattle.std.specs.Str.{bytes_eq}
 use Rattle.std.proofs.lemmas.List.{map-append, map_push}
 use Rattle.std.proofs.lemmas.List.Elements.{All-append, All-cons, All-nil}
@@ -23,13 +23,15 @@ use Rattle.crash_site.specs.SiteState.{SiteState, image_in}
 use Rattle.crash_site.specs.SiteChanges.{Stays as SiteStays}
 use Rattle.rescue_verify.specs.declared.halt.Halt.{Halt}
 use Rattle.rescue_verify.specs.declared.halt.Halt.TheVariants.{NoMemory, SourceLost, ImageFault}
+use Rattle.rescue_verify.specs.declared.piece.Piece.{Piece}
 use Rattle.rescue_verify.specs.declared.tally.Tally.{Tally}
+use Rattle.rescue_verify.specs.Across.{across}
 use Rattle.rescue_verify.specs.Pieces.{IsPiece, AskForPieces, end_of_reads}
 use Rattle.rescue_verify.proofs.PieceLemmas.{asks_push}
 use Rattle.rescue_verify.specs.Looks.{Look, reads_of, differs, seen_at, seen_in, look_call, look_calls}
 use Rattle.rescue_verify.specs.Looking.{HaltsLooking, SeesPiece}
 use Rattle.rescue_verify.specs.Verified.{judged, judged_by}
-use Rattle.rescue_verify.specs.Comparing.{ComparisonPlan, LossesRise, place_in, tally_of, tally_with, TakesPiece, HaltsAt, HasLooked, Compares}
+use Rattle.rescue_verify.specs.Comparing.{CanTake, ComparisonPlan, IsNext, IsSound, IsTallyUpTo, LossesRise, place_in, tally_of, tally_with, TakesPiece, HaltsAt, HasLooked, Compares}
 
 -- ---- one more look
 
@@ -100,7 +102,7 @@ pub record SameImage (site site' : SiteState) : Type 0 where
 pub one_more : (p : ComparisonPlan) (from pos size : ℕ) (tally : Tally) (old new : List Status) (l : Look)
     (source s1 s2 : SourceState) (site d1 d2 : SiteState) → UpTo p from tally old new source s1 site d1
     → SourceKeeps source s1 → SameImage site d1
-    → IsPiece p.compared p.sector from pos (pos + size) → SeesPiece pos size (place_in p pos) l s1 s2 d1 d2
+    → IsPiece p.compared p.sector from pos (pos + size) → SeesPiece pos size (place_in p pos) l (across s1 s2 d1 d2)
     → UpTo p (pos + size) (tally_with tally l) old (judged new l) source s2 site d2
 one_more p from pos size tally old new l source s1 s2 site d1 d2 u keeps image piece sees =
     let looks : List Look = u.looks in
@@ -178,18 +180,21 @@ same_image p from tally old new source source' site site' u stays = record {
 }
 
 -- a piece that was taken is one more look
-pub takes_one : (p : ComparisonPlan) (from pos to : ℕ) (tally tally' : Tally) (old new new' : List Status)
+pub takes_one : (p : ComparisonPlan) (from : ℕ) (piece : Piece) (tally tally' : Tally) (old new new' : List Status)
     (source s1 s2 : SourceState) (site d1 d2 : SiteState) → UpTo p from tally old new source s1 site d1
-    → SourceStays source s1 → SiteStays site d1 → pos < to → IsPiece p.compared p.sector from pos to
-    → TakesPiece p pos to tally tally' new new' s1 s2 d1 d2
-    → UpTo p to tally' old new' source s2 site d2
-takes_one p from pos to tally tally' old new new' source s1 s2 site d1 d2 u stays site_stays some piece takes =
-    let end : pos + (to - pos) ≡ to = omega arith in
-    let own : IsPiece p.compared p.sector from pos (pos + (to - pos)) =
-    subst (IsPiece p.compared p.sector from pos) (sym end) piece in
-    let more : UpTo p (pos + (to - pos)) (tally_with tally takes.look) old (judged new takes.look) source s2 site d2 =
-    one_more p from pos (to - pos) tally old new takes.look source s1 s2 site d1 d2 u stays.keeps
-    (same_image p from tally old new source s1 site d1 u site_stays) own takes.sees in
+    → SourceStays source s1 → SiteStays site d1 → IsNext p from piece
+    → TakesPiece piece tally tally' new new' (across s1 s2 d1 d2)
+    → UpTo p piece.to tally' old new' source s2 site d2
+takes_one p from piece tally tally' old new new' source s1 s2 site d1 d2 u stays site_stays next takes =
+    let size : ℕ = piece.to - piece.from in
+    let end : piece.from + (piece.to - piece.from) ≡ piece.to = omega (arith, next.some) in
+    let own : IsPiece p.compared p.sector from piece.from (piece.from + size) =
+    subst (IsPiece p.compared p.sector from piece.from) (sym end) next.is_piece in
+    let sees : SeesPiece piece.from size (place_in p piece.from) takes.look (across s1 s2 d1 d2) =
+    subst (λ (place : ℕ). SeesPiece piece.from size place takes.look (across s1 s2 d1 d2)) next.place_is takes.sees in
+    let more : UpTo p (piece.from + size) (tally_with tally takes.look) old (judged new takes.look) source s2 site d2 =
+    one_more p from piece.from size tally old new takes.look source s1 s2 site d1 d2 u stays.keeps
+    (same_image p from tally old new source s1 site d1 u site_stays) own sees in
     rw (takes.counts, takes.map_is) (subst (λ (n : ℕ). UpTo p n (tally_with tally takes.look) old (judged new takes.look)
     source s2 site d2) end more)
 
@@ -199,10 +204,9 @@ length_judged_by true map pos size h = length-marked map pos size NonTried h
 length_judged_by false map pos size h = refl
 
 -- a map keeps its length, and the counts stay below the positions that were looked at
-pub record Grows (to : ℕ) (tally tally' : Tally) (old new : List Status) : Type 0 where
+pub record Grows (to : ℕ) (tally : Tally) (old new : List Status) : Type 0 where
   pub long : length new ≡ length old
-  pub counts : tally'.compared + tally'.unread ≤ to
-  pub part : tally'.differing ≤ tally'.compared
+  pub counted : IsTallyUpTo to tally
 
 sums_by : (whole same : Bool) (pos n to c d u : ℕ) → pos + n ≡ to → c + u ≤ pos → d ≤ c
     → ((c + (if whole then n else 0)) + (u + (if not whole then n else 0)) ≤ to)
@@ -212,22 +216,56 @@ sums_by true false pos n to c d u e h k = (omega arith, omega arith)
 sums_by false true pos n to c d u e h k = (omega arith, omega arith)
 sums_by false false pos n to c d u e h k = (omega arith, omega arith)
 
-pub takes_grow : (p : ComparisonPlan) (pos to : ℕ) (tally tally' : Tally) (old new : List Status) (source source' : SourceState)
-    (site site' : SiteState) → TakesPiece p pos to tally tally' old new source source' site site' → pos < to
-    → to ≤ length old → tally.compared + tally.unread ≤ pos → tally.differing ≤ tally.compared
-    → Grows to tally tally' old new
-takes_grow p pos to tally tally' old new source source' site site' takes some within counts part =
+pub takes_grow : (piece : Piece) (tally tally' : Tally) (old new : List Status) (source source' : SourceState)
+    (site site' : SiteState) → TakesPiece piece tally tally' old new (across source source' site site') → CanTake piece old
+    → IsTallyUpTo piece.from tally → Grows piece.to tally' old new
+takes_grow piece tally tally' old new source source' site site' takes can counted =
     let l : Look = takes.look in
-    let size : l.read.asked ≡ to - pos = takes.sees.size_is in
-    let start : l.read.pos ≡ pos = takes.sees.pos_is in
-    let ends : pos + l.read.asked ≡ to = omega (arith, size) in
-    let sums = sums_by (is_whole l.read) (bytes_eq l.read.given l.there) pos l.read.asked to tally.compared
-    tally.differing tally.unread ends counts part in
+    let size : l.read.asked ≡ piece.to - piece.from = takes.sees.size_is in
+    let start : l.read.pos ≡ piece.from = takes.sees.pos_is in
+    let ends : piece.from + l.read.asked ≡ piece.to = omega (arith, size, can.looks.some) in
+    let sums = sums_by (is_whole l.read) (bytes_eq l.read.given l.there) piece.from l.read.asked piece.to
+    tally.compared tally.differing tally.unread ends counted.counts counted.part in
     record {
       long = ap length takes.map_is
-          ∙ length_judged_by (differs l) old l.read.pos l.read.asked (omega (arith, start, ends, within));
-      counts = rw takes.counts sums.0;
-      part = rw takes.counts sums.1;
+          ∙ length_judged_by (differs l) old l.read.pos l.read.asked (omega (arith, start, ends, can.within));
+      counted = record { counts = rw takes.counts sums.0; part = rw takes.counts sums.1 };
+    }
+
+-- ---- a piece
+
+-- its last position is compared
+pub piece_holds : (compared : ℕ → Bool) (sector from pos end : ℕ) → pos < end → IsPiece compared sector from pos end
+    → IsIn compared (end - 1)
+piece_holds compared sector from pos end some piece =
+    piece.range.within (end - 1) (omega (arith, some)) (omega (arith, some, piece.ends))
+
+-- it is as long as what is between its ends
+pub long_piece : (compared : ℕ → Bool) (sector from pos end : ℕ) → pos < end → IsPiece compared sector from pos end
+    → IsPiece compared sector from pos (pos + (end - pos))
+long_piece compared sector from pos end some piece =
+    let same : end ≡ pos + (end - pos) = omega (arith, some) in
+    subst (IsPiece compared sector from pos) same piece
+
+-- the next piece of a sound plan can be taken
+pub can_take : (p : ComparisonPlan) (from : ℕ) (piece : Piece) (old now : List Status) → IsSound p
+    → ((x : ℕ) → IsIn p.compared x → x < length old) → length now ≡ length old → IsNext p from piece
+    → CanTake piece now
+can_take p from piece old now sound within long next =
+    let held : IsIn p.compared (piece.to - 1) =
+    piece_holds p.compared p.sector from piece.from piece.to next.some next.is_piece in
+    let some : piece.from < piece.to = next.some in
+    let last : piece.to - 1 < length old = within (piece.to - 1) held in
+    let end : piece.to - 1 + 1 < 2 ^ 63 = sound.short (piece.to - 1) held in
+    let placed : place_in p (piece.to - 1) < 2 ^ 63 - 1 = sound.placed (piece.to - 1) held in
+    let past : p.from ≤ piece.from = sound.past piece.from next.is_piece.first.holds in
+    record {
+      looks = record {
+        some = some;
+        short = omega (arith, some, end);
+        placed = omega (arith, some, placed, past, next.place_is);
+      };
+      within = omega (arith, some, last, long);
     }
 
 -- ---- the end
@@ -255,7 +293,7 @@ halted_by_tells false X told untold = untold (λ t. absurd (cc))
 
 halted_looking : (halt : Halt) (p : ComparisonPlan) (from pos size : ℕ) (source source' : SourceState) (site site' : SiteState)
     → IsPiece p.compared p.sector from pos (pos + size)
-    → HaltsLooking halt pos size (place_in p pos) source source' site site' → Halted halt p from source source' site site'
+    → HaltsLooking halt pos size (place_in p pos) (across source source' site site') → Halted halt p from source source' site site'
 halted_looking NoMemory p from pos size source source' site site' piece h = record {
   reads = [];
   calls = [];
@@ -302,13 +340,17 @@ halted_looking ImageFault p from pos size source source' site site' piece h =
       record_ = λ tells. absurd (n tells);
     })
 
-pub came_to_halt : (halt : Halt) (p : ComparisonPlan) (from pos size : ℕ) (tally : Tally) (old new now : List Status)
-    (source s1 s2 : SourceState) (site d1 d2 : SiteState) → UpTo p from tally old new source s1 site d1
-    → SourceKeeps source s1 → d1.tells ≡ site.tells → IsPiece p.compared p.sector from pos (pos + size)
-    → HaltsLooking halt pos size (place_in p pos) s1 s2 d1 d2
-    → Compares p old now (Err halt) source s2 site d2
-came_to_halt halt p from pos size tally old new now source s1 s2 site d1 d2 u keeps tells piece h =
-    let halted : Halted halt p from s1 s2 d1 d2 = halted_looking halt p from pos size s1 s2 d1 d2 piece h in
+pub came_to_halt : (halt : Halt) (p : ComparisonPlan) (from : ℕ) (piece : Piece) (tally : Tally)
+    (old new now : List Status) (source s1 s2 : SourceState) (site d1 d2 : SiteState)
+    → UpTo p from tally old new source s1 site d1 → SourceKeeps source s1 → d1.tells ≡ site.tells → IsNext p from piece
+    → HaltsLooking halt piece.from (piece.to - piece.from) piece.place (across s1 s2 d1 d2)
+    → Compares p old now (Err halt) (across source s2 site d2)
+came_to_halt halt p from piece tally old new now source s1 s2 site d1 d2 u keeps tells next h =
+    let size : ℕ = piece.to - piece.from in
+    let halted : Halted halt p from s1 s2 d1 d2 =
+    halted_looking halt p from piece.from size s1 s2 d1 d2
+    (long_piece p.compared p.sector from piece.from piece.to next.some next.is_piece)
+    (subst (λ (place : ℕ). HaltsLooking halt piece.from size place (across s1 s2 d1 d2)) next.place_is h) in
     record {
       looks = u.looks;
       reads = halted.reads;
@@ -327,7 +369,7 @@ came_to_halt halt p from pos size tally old new now source s1 s2 site d1 d2 u ke
 
 -- memory ran out before the first piece
 pub nothing_compared : (p : ComparisonPlan) (map : List Status) (source : SourceState) (site : SiteState)
-    → Compares p map map (Err NoMemory) source source site site
+    → Compares p map map (Err NoMemory) (across source source site site)
 nothing_compared p map source site = record {
   looks = [];
   reads = [];
@@ -342,7 +384,7 @@ nothing_compared p map source site = record {
 
 -- what is counted of a look that halted, after looks that counted nothing
 pub halted_counts : (halt : Halt) (pos size place : ℕ) (s0 s s' : SourceState) (d0 d d' : SiteState)
-    → s.losses ≡ s0.losses → d.faults ≡ d0.faults → HaltsLooking halt pos size place s s' d d'
+    → s.losses ≡ s0.losses → d.faults ≡ d0.faults → HaltsLooking halt pos size place (across s s' d d')
     → LossesRise (Err halt) s0 s' d0 d'
 halted_counts NoMemory pos size place s0 s s' d0 d d' losses faults h =
     (ap (λ (x : SourceState). x.losses) h.0 ∙ losses, ap (λ (x : SiteState). x.faults) h.1 ∙ faults)
@@ -350,29 +392,3 @@ halted_counts SourceLost pos size place s0 s s' d0 d d' losses faults h =
     (h.0.rose ∙ ap raised losses, ap (λ (x : SiteState). x.faults) h.1 ∙ faults)
 halted_counts ImageFault pos size place s0 s s' d0 d d' losses faults h =
     (h.4.losses ∙ losses, h.5.rose ∙ ap raised faults)
-
--- ---- a piece
-
--- its last position is compared
-pub piece_holds : (compared : ℕ → Bool) (sector from pos end : ℕ) → pos < end → IsPiece compared sector from pos end
-    → IsIn compared (end - 1)
-piece_holds compared sector from pos end some piece =
-    piece.range.within (end - 1) (omega (arith, some)) (omega (arith, some, piece.ends))
-
--- it is as long as what is between its ends
-pub long_piece : (compared : ℕ → Bool) (sector from pos end : ℕ) → pos < end → IsPiece compared sector from pos end
-    → IsPiece compared sector from pos (pos + (end - pos))
-long_piece compared sector from pos end some piece =
-    let same : end ≡ pos + (end - pos) = omega (arith, some) in
-    subst (IsPiece compared sector from pos) same piece
-
--- ---- a buffer
-
--- a buffer that was lent as a slice is as long as before
-pub buffer_same : (len : ℕ) (new now items : List ℕ) → length now ≡ len → now ≡ items → length new ≡ length now
-    → length (take len (new ++ drop (length new) items)) ≡ length items
-buffer_same len new now items long is same =
-    let all : length items ≡ len = ap (λ (l : List ℕ). length l) (sym is) ∙ long in
-    let size : length (new ++ drop (length new) items) ≡ length new + length (drop (length new) items)
-    = length-append new (drop (length new) items) in
-    length-take-le len (new ++ drop (length new) items) (omega (arith, size, same, long)) ∙ sym all

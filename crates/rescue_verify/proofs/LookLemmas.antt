@@ -15,6 +15,7 @@ use Rattle.crash_site.specs.FileAnswers.{IsImageRead}
 use Rattle.crash_site.specs.SiteState.{SiteState, image_in}
 use Rattle.rescue_verify.specs.declared.look.LookResult.{LookResult}
 use Rattle.rescue_verify.specs.declared.look.LookResult.TheVariants.{Unread, Same, Different}
+use Rattle.rescue_verify.specs.Across.{across}
 use Rattle.rescue_verify.specs.Looks.{Look, differs, seen_at, look_call}
 use Rattle.rescue_verify.specs.Looking.{SeesPiece, seen_by}
 
@@ -79,7 +80,7 @@ module _ (r : Reading) (part : is_whole r ≡ false) where
 pub sees_unread : (pos place asked : ℕ) (buf : List ℕ) (got : Got) (source source' : SourceState) (site : SiteState)
     → length buf ≡ asked → count_of got < asked → Reads (reading pos asked buf got ∷ []) source source'
     → (IsTrue source.tells → take (count_of got) buf ≡ slice_range source.bytes pos (pos + count_of got))
-    → (l : Look) × (Unread ≡ seen_by l) × SeesPiece pos asked place l source source' site site
+    → (l : Look) × (Unread ≡ seen_by l) × SeesPiece pos asked place l (across source source' site site)
 sees_unread pos place asked buf got source source' site long less read right =
     let r : Reading = reading pos asked buf got in
     let part : is_whole r ≡ false = part_read pos asked buf got long less in (
@@ -140,7 +141,7 @@ pub sees_read : (pos place asked n : ℕ) (buf image : List ℕ) (got : Got) (sa
     → (IsTrue source.tells → take (count_of got) buf ≡ slice_range source.bytes pos (pos + count_of got))
     → (IsTrue site.tells → site'.calls ≡ site.calls ++ Done (image_read place asked (Some n)) ∷ [])
     → site'.faults ≡ site.faults → (IsTrue site.tells → IsImageRead (image_in site) place image n)
-    → (l : Look) × (seen ≡ seen_by l) × SeesPiece pos asked place l source source' site site'
+    → (l : Look) × (seen ≡ seen_by l) × SeesPiece pos asked place l (across source source' site site')
 sees_read pos place asked n buf image got same seen source source' site site' long wide all few is are read right made
     kept told =
     let r : Reading = reading pos asked buf got in

@@ -1,11 +1,11 @@
 //! The comparison: all pieces, in order.
-ghost use Rattle.std.specs.Prelude.{◌≡◌, ◌+◌, ◌-◌, ◌<◌, ◌≤◌, ◌^◌, ℕ, true, length, OnOk, IfErr};
+ghost use Rattle.std.specs.Prelude.{◌≡◌, ◌-◌, ◌<◌, ℕ, true, length, IfOk, OnOk, IfErr, vec_len};
 ghost use Rattle.faulty_source.specs.SourceChanges.{Stays as SourceStays};
 ghost use Rattle.crash_site.specs.SiteChanges.{Stays as SiteStays};
 ghost use Rattle.rescue_domain.specs.Domain.{IsIn};
 ghost use Rattle.rescue_domain.specs.Parts.{covers};
-ghost use Rattle.rescue_domain.specs.Places.{AreAllPlaced, place_from};
-ghost use Rattle.rescue_verify.specs.Comparing.{Compares, LossesRise, TakesPiece, place_in, plan_by};
+ghost use Rattle.rescue_verify.specs.Across.{across};
+ghost use Rattle.rescue_verify.specs.Comparing.{AreAsLong, CanTake, Compares, HaveRoom, IsSound, IsTallyUpTo, LossesRise, TakesPiece, plan_by};
 ghost use Rattle.rescue_verify.specs.Looking.{HaltsLooking};
 
 use crate::halt::Halt;
@@ -16,39 +16,47 @@ use block_list::status::Status;
 use block_list::tiles::Tiles;
 use crash_site::site::Site;
 use faulty_source::source::Source;
-use std::alloc::Global;
+use std::alloc::{AllocError, Global};
+
+/// Room for the bytes of a piece: those that the input gives, and those that are there in the image.
+#[derive(Drop)]
+struct Buffers {
+    given: Vec<u8>,
+    there: Vec<u8>,
+}
+
+impl Buffers {
+    /// Room for pieces of up to `size` bytes.
+    fn new(alloc: Global, size: usize) -> Result<Buffers, AllocError>
+        ensures given { IfOk result (λ b. vec_len b.given ≡ size) }
+        ensures there { IfOk result (λ b. vec_len b.there ≡ size) }
+    {
+        let given = vec![in alloc; 0; size]?;
+        let there = vec![in alloc; 0; size]?;
+        Ok(Buffers { given, there })
+    }
+}
 
 /// Looks at a piece, marks it in the map where it differs, and counts it. Room for the mark is asked for first, so that
 /// no read is lost for want of it. The input is told how far reads go on from there.
 fn compare_piece<S: Source, D: Site, T: Tiles>(
-    comparison: Comparison<'_>,
     piece: Piece,
     tally: &mut Tally,
     tiles: &mut T,
-    given: &mut [u8],
-    there: &mut [u8],
+    buffers: &mut Buffers,
     source: &mut S,
     site: &mut D,
 ) -> Result<(), Halt>
-    requires some { piece.from < piece.to }
-    requires within { piece.to ≤ length (T.statuses tiles.old) }
-    requires short { piece.to < 2 ^ 63 }
-    requires fits { piece.to ≤ piece.from + length given.old }
-    requires same { length there.old ≡ length given.old }
-    requires past { comparison.from ≤ piece.from }
-    requires placed { place_from comparison.from comparison.to piece.from + (piece.to - piece.from) < 2 ^ 63 }
-    requires counts { tally.old.compared + tally.old.unread ≤ piece.from }
-    requires part { tally.old.differing ≤ tally.old.compared }
+    requires piece { CanTake piece (T.statuses tiles.old) }
+    requires tally { IsTallyUpTo piece.from tally.old }
+    requires room { HaveRoom (piece.to - piece.from) buffers.old }
     requires input { (S.state source.old).is_open ≡ true }
     requires image { (D.state site.old).is_open ≡ true }
-    ensures takes { OnOk result (TakesPiece (plan_by comparison.entry) piece.from piece.to tally.old tally.new
-        (T.statuses tiles.old) (T.statuses tiles.new) (S.state source.old) (S.state source.new) (D.state site.old)
-        (D.state site.new)) }
-    ensures halts { IfErr result (λ halt. HaltsLooking halt piece.from (piece.to - piece.from)
-        (place_in (plan_by comparison.entry) piece.from) (S.state source.old) (S.state source.new) (D.state site.old)
-        (D.state site.new)) }
-    ensures given { length given.new ≡ length given.old }
-    ensures there { length there.new ≡ length there.old }
+    ensures takes { OnOk result (TakesPiece piece tally.old tally.new (T.statuses tiles.old) (T.statuses tiles.new)
+        (across (S.state source.old) (S.state source.new) (D.state site.old) (D.state site.new))) }
+    ensures halts { IfErr result (λ halt. HaltsLooking halt piece.from (piece.to - piece.from) piece.place
+        (across (S.state source.old) (S.state source.new) (D.state site.old) (D.state site.new))) }
+    ensures room { AreAsLong buffers.old buffers.new }
     ensures source { SourceStays (S.state source.old) (S.state source.new) }
     ensures site { SiteStays (D.state site.old) (D.state site.new) }
 {
@@ -56,11 +64,8 @@ fn compare_piece<S: Source, D: Site, T: Tiles>(
         return Err(Halt::NoMemory);
     }
     let size = piece.to - piece.from;
-    let place = comparison.place_of(piece.from);
-    let given = &mut given[..size as usize];
-    let there = &mut there[..size as usize];
     source.expect(piece.from, piece.run_end);
-    match look(piece.from, place, given, there, source, site) {
+    match look(piece, &mut buffers.given, &mut buffers.there, source, site) {
         Ok(LookResult::Unread) => tally.unread += size,
         Ok(LookResult::Same) => tally.compared += size,
         Ok(LookResult::Different) => {
@@ -82,25 +87,17 @@ pub fn compare<S: Source, D: Site, T: Tiles>(
     source: &mut S,
     site: &mut D,
 ) -> Result<Tally, Halt>
-    requires sector { 0 < comparison.sector }
-    requires small { comparison.sector ≤ 1048576 }
+    requires sound { IsSound (plan_by comparison) }
     requires within { (x : ℕ) → IsIn (covers comparison.compared.now) x → x < length (T.statuses tiles.old) }
-    requires short { (x : ℕ) → IsIn (covers comparison.compared.now) x → x + 1 < 2 ^ 63 }
-    requires past { (x : ℕ) → IsIn (covers comparison.compared.now) x → comparison.from ≤ x }
-    requires placed { AreAllPlaced (covers comparison.compared.now) comparison.from comparison.to }
     requires input { (S.state source.old).is_open ≡ true }
     requires image { (D.state site.old).is_open ≡ true }
     ensures compares { Compares (plan_by comparison.entry) (T.statuses tiles.old) (T.statuses tiles.new) result
-        (S.state source.old) (S.state source.new) (D.state site.old) (D.state site.new) }
+        (across (S.state source.old) (S.state source.new) (D.state site.old) (D.state site.new)) }
     ensures counts { LossesRise result (S.state source.old) (S.state source.new) (D.state site.old) (D.state site.new) }
     ensures source { SourceStays (S.state source.old) (S.state source.new) }
     ensures site { SiteStays (D.state site.old) (D.state site.new) }
 {
-    let size = comparison.sector as usize;
-    let Ok(mut given) = vec![in alloc; 0; size] else {
-        return Err(Halt::NoMemory);
-    };
-    let Ok(mut there) = vec![in alloc; 0; size] else {
+    let Ok(mut buffers) = Buffers::new(alloc, comparison.sector as usize) else {
         return Err(Halt::NoMemory);
     };
     let mut tally = Tally {
@@ -110,9 +107,7 @@ pub fn compare<S: Source, D: Site, T: Tiles>(
     };
     let mut from = 0;
     'pieces: while let Some(piece) = comparison.next_piece(from) {
-        compare_piece(
-            comparison, piece, &mut tally, tiles, &mut given, &mut there, source, site,
-        )?;
+        compare_piece(piece, &mut tally, tiles, &mut buffers, source, site)?;
         from = piece.to;
     }
     Ok(tally)

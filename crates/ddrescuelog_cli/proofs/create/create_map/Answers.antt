@@ -12,7 +12,7 @@ returns-in-Err-clause-work g c = λ line is.
 
 pub returns-in-Ok-make_map-clause-work : goal.returns-in-Ok-make_map-clause-work
 returns-in-Ok-make_map-clause-work g c = λ line is.
-    created (told_by c.args.command.now) line c.args.heading.now c.in-Ok.names c.args.listed c.args.rest
+    created (told_by c.args.command.now) line c.args.heading.now c.in-Ok.names c.args.marks.listed c.args.marks.rest
     c.in-Ok-look.domain_map c.in-Ok-make_map.map _ _ _ _ _ _ c.requires.mode
     (is_alone _ _ _ c.requires.limits c.requires.mode) c.in-Ok.ensures
     c.in-Ok-look.ensures.site.keeps.tells is c.in-Ok-look.ensures.looks c.in-Ok-make_map.ensures.makes
@@ -24,6 +24,6 @@ returns-in-Ok-make_map-clause-feed g c =
 
 pub returns-clause-work : goal.returns-clause-work
 returns-clause-work g c = λ line is.
-    created_refused (told_by c.args.command.now) line c.args.listed c.args.rest c.in-Ok-look.domain_map
+    created_refused (told_by c.args.command.now) line c.args.marks.listed c.args.marks.rest c.in-Ok-look.domain_map
     c.in-Err-make_map.refusal _ _ _ _ c.requires.mode (is_alone _ _ _ c.requires.limits c.requires.mode)
     c.in-Ok-look.ensures.looks c.in-Err-make_map.ensures.makes

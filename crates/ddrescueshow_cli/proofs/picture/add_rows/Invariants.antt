@@ -7,7 +7,8 @@ use Rattle.ddrescueshow_cli.proofs.picture.add_rows.Given as goal
 abbrev pub invariant-loop-row : goal.invariant-loop-row
 invariant-loop-row g l = record {
   text : l.text.items ≡ l.initial.text.items
-      ++ flat_map (row_text l.form l.frame (covers l.domain) (g.T.Tiles.statuses l.tiles)) (range_with_len 0 l.row);
+      ++ flat_map (row_text l.form l.subject.frame (covers l.subject.domain.now) (g.T.Tiles.statuses l.subject.tiles.now))
+      (range_with_len 0 l.row);
   within : l.row ≤ l.rows;
 }
 

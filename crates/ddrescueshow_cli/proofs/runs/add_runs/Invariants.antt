@@ -8,11 +8,11 @@ use Rattle.ddrescueshow_cli.proofs.RunLemmas.{Comes}
 use Rattle.ddrescueshow_cli.proofs.runs.add_runs.Given as goal
 
 abbrev pub invariant-loop-done : goal.invariant-loop-done
-invariant-loop-done g l = let statuses = g.T.Tiles.statuses l.tiles in
+invariant-loop-done g l = let statuses = g.T.Tiles.statuses l.subject.tiles.now in
     record {
-      comes : Comes (run_text l.form) (mark l.frame (covers l.domain) statuses) l.text.items
+      comes : Comes (run_text l.form) (mark l.subject.frame (covers l.subject.domain.now) statuses) l.text.items
           (l.initial.text.items ++ flat_map (run_text l.form)
-          (runs_of (marks_from l.frame (covers l.domain) statuses l.first l.count)))
+          (runs_of (marks_from l.subject.frame (covers l.subject.domain.now) statuses l.first l.count)))
           l.run (l.first + l.done) (l.count - l.done);
       place : l.run.from + l.run.count ≡ l.done;
       within : l.done ≤ l.count;

@@ -13,22 +13,21 @@ pub returns-in_default-clause-stops : goal.returns-in_default-clause-stops
 returns-in_default-clause-stops g c =
     Starved (near_by c.args.options.now c.args.end _ c.output_from-to.ensures (c.if-not-places_fit.ensures.fit refl)) refl refl refl
 
+pub compare-requires-clause-sound : goal.compare-requires-clause-sound
+compare-requires-clause-sound g c =
+    let o = c.args.options.now in
+    let statuses = c.args.loaded.now.tiles.statuses in
+    record {
+      sector = c.requires.limits.sector;
+      small = c.requires.limits.sector_max;
+      short = is_short o c.args.end statuses _ c.in-Ok.ensures c.requires.end;
+      past = is_past o c.args.end statuses _ c.in-Ok.ensures;
+      placed = are_placed o c.args.end statuses _ c.in-Ok.ensures _ (c.if-not-places_fit.ensures.fit refl);
+    }
+
 pub compare-requires-clause-within : goal.compare-requires-clause-within
 compare-requires-clause-within g c =
     is_within c.args.options.now c.args.end c.args.loaded.now.tiles.statuses _ c.in-Ok.ensures c.requires.long
-
-pub compare-requires-clause-short : goal.compare-requires-clause-short
-compare-requires-clause-short g c =
-    is_short c.args.options.now c.args.end c.args.loaded.now.tiles.statuses _ c.in-Ok.ensures c.requires.end
-
-pub compare-requires-clause-past : goal.compare-requires-clause-past
-compare-requires-clause-past g c =
-    is_past c.args.options.now c.args.end c.args.loaded.now.tiles.statuses _ c.in-Ok.ensures
-
-pub compare-requires-clause-placed : goal.compare-requires-clause-placed
-compare-requires-clause-placed g c =
-    are_placed c.args.options.now c.args.end c.args.loaded.now.tiles.statuses _ c.in-Ok.ensures _
-    (c.if-not-places_fit.ensures.fit refl)
 
 pub returns-then-not-places_fit-clause-source : goal.returns-then-not-places_fit-clause-source
 returns-then-not-places_fit-clause-source g c = stays_self _

@@ -1,7 +1,7 @@
-use Rattle.std.proofs.Common.{◌≡◌, ◌+◌, ◌-◌, ◌≤◌, length}
+use Rattle.std.proofs.Common.{◌≡◌, ◌-◌, length, vec_len}
 use Rattle.faulty_source.specs.SourceChanges.{Stays as SourceStays}
 use Rattle.crash_site.specs.SiteChanges.{Stays as SiteStays}
-use Rattle.rescue_verify.specs.Comparing.{plan_by}
+use Rattle.rescue_verify.specs.Comparing.{IsTallyUpTo, plan_by}
 use Rattle.rescue_verify.proofs.CompareLemmas.{UpTo}
 use Rattle.rescue_verify.proofs.compare.compare.Given as goal
 
@@ -14,10 +14,9 @@ invariant-pieces g l = record {
   faults : (g.D.Site.state l.site).faults ≡ (g.D.Site.state l.initial.site).faults;
   site : SiteStays (g.D.Site.state l.initial.site) (g.D.Site.state l.site);
   long : length (g.T.Tiles.statuses l.tiles) ≡ length (g.T.Tiles.statuses l.initial.tiles);
-  given : length l.given.items ≡ l.size;
-  there : length l.there.items ≡ l.size;
-  counts : l.tally.compared + l.tally.unread ≤ l.from;
-  part : l.tally.differing ≤ l.tally.compared;
+  given : vec_len l.buffers.given ≡ l.comparison.sector;
+  there : vec_len l.buffers.there ≡ l.comparison.sector;
+  counted : IsTallyUpTo l.from l.tally;
 }
 
 abbrev pub decreases-pieces : goal.decreases-pieces
