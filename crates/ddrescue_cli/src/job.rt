@@ -16,15 +16,9 @@ use task_files::ending::{Ended, Ending};
 #[derive(Drop)]
 pub(crate) enum Job<'a> {
     /// The work on files that have different names.
-    Files {
-        plan: CheckedCommand<'a>,
-        aim: Aim,
-    },
+    Files { plan: CheckedCommand<'a>, aim: Aim },
     /// The rescue of a sample of this size in KiB, without a message if that is asked for.
-    Sample {
-        kib: u64,
-        quiet: bool,
-    },
+    Sample { kib: u64, quiet: bool },
 }
 
 /// The work on the files of a command. Two files of one name are refused.

@@ -55,11 +55,7 @@ pub fn read_named<D: Site>(
 }
 
 /// The positions that options and maps ask for.
-pub fn domain_of(
-    alloc: Global,
-    options: &Options,
-    loaded: &LoadedFiles,
-) -> Result<Domain, NoMemory>
+pub fn domain_of(alloc: Global, options: &Options, loaded: &LoadedFiles) -> Result<Domain, NoMemory>
     requires end { loaded.now.end < 2 ^ 63 }
     ensures { (test : Option Tiled) → IfOk result (λ d. (x : ℕ) → covers d x ≡ domain_asked options.now loaded.now.end
         (maps_read options.now loaded.now.domain_map test loaded.now.map) x) }
