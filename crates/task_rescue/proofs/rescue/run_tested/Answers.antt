@@ -13,8 +13,8 @@ use Rattle.task_rescue.proofs.rescue.run_tested.Goals as goal
 pub returns-in-None-clause-ran : goal.returns-in-None-clause-ran
 returns-in-None-clause-ran g c = rw c.in-None.is (c.run.ensures.ran None)
 
-pub returns-in-Some-clause-ran : goal.returns-in-Some-clause-ran
-returns-in-Some-clause-ran g c =
+pub returns-clause-ran : goal.returns-clause-ran
+returns-clause-ran g c =
     let state = g.S.Source.state in
     let new = c.run-in-Some.new in
     let loaded = c.args.files.loaded in
@@ -32,8 +32,8 @@ returns-in-Some-clause-ran g c =
     (ran_below _ _ _ _ _ _ _ c.new-tested.ensures.state c.run-in-Some.ensures.source.keeps s _ _ _ _ _ _ _ _ _ _ _
     (c.run-in-Some.ensures.ran (Some c.in-Some.tiles))))
 
-pub returns-in-Some-clause-cause : goal.returns-in-Some-clause-cause
-returns-in-Some-clause-cause g c =
+pub returns-clause-cause : goal.returns-clause-cause
+returns-clause-cause g c =
     let state = g.S.Source.state in
     let new = c.run-in-Some.new in
     subst
@@ -44,8 +44,8 @@ returns-in-Some-clause-cause g c =
     (causes_below _ _ _ _ _ _ _ c.new-tested.ensures.state c.run-in-Some.ensures.source.keeps _ _ _
     c.run-in-Some.ensures.cause)
 
-pub returns-in-Some-clause-source : goal.returns-in-Some-clause-source
-returns-in-Some-clause-source g c =
+pub returns-clause-source : goal.returns-clause-source
+returns-clause-source g c =
     let state = g.S.Source.state in
     subst
     (λ (s : g.row.S.Denot). SourceStays (state c.args.source.now) (state s))
