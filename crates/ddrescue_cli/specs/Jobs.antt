@@ -1,5 +1,5 @@
 -- What is to be done for the words of a call, and how a call ends for which nothing is.
-use Rattle.std.specs.Prelude.{◌≡◌, ℕ, Bool, false, not, List, None}
+use Rattle.std.specs.Prelude.{◌≡◌, ℕ, false, not, List, None}
 use Rattle.option_words.specs.Words.{command_line}
 use Rattle.rescue_rules.specs.Snapshots.{heading_at}
 use Rattle.ddrescue_words.specs.Command.{Sample as SampleTask}
