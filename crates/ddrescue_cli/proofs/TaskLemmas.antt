@@ -17,6 +17,8 @@ use Rattle.ddrescue_words.specs.Command.{Command, Task, Rescue, Fill, Generate, 
 use Rattle.ddrescue_words.specs.Asking.{AreInLimits, AskSample, IsAsked, IsInLimits, IsTask, is_quiet, told_by}
 use Rattle.ddrescue_cli.specs.declared.aim.Aim.{Aim}
 use Rattle.ddrescue_cli.specs.declared.aim.Aim.TheVariants.{Rescue as ToRescue, Fill as ToFill, Generate as ToGenerate}
+use Rattle.ddrescue_cli.specs.declared.job.Job.{Job}
+use Rattle.ddrescue_cli.specs.declared.job.Job.TheVariants.{Files, Sample as SampleJob}
 use Rattle.task_files.specs.declared.checked.CheckedCommand.{CheckedCommand}
 use Rattle.program_promise.specs.Kinds.{Kind, Failed}
 use Rattle.program_promise.specs.Rows.{usage_kind}
@@ -31,6 +33,7 @@ use Rattle.task_files.specs.Asked.{names_by}
 use Rattle.task_files.specs.Answers.{Causes, drafting_left, failure_after, files_of_task, row_of}
 use Rattle.task_files.specs.Steps.{IsPlanned}
 use Rattle.ddrescue_cli.specs.Aims.{IsNamedFor, task_for, WorkedFor}
+use Rattle.ddrescue_cli.specs.Jobs.{IsJobFor, IsPlanFor}
 use Rattle.ddrescue_cli.specs.ToldParts.{across}
 use Rattle.ddrescue_cli.specs.Words.{same_of}
 use Rattle.ddrescue_cli.specs.Ddrescue.{TaskSaid, rescue_program}
@@ -74,35 +77,43 @@ named_for ToGenerate c h = h.named
 
 -- ---- what it needs before it opens a file
 
--- a plan that was made for a command, whose files have different names
-pub record IsMadeFor (plan : CheckedCommand) (c : Command) (line : List ℕ) : Type 0 where
-  pub command : told_by plan.command ≡ c
-  pub names : plan.names ≡ names_by c
-  pub heading : plan.heading ≡ heading_at line 0 0
-  pub different : first_same c.infile c.outfile (names_by c) ≡ None
-
-pub line_made : (plan : CheckedCommand) (c : Command) (line : List ℕ) → IsMadeFor plan c line → plan.heading.line ≡ line
-line_made plan c line h = ap (λ (x : HeadingLines). x.line) h.heading
-
-pub planned_for : (aim : Aim) (plan : CheckedCommand) (c : Command) (line : List ℕ) → IsMadeFor plan c line
-    → IsInLimits (task_for aim c) → IsPlanned plan
-planned_for aim plan c line h limits =
-    let same : c ≡ told_by plan.command = sym h.command in
-    let names : plan.names ≡ names_by (told_by plan.command) = h.names ∙ ap names_by same in
-    let different : first_same (told_by plan.command).infile (told_by plan.command).outfile (names_by (told_by plan.command)) ≡ None =
-    subst (λ (x : Command). first_same x.infile x.outfile (names_by x) ≡ None) same h.different in
+-- a plan that was made for a command that the words ask for
+pub plan_made : (words : List (List ℕ)) (aim : Aim) (plan : CheckedCommand) (c : Command) → IsAsked words (task_for aim c)
+    → told_by plan.command ≡ c → plan.names ≡ names_by c → plan.heading ≡ heading_at (command_line program_name words) 0 0
+    → first_same c.infile c.outfile (names_by c) ≡ None → plan.heard ≡ not c.options.quiet → IsPlanFor words aim plan
+plan_made words aim plan c asked is names heading different heard =
+    let same : c ≡ told_by plan.command = sym is in
     record {
-      names = names;
-      apart = subst (λ (n : Option MapNames). AreNamedApart (told_by plan.command).outfile n) (sym names)
-          (apart_of (told_by plan.command).infile (told_by plan.command).outfile (names_by (told_by plan.command)) different);
-      different = different;
-      heading = subst (λ (x : HeadingLines). x ≡ heading_at x.line 0 0) (sym h.heading) refl;
-      limits = subst (λ (x : Command). AreInLimits x.options) same (limits_for aim c limits);
+      asked = subst (λ (x : Command). IsAsked words (task_for aim x)) same asked;
+      different = subst (λ (x : Command). first_same x.infile x.outfile (names_by x) ≡ None) same different;
+      names = names ∙ ap names_by same;
+      heading = heading;
+      heard = heard ∙ ap (λ (x : Command). not x.options.quiet) same;
     }
 
-pub named_by_plan : (aim : Aim) (plan : CheckedCommand) (c : Command) (line : List ℕ) → IsMadeFor plan c line
-    → IsInLimits (task_for aim c) → IsNamedFor aim (told_by plan.command)
-named_by_plan aim plan c line h limits = subst (IsNamedFor aim) (sym h.command) (named_for aim c limits)
+pub files_job : (words : List (List ℕ)) (job : Job) (plan : CheckedCommand) (aim : Aim) → job ≡ Files plan aim
+    → IsJobFor words job → IsPlanFor words aim plan
+files_job words job plan aim is for_words = subst (IsJobFor words) is for_words
+
+pub sample_job : (words : List (List ℕ)) (job : Job) (kib : ℕ) (quiet : Bool) → job ≡ SampleJob kib quiet
+    → IsJobFor words job → IsAsked words (Sample kib quiet)
+sample_job words job kib quiet is for_words = subst (IsJobFor words) is for_words
+
+pub planned_for : (words : List (List ℕ)) (aim : Aim) (plan : CheckedCommand) → IsPlanFor words aim plan → IsPlanned plan
+planned_for words aim plan h =
+    let c : Command = told_by plan.command in
+    record {
+      names = h.names;
+      apart = subst (λ (n : Option MapNames). AreNamedApart c.outfile n) (sym h.names)
+          (apart_of c.infile c.outfile (names_by c) h.different);
+      different = h.different;
+      heading = subst (λ (x : HeadingLines). x ≡ heading_at x.line 0 0) (sym h.heading) refl;
+      limits = limits_for aim c h.asked.limits;
+    }
+
+pub named_by_plan : (words : List (List ℕ)) (aim : Aim) (plan : CheckedCommand) → IsPlanFor words aim plan
+    → IsNamedFor aim (told_by plan.command)
+named_by_plan words aim plan h = named_for aim (told_by plan.command) h.asked.limits
 
 -- ---- what is done and said
 
@@ -171,14 +182,14 @@ said_for words ToGenerate c e heard old new a different w fed l =
     (generate_done c (command_line program_name words) e old new different (not c.options.quiet) heard a.limits w) l)
     w.says
 
--- by what was done by a plan that was made for it
-pub plan_does : (words : List (List ℕ)) (aim : Aim) (plan : CheckedCommand) (c : Command) (e : Ending) (heard : Bool)
-    (old new : WorldState) → IsAsked words (task_for aim c) → IsMadeFor plan c (command_line program_name words)
-    → WorkedFor aim (told_by plan.command) plan.heading.line (not c.options.quiet) heard e (across old new)
+-- by what was done by a plan that is for them
+pub plan_does : (words : List (List ℕ)) (aim : Aim) (plan : CheckedCommand) (e : Ending) (heard : Bool)
+    (old new : WorldState) → IsPlanFor words aim plan
+    → WorkedFor aim (told_by plan.command) plan.heading.line plan.heard heard e (across old new)
     → new.feed_ ≡ old.feed_ → Leaves e old new → TaskSaid words e heard old new
-plan_does words aim plan c e heard old new a h w fed l =
-    said_for words aim c e heard old new a h.different
-    (subst (λ (x : Command). WorkedFor aim x (command_line program_name words) (not c.options.quiet) heard e
-    (across old new)) h.command
-    (subst (λ (x : List ℕ). WorkedFor aim (told_by plan.command) x (not c.options.quiet) heard e (across old new))
-    (line_made plan c (command_line program_name words) h) w)) fed l
+plan_does words aim plan e heard old new h w fed l =
+    let c : Command = told_by plan.command in
+    let line : plan.heading.line ≡ command_line program_name words = ap (λ (x : HeadingLines). x.line) h.heading in
+    said_for words aim c e heard old new h.asked h.different
+    (subst (λ (x : Bool). WorkedFor aim c (command_line program_name words) x heard e (across old new)) h.heard
+    (subst (λ (x : List ℕ). WorkedFor aim c x plan.heard heard e (across old new)) line w)) fed l

@@ -1,5 +1,5 @@
 //! What a rescue needs before it opens a file.
-ghost use Rattle.std.specs.Prelude.{◌≡◌, ◌⊎◌, None, IfOk, IfErr, OnOk, option_map};
+ghost use Rattle.std.specs.Prelude.{◌≡◌, ◌⊎◌, not, None, IfOk, IfErr, OnOk, option_map};
 ghost use Rattle.rescue_rules.specs.Snapshots.{heading_at};
 ghost use Rattle.save_resume.specs.MapNames.{names_of};
 ghost use Rattle.ddrescue_words.specs.Asking.{told_by};
@@ -66,6 +66,10 @@ pub struct CheckedCommand<'a> {
     /// The names of the mapfile and its draft, if there is one.
     pub names: Option<Names>,
     pub heading: Heading,
+    /// Whether anything is to be said.
+    pub heard: bool,
+    /// What all further memory is taken from.
+    pub alloc: Global,
 }
 
 /// Refuses two files of one name, and takes the memory that the saves want for names and heading.
@@ -77,6 +81,7 @@ pub fn check_command<'a>(
     ensures command { IfOk result (λ p. told_by p.command ≡ told_by command.entry) }
     ensures names { IfOk result (λ p. p.names ≡ names_by (told_by command.entry)) }
     ensures heading { IfOk result (λ p. p.heading ≡ heading_at (command_line program_name words.now) 0 0) }
+    ensures heard { IfOk result (λ p. p.heard ≡ not (told_by command.entry).options.quiet) }
     ensures different { OnOk result (first_same (told_by command.entry).infile (told_by command.entry).outfile
         (names_by (told_by command.entry)) ≡ None) }
     ensures refused { IfErr result (λ e. NamesRefused (told_by command.entry) e ⊎ (e ≡ OutOfMemory)) }
@@ -94,5 +99,7 @@ pub fn check_command<'a>(
         command,
         names,
         heading,
+        heard: !command.options.quiet,
+        alloc,
     })
 }

@@ -31,6 +31,17 @@ pub struct LoadedMap {
     pub listed_end: u64,
 }
 
+/// What a run goes on from: what was loaded of its files.
+#[derive(Drop)]
+pub struct LoadedFiles {
+    /// The map whose finished positions are asked for and no others, if it is named.
+    pub domain_map: Option<PlainTiles>,
+    /// The map that the mapfile stands for.
+    pub map: LoadedMap,
+    /// Where the input ends, or, in fill mode, where the map ends: only positions below it are asked for.
+    pub end: u64,
+}
+
 /// Adds non-tried positions up to an end, if the map ends earlier.
 fn extend(tiles: &mut PlainTiles, end: u64) -> Result<(), NoMemory>
     requires { end < 2 ^ 63 }

@@ -8,7 +8,7 @@ ghost use Rattle.save_resume.specs.Named.{map_mode};
 ghost use Rattle.task_files.specs.Steps.{refusal_of, ReadsMap, MapCause, maps_read};
 
 use crate::ending::{Ending, Which};
-use crate::load::LoadedMap;
+use crate::load::LoadedFiles;
 use block_list::plain_tiles::PlainTiles;
 use block_list::tiles::NoMemory;
 use crash_site::site::{Site, SiteCall};
@@ -54,22 +54,17 @@ pub fn read_named<D: Site>(
     }
 }
 
-/// The positions that options and maps ask for of an input of this length.
-pub fn domain_of(
-    alloc: Global,
-    options: &Options,
-    domain_map: &Option<PlainTiles>,
-    start: &LoadedMap,
-    end: u64,
-) -> Result<Domain, NoMemory>
-    requires end { end < 2 ^ 63 }
-    ensures { (test : Option Tiled) → IfOk result (λ d. (x : ℕ) → covers d x
-        ≡ domain_asked options.now end (maps_read options.now domain_map.now test start.now) x) }
+/// The positions that options and maps ask for.
+pub fn domain_of(alloc: Global, options: &Options, loaded: &LoadedFiles) -> Result<Domain, NoMemory>
+    requires end { loaded.now.end < 2 ^ 63 }
+    ensures { (test : Option Tiled) → IfOk result (λ d. (x : ℕ) → covers d x ≡ domain_asked options.now loaded.now.end
+        (maps_read options.now loaded.now.domain_map test loaded.now.map) x) }
 {
     let from = options.input_position;
-    let mut domain = Domain::within(alloc, from, options.size, end, domain_map.as_ref())?;
+    let domain_map = loaded.domain_map.as_ref();
+    let mut domain = Domain::within(alloc, from, options.size, loaded.end, domain_map)?;
     if options.complete_only {
-        domain.keep_listed(start.first, start.listed_end);
+        domain.keep_listed(loaded.map.first, loaded.map.listed_end);
     }
     Ok(domain)
 }

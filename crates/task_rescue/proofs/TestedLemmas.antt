@@ -13,10 +13,8 @@ use Rattle.rescue_console.specs.ConsoleState.{ConsoleState}
 use Rattle.rescue_domain.specs.Testing.{seen, state_seen, GainsSeen}
 use Rattle.rescue_domain.proofs.TestingLemmas.{said_below}
 use Rattle.rescue_rules.specs.Setting.{Setting}
-use Rattle.rescue_rules.specs.declared.stop.Stop.TheVariants.{Site}
 use Rattle.copy_passes.proofs.TurnLemmas.{between}
 use Rattle.task_files.specs.declared.ending.Ending.{Ending}
-use Rattle.task_files.specs.declared.ending.Ending.TheVariants.{MapRefused, SiteFault}
 use Rattle.task_files.specs.Answers.{Causes}
 use Rattle.task_files.specs.Outside.{HasGainedReads}
 use Rattle.task_files.specs.Steps.{DidRun}

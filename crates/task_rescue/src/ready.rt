@@ -10,7 +10,6 @@ ghost use Rattle.task_files.specs.Asked.{Maps, ArePlacedBy};
 ghost use Rattle.task_files.specs.Steps.{maps_read, SuitsInput};
 ghost use Rattle.task_rescue.specs.Running.{IsReady, IsRunOver, MayBegin};
 
-use block_list::plain_tiles::PlainTiles;
 use block_list::tiles::NoMemory;
 use ddrescue_words::command::Command;
 use mapfile_text::heading::Heading;
@@ -20,7 +19,7 @@ use rescue_core::prepare::prepare;
 use rescue_domain::domain::Domain;
 use save_resume::names::Names;
 use std::alloc::Global;
-use task_files::load::{LoadedMap, RunMap};
+use task_files::load::{LoadedFiles, LoadedMap, RunMap};
 use task_files::maps::domain_of;
 use task_files::settings::{make_opening, settings_for};
 
@@ -53,24 +52,23 @@ pub struct RunMemory {
 pub fn make_ready(
     alloc: Global,
     command: Command<'_>,
-    domain_map: &Option<PlainTiles>,
-    start: LoadedMap,
-    end: u64,
+    loaded: LoadedFiles,
 ) -> Result<RunMemory, NoMemory>
     requires limits { AreInLimits (told_by command).options }
-    requires end { end < 2 ^ 63 }
-    requires fits { SuitsInput end start.tiles.statuses start.state }
-    ensures ready { (test : Option Tiled) → IfOk result (λ ready. IsReady (told_by command.entry) end
-        (maps_read (told_by command.entry).options domain_map.now test start) start.tiles.statuses start.state ready) }
+    requires end { loaded.end < 2 ^ 63 }
+    requires fits { SuitsInput loaded.end loaded.map.tiles.statuses loaded.map.state }
+    ensures ready { (test : Option Tiled) → IfOk result (λ ready. IsReady (told_by command.entry) loaded.end
+        (maps_read (told_by command.entry).options loaded.domain_map test loaded.map) loaded.map.tiles.statuses
+        loaded.map.state ready) }
     ensures begins { IfOk result (λ ready. MayBegin (told_by command.entry).options ready) }
 {
     let options = command.options;
-    let domain = domain_of(alloc, &options, domain_map, &start, end)?;
+    let domain = domain_of(alloc, &options, &loaded)?;
     let LoadedMap {
         mut tiles,
         state,
         ..
-    } = start;
+    } = loaded.map;
     prepare(&mut tiles, &domain, options.try_again, options.retrim)?;
     let opening = make_opening(alloc, command, &domain)?;
     let Ok(buf) = vec![in alloc; 0; options.cluster() as usize] else {

@@ -19,37 +19,46 @@ use option_words::fault::UsageFault;
 use rescue_console::clock::Clock;
 use rescue_console::console::Console;
 use rescue_domain::test_source::TestSource;
-use std::alloc::Global;
 use task_files::checked::CheckedCommand;
 use task_files::ending::{Ended, Ending, Which, answer};
-use task_files::load::{LoadedMap, load};
+use task_files::load::{LoadedFiles, load};
 use task_files::maps::read_named;
 use task_files::open::open_output;
 use task_files::opening::say_line;
 use task_files::places::places_fit;
 
+/// The maps that options name, as far as they name some.
+#[derive(Drop)]
+struct NamedMaps {
+    domain_map: Option<PlainTiles>,
+    test_map: Option<PlainTiles>,
+}
+
+/// What a rescue goes on from: what was loaded of its files, and the test map, if one is named.
+#[derive(Drop)]
+struct TestedFiles {
+    loaded: LoadedFiles,
+    test_map: Option<PlainTiles>,
+}
+
 /// Runs the rescue over the map that it goes on with. All memory is taken before the clock is read; the first line is
 /// put after that.
 fn run<S: Source, D: Site, K: Clock, C: Console>(
-    alloc: Global,
     plan: CheckedCommand<'_>,
-    domain_map: &Option<PlainTiles>,
+    loaded: LoadedFiles,
     source: &mut S,
     site: &mut D,
     clock: &mut K,
     console: &mut C,
-    start: LoadedMap,
-    end: u64,
-    heard: bool,
 ) -> Ended
     requires ready { AreReady (S.state source.old) (D.state site.old) }
     requires planned { IsPlanned plan }
-    requires placed { ArePlacedBy (told_by plan.command).options end }
-    requires end { end < 2 ^ 63 }
-    requires fits { SuitsInput end start.tiles.statuses start.state }
-    ensures ran { (test : Option Tiled) → DidRun (setting_of (told_by plan.entry.command) plan.entry.heading.line end
-        (maps_read (told_by plan.entry.command).options domain_map.now test start)) None start.tiles.statuses
-        start.state heard result.heard result.ending (record {
+    requires placed { ArePlacedBy (told_by plan.command).options loaded.end }
+    requires end { loaded.end < 2 ^ 63 }
+    requires fits { SuitsInput loaded.end loaded.map.tiles.statuses loaded.map.state }
+    ensures ran { (test : Option Tiled) → DidRun (setting_of (told_by plan.entry.command) plan.entry.heading.line
+        loaded.end (maps_read (told_by plan.entry.command).options loaded.domain_map test loaded.map)) None
+        loaded.map.tiles.statuses loaded.map.state plan.entry.heard result.heard result.ending (record {
           source = S.state source.old;
           source' = S.state source.new;
           site = D.state site.old;
@@ -70,8 +79,10 @@ fn run<S: Source, D: Site, K: Clock, C: Console>(
         command,
         names,
         heading,
+        heard,
+        alloc,
     } = plan;
-    let Ok(ready) = make_ready(alloc, command, domain_map, start, end) else {
+    let Ok(ready) = make_ready(alloc, command, loaded) else {
         let ending = Ending::NoMemory;
         return Ended { ending, heard };
     };
@@ -87,26 +98,22 @@ fn run<S: Source, D: Site, K: Clock, C: Console>(
 
 /// Runs it in test mode if there is a test map: then the input gives what is finished in that map alone.
 fn run_tested<S: Source, D: Site, K: Clock, C: Console>(
-    alloc: Global,
     plan: CheckedCommand<'_>,
-    domain_map: &Option<PlainTiles>,
-    test_map: &Option<PlainTiles>,
+    files: TestedFiles,
     source: &mut S,
     site: &mut D,
     clock: &mut K,
     console: &mut C,
-    start: LoadedMap,
-    end: u64,
-    heard: bool,
 ) -> Ended
     requires ready { AreReady (S.state source.old) (D.state site.old) }
     requires planned { IsPlanned plan }
-    requires placed { ArePlacedBy (told_by plan.command).options end }
-    requires end { end < 2 ^ 63 }
-    requires fits { SuitsInput end start.tiles.statuses start.state }
-    ensures ran { DidRun (setting_of (told_by plan.entry.command) plan.entry.heading.line end
-        (maps_read (told_by plan.entry.command).options domain_map.now test_map.now start)) (statuses_in test_map.now)
-        start.tiles.statuses start.state heard result.heard result.ending (record {
+    requires placed { ArePlacedBy (told_by plan.command).options files.loaded.end }
+    requires end { files.loaded.end < 2 ^ 63 }
+    requires fits { SuitsInput files.loaded.end files.loaded.map.tiles.statuses files.loaded.map.state }
+    ensures ran { DidRun (setting_of (told_by plan.entry.command) plan.entry.heading.line files.loaded.end
+        (maps_read (told_by plan.entry.command).options files.loaded.domain_map files.test_map files.loaded.map))
+        (statuses_in files.test_map) files.loaded.map.tiles.statuses files.loaded.map.state plan.entry.heard
+        result.heard result.ending (record {
           source = S.state source.old;
           source' = S.state source.new;
           site = D.state site.old;
@@ -123,44 +130,29 @@ fn run_tested<S: Source, D: Site, K: Clock, C: Console>(
     ensures site { SiteKeeps (D.state site.old) (D.state site.new) }
     ensures clock { ClockKeeps (K.state clock.old) (K.state clock.new) }
 {
-    match test_map {
-        None => run(
-            alloc, plan, domain_map, source, site, clock, console, start, end, heard,
-        ),
+    let TestedFiles { loaded, test_map } = files;
+    match &test_map {
+        None => run(plan, loaded, source, site, clock, console),
         Some(tiles) => {
             let mut tested = TestSource::new(source, tiles);
-            run(
-                alloc,
-                plan,
-                domain_map,
-                &mut tested,
-                site,
-                clock,
-                console,
-                start,
-                end,
-                heard,
-            )
+            run(plan, loaded, &mut tested, site, clock, console)
         }
     }
 }
 
 /// Opens the files, loads the mapfile if there is one, and runs the rescue.
 fn open_and_run<S: Source, D: Site, K: Clock, C: Console>(
-    alloc: Global,
     plan: CheckedCommand<'_>,
-    domain_map: &Option<PlainTiles>,
-    test_map: &Option<PlainTiles>,
+    maps: NamedMaps,
     source: &mut S,
     site: &mut D,
     clock: &mut K,
     console: &mut C,
-    heard: bool,
 ) -> Result<Ended, Ending>
     requires no_draft { (D.state site.old).is_drafting ≡ false }
     requires planned { IsPlanned plan }
-    ensures opened { DidAfterMaps (told_by plan.entry.command) plan.entry.heading.line (statuses_in domain_map.now)
-        (statuses_in test_map.now) heard (heard_after heard result) (ending_of result) (record {
+    ensures opened { DidAfterMaps (told_by plan.entry.command) plan.entry.heading.line (statuses_in maps.domain_map)
+        (statuses_in maps.test_map) plan.entry.heard (heard_after plan.entry.heard result) (ending_of result) (record {
           source = S.state source.old;
           source' = S.state source.new;
           site = D.state site.old;
@@ -182,29 +174,35 @@ fn open_and_run<S: Source, D: Site, K: Clock, C: Console>(
         return Err(Ending::SourceFault);
     };
     open_output(site, command.outfile, true, command.options.forced)?;
-    let start = load(alloc, site, &plan.names, end)?;
+    let map = load(plan.alloc, site, &plan.names, end)?;
     if !places_fit(&command.options, end) {
         return Err(Ending::Usage(UsageFault::PlaceTooLarge));
     }
-    Ok(run_tested(
-        alloc, plan, domain_map, test_map, source, site, clock, console, start, end, heard,
-    ))
+    let NamedMaps {
+        domain_map,
+        test_map,
+    } = maps;
+    let loaded = LoadedFiles {
+        domain_map,
+        map,
+        end,
+    };
+    let files = TestedFiles { loaded, test_map };
+    Ok(run_tested(plan, files, source, site, clock, console))
 }
 
 /// Reads the maps that options name, opens the files, loads the mapfile if there is one, and runs the rescue.
 pub fn rescue<S: Source, D: Site, K: Clock, C: Console>(
-    alloc: Global,
     plan: CheckedCommand<'_>,
     source: &mut S,
     site: &mut D,
     clock: &mut K,
     console: &mut C,
-    heard: bool,
 ) -> Result<Ended, Ending>
     requires no_draft { (D.state site.old).is_drafting ≡ false }
     requires planned { IsPlanned plan }
-    ensures worked { Worked (told_by plan.entry.command) plan.entry.heading.line heard (heard_after heard result)
-        (ending_of result) (record {
+    ensures worked { Worked (told_by plan.entry.command) plan.entry.heading.line plan.entry.heard
+        (heard_after plan.entry.heard result) (ending_of result) (record {
           source = S.state source.old;
           source' = S.state source.new;
           site = D.state site.old;
@@ -221,24 +219,19 @@ pub fn rescue<S: Source, D: Site, K: Clock, C: Console>(
     ensures site { SiteKeeps (D.state site.old) (D.state site.new) }
     ensures clock { ClockKeeps (K.state clock.old) (K.state clock.new) }
 {
-    let loose = plan.command.options.loose;
+    let command = plan.command;
+    let loose = command.options.loose;
     let domain_map = read_named(
-        alloc,
+        plan.alloc,
         site,
         Which::DomainMap,
-        plan.command.domain_map,
+        command.domain_map,
         loose,
     )?;
-    let test_map = read_named(alloc, site, Which::TestMap, plan.command.test_map, loose)?;
-    open_and_run(
-        alloc,
-        plan,
-        &domain_map,
-        &test_map,
-        source,
-        site,
-        clock,
-        console,
-        heard,
-    )
+    let test_map = read_named(plan.alloc, site, Which::TestMap, command.test_map, loose)?;
+    let maps = NamedMaps {
+        domain_map,
+        test_map,
+    };
+    open_and_run(plan, maps, source, site, clock, console)
 }

@@ -27,7 +27,7 @@ use rescue_sample::source::SampleSource;
 use std::alloc::Global;
 use task_files::checked::make_names;
 use task_files::ending::{Ended, Ending};
-use task_files::load::{RunMap, start_fresh};
+use task_files::load::{LoadedFiles, RunMap, start_fresh};
 use task_files::opening::say_line;
 use task_rescue::ready::{begin, make_ready};
 use task_rescue::run::run_phases;
@@ -102,10 +102,15 @@ fn count_sample<S: Source, K: Clock>(
     let Ok(_kind) = site.image_open(command.outfile, true) else {
         return Err(NoMemory);
     };
-    let Ok(start) = start_fresh(alloc, end) else {
+    let Ok(map) = start_fresh(alloc, end) else {
         return Err(NoMemory);
     };
-    let ready = make_ready(alloc, command, &None, start, end)?;
+    let loaded = LoadedFiles {
+        domain_map: None,
+        map,
+        end,
+    };
+    let ready = make_ready(alloc, command, loaded)?;
     let moment = clock.now_ms();
     let rescue = begin(ready, command, names, heading, moment, false);
     count_run(rescue, source, &mut site, clock, &mut console)

@@ -15,7 +15,6 @@ ghost use Rattle.task_sweeps.specs.SweepSteps.{DidSweep, SweepCause, WorkedFill}
 
 use crate::pattern::read_pattern;
 use crate::sweep::{make_job, make_sweep};
-use block_list::plain_tiles::PlainTiles;
 use block_list::tiles::Tiles;
 use block_list::types::TypeSet;
 use crash_site::site::Site;
@@ -24,43 +23,47 @@ use fill_generate::fill::run_fill;
 use option_words::fault::UsageFault;
 use rescue_console::clock::Clock;
 use rescue_console::console::Console;
-use std::alloc::Global;
 use task_files::checked::CheckedCommand;
 use task_files::ending::{Ended, Ending, Which, answer};
-use task_files::load::{LoadedMap, load};
+use task_files::load::{LoadedFiles, load};
 use task_files::maps::read_named;
 use task_files::open::open_output;
 use task_files::opening::say_line;
 use task_files::places::places_fit;
 
+/// What is written, and where.
+#[derive(Clone, Copy)]
+struct Filling<'a> {
+    /// Positions of these statuses are written.
+    types: TypeSet,
+    /// A cluster of the pattern.
+    buffer: &'a [u8],
+}
+
 /// Fills over the map that the mapfile stands for. All memory is taken before the clock is read; the first line is put
 /// after that.
 fn run<D: Site, K: Clock, C: Console>(
-    alloc: Global,
     plan: CheckedCommand<'_>,
-    types: TypeSet,
-    buffer: &[u8],
-    domain_map: &Option<PlainTiles>,
+    filling: Filling<'_>,
+    loaded: LoadedFiles,
     site: &mut D,
     clock: &mut K,
     console: &mut C,
-    start: LoadedMap,
-    top: u64,
-    heard: bool,
 ) -> Ended
     requires image { (D.state site.old).is_open ≡ true }
     requires no_draft { (D.state site.old).is_drafting ≡ false }
     requires planned { IsPlanned plan }
     requires named { is_some (told_by plan.command).mapfile ≡ true }
-    requires room { length buffer.now ≡ cluster_of (told_by plan.command).options }
-    requires placed { ArePlacedBy (told_by plan.command).options top }
-    requires fits { SuitsInput 0 start.tiles.statuses start.state }
-    requires top { top ≡ length start.tiles.statuses }
+    requires room { length filling.buffer.now ≡ cluster_of (told_by plan.command).options }
+    requires placed { ArePlacedBy (told_by plan.command).options loaded.end }
+    requires fits { SuitsInput 0 loaded.map.tiles.statuses loaded.map.state }
+    requires top { loaded.end ≡ length loaded.map.tiles.statuses }
     ensures ran { (test : Option Tiled) →
         let c = told_by plan.entry.command in
-        let s = fill_setting c plan.entry.heading.line top (maps_read c.options domain_map.now test start) in
-        DidSweep s (filler s types buffer.now) start.tiles.statuses start.state heard result.heard result.ending
-        (record {
+        let maps = maps_read c.options loaded.domain_map test loaded.map in
+        let s = fill_setting c plan.entry.heading.line loaded.end maps in
+        DidSweep s (filler s filling.entry.types filling.entry.buffer.now) loaded.map.tiles.statuses loaded.map.state
+        plan.entry.heard result.heard result.ending (record {
           site = D.state site.old;
           site' = D.state site.new;
           clock = K.state clock.old;
@@ -77,16 +80,18 @@ fn run<D: Site, K: Clock, C: Console>(
         command,
         names,
         heading,
+        heard,
+        alloc,
     } = plan;
     let Some(names) = names else { unreachable!() };
-    let Ok(ready) = make_sweep(alloc, command, domain_map, start, top) else {
+    let Ok(ready) = make_sweep(alloc, command, loaded) else {
         let ending = Ending::NoMemory;
         return Ended { ending, heard };
     };
     let moment = clock.now_ms();
     let heard = say_line(console, &ready.opening, heard);
     let job = make_job(ready, command, names, heading, moment, heard);
-    let closed = run_fill(job, types, buffer, site, clock, console);
+    let closed = run_fill(job, filling.types, filling.buffer, site, clock, console);
     Ended {
         ending: answer(closed.end),
         heard: closed.heard,
@@ -95,20 +100,18 @@ fn run<D: Site, K: Clock, C: Console>(
 
 /// Reads the map that an option names and the pattern, opens the outfile, loads the mapfile, and fills.
 pub fn fill<S: Source, D: Site, K: Clock, C: Console>(
-    alloc: Global,
     plan: CheckedCommand<'_>,
     types: TypeSet,
     source: &mut S,
     site: &mut D,
     clock: &mut K,
     console: &mut C,
-    heard: bool,
 ) -> Result<Ended, Ending>
     requires no_draft { (D.state site.old).is_drafting ≡ false }
     requires planned { IsPlanned plan }
     requires named { is_some (told_by plan.command).mapfile ≡ true }
-    ensures worked { WorkedFill types (told_by plan.entry.command) plan.entry.heading.line heard
-        (heard_after heard result) (ending_of result) (record {
+    ensures worked { WorkedFill types (told_by plan.entry.command) plan.entry.heading.line plan.entry.heard
+        (heard_after plan.entry.heard result) (ending_of result) (record {
           source = S.state source.old;
           source' = S.state source.new;
           site = D.state site.old;
@@ -127,28 +130,31 @@ pub fn fill<S: Source, D: Site, K: Clock, C: Console>(
 {
     let command = plan.command;
     let loose = command.options.loose;
-    let domain_map = read_named(alloc, site, Which::DomainMap, command.domain_map, loose)?;
+    let domain_map = read_named(
+        plan.alloc,
+        site,
+        Which::DomainMap,
+        command.domain_map,
+        loose,
+    )?;
     let Ok(end) = source.open_input(command.infile) else {
         return Err(Ending::SourceFault);
     };
-    let buffer = read_pattern(alloc, source, end, command.options.cluster())?;
+    let buffer = read_pattern(plan.alloc, source, end, command.options.cluster())?;
     open_output(site, command.outfile, true, command.options.forced)?;
-    let start = load(alloc, site, &plan.names, 0)?;
-    let top = start.tiles.end();
+    let map = load(plan.alloc, site, &plan.names, 0)?;
+    let top = map.tiles.end();
     if !places_fit(&command.options, top) {
         return Err(Ending::Usage(UsageFault::PlaceTooLarge));
     }
-    Ok(run(
-        alloc,
-        plan,
+    let filling = Filling {
         types,
-        &buffer,
-        &domain_map,
-        site,
-        clock,
-        console,
-        start,
-        top,
-        heard,
-    ))
+        buffer: &buffer,
+    };
+    let loaded = LoadedFiles {
+        domain_map,
+        map,
+        end: top,
+    };
+    Ok(run(plan, filling, loaded, site, clock, console))
 }

@@ -11,17 +11,15 @@ ghost use Rattle.task_files.specs.Steps.{ending_of, heard_after, maps_read, Suit
 ghost use Rattle.task_sweeps.specs.SweepSteps.{DidGenerate, SweepCause, WorkedGenerate};
 
 use crate::sweep::{make_job, make_sweep};
-use block_list::plain_tiles::PlainTiles;
 use crash_site::site::Site;
 use faulty_source::source::Source;
 use fill_generate::generate::run_generate;
 use option_words::fault::UsageFault;
 use rescue_console::clock::Clock;
 use rescue_console::console::Console;
-use std::alloc::Global;
 use task_files::checked::CheckedCommand;
 use task_files::ending::{Ended, Ending, Which, answer};
-use task_files::load::{LoadedMap, load};
+use task_files::load::{LoadedFiles, load};
 use task_files::maps::read_named;
 use task_files::open::open_output;
 use task_files::opening::say_line;
@@ -30,27 +28,24 @@ use task_files::places::places_fit;
 /// Looks up in the outfile what the map that the mapfile stands for calls non-tried. All memory but that for marks is
 /// taken before the clock is read; the first line is put after that.
 fn run<D: Site, K: Clock, C: Console>(
-    alloc: Global,
     plan: CheckedCommand<'_>,
-    domain_map: &Option<PlainTiles>,
+    loaded: LoadedFiles,
     site: &mut D,
     clock: &mut K,
     console: &mut C,
-    start: LoadedMap,
-    end: u64,
-    heard: bool,
 ) -> Ended
     requires image { (D.state site.old).is_open ≡ true }
     requires no_draft { (D.state site.old).is_drafting ≡ false }
     requires planned { IsPlanned plan }
     requires named { is_some (told_by plan.command).mapfile ≡ true }
-    requires placed { ArePlacedBy (told_by plan.command).options end }
-    requires end { end < 2 ^ 63 }
-    requires fits { SuitsInput end start.tiles.statuses start.state }
+    requires placed { ArePlacedBy (told_by plan.command).options loaded.end }
+    requires end { loaded.end < 2 ^ 63 }
+    requires fits { SuitsInput loaded.end loaded.map.tiles.statuses loaded.map.state }
     ensures ran { (test : Option Tiled) →
         let c = told_by plan.entry.command in
-        let s = setting_of c plan.entry.heading.line end (maps_read c.options domain_map.now test start) in
-        DidGenerate s start.tiles.statuses start.state heard result.heard result.ending (record {
+        let maps = maps_read c.options loaded.domain_map test loaded.map in
+        let s = setting_of c plan.entry.heading.line loaded.end maps in
+        DidGenerate s loaded.map.tiles.statuses loaded.map.state plan.entry.heard result.heard result.ending (record {
           site = D.state site.old;
           site' = D.state site.new;
           clock = K.state clock.old;
@@ -67,9 +62,11 @@ fn run<D: Site, K: Clock, C: Console>(
         command,
         names,
         heading,
+        heard,
+        alloc,
     } = plan;
     let Some(names) = names else { unreachable!() };
-    let Ok(ready) = make_sweep(alloc, command, domain_map, start, end) else {
+    let Ok(ready) = make_sweep(alloc, command, loaded) else {
         let ending = Ending::NoMemory;
         return Ended { ending, heard };
     };
@@ -90,19 +87,17 @@ fn run<D: Site, K: Clock, C: Console>(
 /// Reads the map that an option names, opens the infile for its length and the outfile, which has to be there, loads
 /// the mapfile, and looks up what the outfile holds.
 pub fn generate<S: Source, D: Site, K: Clock, C: Console>(
-    alloc: Global,
     plan: CheckedCommand<'_>,
     source: &mut S,
     site: &mut D,
     clock: &mut K,
     console: &mut C,
-    heard: bool,
 ) -> Result<Ended, Ending>
     requires no_draft { (D.state site.old).is_drafting ≡ false }
     requires planned { IsPlanned plan }
     requires named { is_some (told_by plan.command).mapfile ≡ true }
-    ensures worked { WorkedGenerate (told_by plan.entry.command) plan.entry.heading.line heard
-        (heard_after heard result) (ending_of result) (record {
+    ensures worked { WorkedGenerate (told_by plan.entry.command) plan.entry.heading.line plan.entry.heard
+        (heard_after plan.entry.heard result) (ending_of result) (record {
           source = S.state source.old;
           source' = S.state source.new;
           site = D.state site.old;
@@ -121,24 +116,25 @@ pub fn generate<S: Source, D: Site, K: Clock, C: Console>(
 {
     let command = plan.command;
     let loose = command.options.loose;
-    let domain_map = read_named(alloc, site, Which::DomainMap, command.domain_map, loose)?;
+    let domain_map = read_named(
+        plan.alloc,
+        site,
+        Which::DomainMap,
+        command.domain_map,
+        loose,
+    )?;
     let Ok(end) = source.open_input(command.infile) else {
         return Err(Ending::SourceFault);
     };
     open_output(site, command.outfile, false, command.options.forced)?;
-    let start = load(alloc, site, &plan.names, end)?;
+    let map = load(plan.alloc, site, &plan.names, end)?;
     if !places_fit(&command.options, end) {
         return Err(Ending::Usage(UsageFault::PlaceTooLarge));
     }
-    Ok(run(
-        alloc,
-        plan,
-        &domain_map,
-        site,
-        clock,
-        console,
-        start,
+    let loaded = LoadedFiles {
+        domain_map,
+        map,
         end,
-        heard,
-    ))
+    };
+    Ok(run(plan, loaded, site, clock, console))
 }

@@ -8,7 +8,6 @@ ghost use Rattle.task_files.specs.Asked.{Maps, ArePlacedBy};
 ghost use Rattle.task_files.specs.Steps.{maps_read};
 ghost use Rattle.task_sweeps.specs.SweepSteps.{IsJobOver, IsSweepReady};
 
-use block_list::plain_tiles::PlainTiles;
 use block_list::tiles::NoMemory;
 use ddrescue_words::command::Command;
 use fill_generate::job::Job;
@@ -17,7 +16,7 @@ use mapfile_text::state::MapState;
 use rescue_domain::domain::Domain;
 use save_resume::names::Names;
 use std::alloc::Global;
-use task_files::load::{LoadedMap, RunMap};
+use task_files::load::{LoadedFiles, LoadedMap, RunMap};
 use task_files::maps::domain_of;
 use task_files::settings::{make_opening, settings_for};
 
@@ -33,24 +32,22 @@ pub struct SweepReady {
     pub opening: Option<Vec<u8>>,
 }
 
-/// Takes the memory that a sweep wants over the map that its mapfile stands for. Only positions below a limit are asked
-/// for.
+/// Takes the memory that a sweep wants over the map that its mapfile stands for.
 pub fn make_sweep(
     alloc: Global,
     command: Command<'_>,
-    domain_map: &Option<PlainTiles>,
-    start: LoadedMap,
-    limit: u64,
+    loaded: LoadedFiles,
 ) -> Result<SweepReady, NoMemory>
     requires limits { AreInLimits (told_by command).options }
-    requires short { limit < 2 ^ 63 }
-    requires within { limit ≤ length start.tiles.statuses }
-    ensures { (test : Option Tiled) → IfOk result (λ ready. IsSweepReady (told_by command.entry) limit
-        (maps_read (told_by command.entry).options domain_map.now test start) start.tiles.statuses start.state ready) }
+    requires short { loaded.end < 2 ^ 63 }
+    requires within { loaded.end ≤ length loaded.map.tiles.statuses }
+    ensures { (test : Option Tiled) → IfOk result (λ ready. IsSweepReady (told_by command.entry) loaded.end
+        (maps_read (told_by command.entry).options loaded.domain_map test loaded.map) loaded.map.tiles.statuses
+        loaded.map.state ready) }
 {
-    let domain = domain_of(alloc, &command.options, domain_map, &start, limit)?;
+    let domain = domain_of(alloc, &command.options, &loaded)?;
     let opening = make_opening(alloc, command, &domain)?;
-    let LoadedMap { tiles, state, .. } = start;
+    let LoadedMap { tiles, state, .. } = loaded.map;
     Ok(SweepReady {
         domain,
         tiles,

@@ -1,19 +1,44 @@
-use Rattle.std.proofs.Common.{subst}
-use Rattle.option_values.specs.declared.command_error.CommandError.{CommandError}
-use Rattle.option_values.specs.declared.command_error.CommandError.TheVariants.{Usage}
-use Rattle.ddrescue_words.specs.Asking.{IsErrorOf}
-use Rattle.ddrescue_cli.proofs.MadeLemmas.{starved_said, refused_said}
+use Rattle.ddrescue_words.specs.Asking.{told_by}
+use Rattle.task_files.proofs.ApartLemmas.{named_apart}
+use Rattle.ddrescue_cli.proofs.MadeLemmas.{sample_said}
+use Rattle.ddrescue_cli.proofs.TaskLemmas.{files_for, files_job, sample_job, planned_for, named_by_plan, never_sampled}
 use Rattle.ddrescue_cli.proofs.rescue.work.Goals as goal
 
-pub returns-in-Err-NoMemory-clause-said : goal.returns-in-Err-NoMemory-clause-said
-returns-in-Err-NoMemory-clause-said g c = starved_said c.args.words.now _ c.requires
+pub work_on-requires-clause-planned : goal.work_on-requires-clause-planned
+work_on-requires-clause-planned g c =
+    planned_for _ _ _ (files_job c.args.words.now _ _ _ c.in-Ok-Files.field-0-is c.in-Ok-Files.ensures.job)
 
-pub returns-in-Err-Usage-clause-said : goal.returns-in-Err-Usage-clause-said
-returns-in-Err-Usage-clause-said g c =
-    let refusal : IsErrorOf c.args.words.now (Usage c.in-Err-Usage.fault c.in-Err-Usage.quiet) =
-    subst (λ (e : CommandError). IsErrorOf c.args.words.now e) c.in-Err-Usage.field-0-is c.in-Err-Usage.ensures.refused in
-    rw (c.in-Err-Usage.fault-is, c.in-Err-Usage.quiet-is)
-    (refused_said c.args.words.now c.in-Err-Usage.fault c.in-Err-Usage.quiet _ c.requires refusal)
+pub work_on-requires-clause-named : goal.work_on-requires-clause-named
+work_on-requires-clause-named g c =
+    named_by_plan _ _ _ (files_job c.args.words.now _ _ _ c.in-Ok-Files.field-0-is c.in-Ok-Files.ensures.job)
 
-pub returns-in-Ok-clause-untouched : goal.returns-in-Ok-clause-untouched
-returns-in-Ok-clause-untouched g c = λ fault refused. absurd (c.in-Ok.ensures.asked.only.accepted fault refused)
+pub returns-in-Ok-Files-clause-said : goal.returns-in-Ok-Files-clause-said
+returns-in-Ok-Files-clause-said g c =
+    c.work_on.ensures c.args.words.now (files_job c.args.words.now _ _ _ c.in-Ok-Files.field-0-is c.in-Ok-Files.ensures.job)
+
+pub returns-in-Ok-Files-clause-untouched : goal.returns-in-Ok-Files-clause-untouched
+returns-in-Ok-Files-clause-untouched g c = λ fault refused.
+    absurd ((files_job c.args.words.now _ _ _ c.in-Ok-Files.field-0-is c.in-Ok-Files.ensures.job).asked.only.accepted fault refused)
+
+pub returns-in-Ok-Files-clause-unopened : goal.returns-in-Ok-Files-clause-unopened
+returns-in-Ok-Files-clause-unopened g c = λ first second twice.
+    let is = files_job c.args.words.now _ _ _ c.in-Ok-Files.field-0-is c.in-Ok-Files.ensures.job in
+    absurd (named_apart c.args.words.now _ (told_by c.in-Ok-Files.plan.command) is.asked
+    (files_for c.in-Ok-Files.aim (told_by c.in-Ok-Files.plan.command)) is.different first second twice)
+
+pub returns-in-Ok-Files-clause-apart : goal.returns-in-Ok-Files-clause-apart
+returns-in-Ok-Files-clause-apart g c = λ kib quiet asks.
+    let is = files_job c.args.words.now _ _ _ c.in-Ok-Files.field-0-is c.in-Ok-Files.ensures.job in
+    absurd (never_sampled _ c.in-Ok-Files.aim (told_by c.in-Ok-Files.plan.command) is.asked kib quiet asks)
+
+pub returns-in-Ok-Sample-clause-said : goal.returns-in-Ok-Sample-clause-said
+returns-in-Ok-Sample-clause-said g c =
+    sample_said c.args.words.now c.in-Ok-Sample.kib c.in-Ok-Sample.quiet _ _ _ _
+    (sample_job c.args.words.now _ _ _ c.in-Ok-Sample.field-0-is c.in-Ok-Sample.ensures.job) c.tell_sample.ensures c.requires
+
+pub returns-in-Ok-Sample-clause-untouched : goal.returns-in-Ok-Sample-clause-untouched
+returns-in-Ok-Sample-clause-untouched g c = λ fault refused.
+    absurd ((sample_job c.args.words.now _ _ _ c.in-Ok-Sample.field-0-is c.in-Ok-Sample.ensures.job).only.accepted fault refused)
+
+pub returns-in-Err-clause-said : goal.returns-in-Err-clause-said
+returns-in-Err-clause-said g c = c.in-Err.ensures.refused _ c.requires

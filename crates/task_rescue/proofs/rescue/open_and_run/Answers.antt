@@ -14,7 +14,7 @@ returns-in_default-clause-opened g c = input_fails _ _ _ _ _ _ _ _ _ _ c.open_in
 pub returns-in_err-open_output-clause-opened : goal.returns-in_err-open_output-clause-opened
 returns-in_err-open_output-clause-opened g c =
     let p = err_from_is_err_and c.from_residual.result c.from_residual.ensures.1 in
-    rw (p.1, p.2) (output_fails (told_by c.args.plan.command) _ _ _ c.args.heard c.in-Ok.end _ _ _ _ _ _ _ (record {
+    rw (p.1, p.2) (output_fails (told_by c.args.plan.command) _ _ _ c.args.plan.heard c.in-Ok.end _ _ _ _ _ _ _ (record {
       opened = (c.open_input.ensures.call.opens, c.in-Ok.ensures.call.named);
       same = c.open_input.ensures.call.journal;
       bytes = c.open_input.ensures.call.keeps.bytes;
@@ -23,10 +23,10 @@ returns-in_err-open_output-clause-opened g c =
       short = c.in-Ok.ensures.short;
     }) c.in_err-open_output.ensures.opens)
 
-pub returns-in_err-start-clause-opened : goal.returns-in_err-start-clause-opened
-returns-in_err-start-clause-opened g c =
-    let p = err_from_is_err_and c.from_residual-in_err-start.result c.from_residual-in_err-start.ensures.1 in
-    rw (p.1, p.2) (load_fails (told_by c.args.plan.command) _ _ _ c.args.heard c.args.plan.names c.in-Ok.end _ _ _
+pub returns-in_err-map-clause-opened : goal.returns-in_err-map-clause-opened
+returns-in_err-map-clause-opened g c =
+    let p = err_from_is_err_and c.from_residual-in_err-map.result c.from_residual-in_err-map.ensures.1 in
+    rw (p.1, p.2) (load_fails (told_by c.args.plan.command) _ _ _ c.args.plan.heard c.args.plan.names c.in-Ok.end _ _ _
     (g.D.Site.state c.args.site.now) (g.D.Site.state c.open_output.new.site) (g.D.Site.state c.load.new.site) _ _ (record {
       opened = (c.open_input.ensures.call.opens, c.in-Ok.ensures.call.named);
       same = c.open_input.ensures.call.journal;
@@ -39,7 +39,7 @@ returns-in_err-start-clause-opened g c =
       apart = c.requires.planned.apart;
       output = c.in_ok-open_output.ensures.opens;
       keeps = c.open_output.ensures.keeps;
-      loads = c.in_err-start.ensures.loaded;
+      loads = c.in_err-map.ensures.loaded;
     }))
 
 pub returns-in_err-open_output-clause-cause : goal.returns-in_err-open_output-clause-cause
@@ -50,23 +50,23 @@ returns-in_err-open_output-clause-cause g c =
     (g.D.Site.state c.open_output.new.site) c.in-Ok.ensures.call.kept c.open_input.ensures.call.losses refl
     (output_causes _ _ _ _ c.in_err-open_output.ensures.cause))
 
-pub returns-in_err-start-clause-cause : goal.returns-in_err-start-clause-cause
-returns-in_err-start-clause-cause g c =
-    let p = err_from_is_err_and c.from_residual-in_err-start.result c.from_residual-in_err-start.ensures.1 in
+pub returns-in_err-map-clause-cause : goal.returns-in_err-map-clause-cause
+returns-in_err-map-clause-cause g c =
+    let p = err_from_is_err_and c.from_residual-in_err-map.result c.from_residual-in_err-map.ensures.1 in
     rw (p.1, p.2) (causes_after _ (g.S.Source.state c.args.source.now) (g.S.Source.state c.open_input.new.self)
     (g.S.Source.state c.open_input.new.self) (g.D.Site.state c.args.site.now) (g.D.Site.state c.open_output.new.site)
     (g.D.Site.state c.load.new.site) c.in-Ok.ensures.call.kept c.open_input.ensures.call.losses
-    c.in_ok-open_output.ensures.kept (load_causes _ _ _ _ c.in_err-start.ensures.cause))
+    c.in_ok-open_output.ensures.kept (load_causes _ _ _ _ c.in_err-map.ensures.cause))
 
-pub returns-in_err-start-clause-draft : goal.returns-in_err-start-clause-draft
-returns-in_err-start-clause-draft g c =
-    let p = err_from_is_err_and c.from_residual-in_err-start.result c.from_residual-in_err-start.ensures.1 in
+pub returns-in_err-map-clause-draft : goal.returns-in_err-map-clause-draft
+returns-in_err-map-clause-draft g c =
+    let p = err_from_is_err_and c.from_residual-in_err-map.result c.from_residual-in_err-map.ensures.1 in
     rw (p.1, p.2) (c.load.ensures.site.draft ∙ c.open_output.ensures.draft ∙ c.requires.no_draft
-    ∙ sym (load_leaves _ _ _ c.in_err-start.ensures.cause))
+    ∙ sym (load_leaves _ _ _ c.in_err-map.ensures.cause))
 
 pub returns-then-not-places_fit-clause-opened : goal.returns-then-not-places_fit-clause-opened
 returns-then-not-places_fit-clause-opened g c =
-    place_fails (told_by c.args.plan.command) _ _ _ c.args.heard c.args.plan.names c.in-Ok.end c.in_ok-start.start _ _
+    place_fails (told_by c.args.plan.command) _ _ _ c.args.plan.heard c.args.plan.names c.in-Ok.end c.in_ok-map.map _ _
     (g.D.Site.state c.args.site.now) (g.D.Site.state c.open_output.new.site) (g.D.Site.state c.load.new.site) _ _ (record {
       opened = (c.open_input.ensures.call.opens, c.in-Ok.ensures.call.named);
       same = c.open_input.ensures.call.journal;
@@ -79,12 +79,12 @@ returns-then-not-places_fit-clause-opened g c =
       apart = c.requires.planned.apart;
       output = c.in_ok-open_output.ensures.opens;
       keeps = c.open_output.ensures.keeps;
-      loads = c.in_ok-start.ensures.loaded;
+      loads = c.in_ok-map.ensures.loaded;
     }) (c.if-not-places_fit.ensures.beyond refl)
 
 pub returns-clause-opened : goal.returns-clause-opened
 returns-clause-opened g c =
-    run_goes (told_by c.args.plan.command) _ _ _ c.args.heard _ c.args.plan.names c.in-Ok.end c.in_ok-start.start _ _
+    run_goes (told_by c.args.plan.command) _ _ _ c.args.plan.heard _ c.args.plan.names c.in-Ok.end c.in_ok-map.map _ _
     (g.S.Source.state c.open_input.new.self) _ (g.D.Site.state c.args.site.now) (g.D.Site.state c.open_output.new.site)
     (g.D.Site.state c.load.new.site) _ _ _ _ _ (record {
       opened = (c.open_input.ensures.call.opens, c.in-Ok.ensures.call.named);
@@ -98,7 +98,7 @@ returns-clause-opened g c =
       apart = c.requires.planned.apart;
       output = c.in_ok-open_output.ensures.opens;
       keeps = c.open_output.ensures.keeps;
-      loads = c.in_ok-start.ensures.loaded;
+      loads = c.in_ok-map.ensures.loaded;
     }) (c.load.ensures.site.keeps.tells ∙ c.open_output.ensures.keeps.tells) (c.if-not-places_fit.ensures.fit refl)
     c.run_tested.ensures.source c.run_tested.ensures.ran
 

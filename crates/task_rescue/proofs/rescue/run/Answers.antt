@@ -8,17 +8,22 @@ use Rattle.task_rescue.proofs.rescue.run.Goals as goal
 
 pub run_rescue-closed-requires-clause-copying : goal.run_rescue-closed-requires-clause-copying
 run_rescue-closed-requires-clause-copying g c =
-    (c.begin-rescue.ensures c.args.end (maps_read c.args.plan.command.options c.args.domain_map.now None c.args.start)
-    c.args.start.tiles.statuses c.args.start.state c.requires.placed c.requires.fits (c.in-Ok.ensures.ready None)).copying
+    let loaded = c.args.loaded in
+    let maps : Maps = maps_read c.args.plan.command.options loaded.domain_map None loaded.map in
+    (c.begin-rescue.ensures loaded.end maps loaded.map.tiles.statuses loaded.map.state c.requires.placed c.requires.fits
+    (c.in-Ok.ensures.ready None)).copying
 
 pub run_rescue-closed-requires-clause-places : goal.run_rescue-closed-requires-clause-places
 run_rescue-closed-requires-clause-places g c =
-    (c.begin-rescue.ensures c.args.end (maps_read c.args.plan.command.options c.args.domain_map.now None c.args.start)
-    c.args.start.tiles.statuses c.args.start.state c.requires.placed c.requires.fits (c.in-Ok.ensures.ready None)).places
+    let loaded = c.args.loaded in
+    let maps : Maps = maps_read c.args.plan.command.options loaded.domain_map None loaded.map in
+    (c.begin-rescue.ensures loaded.end maps loaded.map.tiles.statuses loaded.map.state c.requires.placed c.requires.fits
+    (c.in-Ok.ensures.ready None)).places
 
 pub returns-in_default-clause-ran : goal.returns-in_default-clause-ran
 returns-in_default-clause-ran g c = λ test.
-    ran_unbegun _ c.args.start.tiles.statuses c.args.start.state c.args.heard (g.S.Source.state c.args.source.now)
+    let loaded = c.args.loaded in
+    ran_unbegun _ loaded.map.tiles.statuses loaded.map.state c.args.plan.heard (g.S.Source.state c.args.source.now)
     (g.D.Site.state c.args.site.now) (g.K.Clock.state c.args.clock.now) (g.C.Console.state c.args.console.now)
 
 pub returns-in_default-clause-source : goal.returns-in_default-clause-source
@@ -26,9 +31,10 @@ returns-in_default-clause-source g c = stays_self _
 
 pub returns-clause-ran : goal.returns-clause-ran
 returns-clause-ran g c = λ test.
-    let maps : Maps = maps_read c.args.plan.command.options c.args.domain_map.now test c.args.start in
-    ran_by (told_by c.args.plan.command) c.args.plan.names c.args.plan.heading.line c.args.end maps
-    c.args.start.tiles.statuses c.args.start.state c.now_ms-moment.result c.args.heard c.say_line-heard.result
+    let loaded = c.args.loaded in
+    let maps : Maps = maps_read c.args.plan.command.options loaded.domain_map test loaded.map in
+    ran_by (told_by c.args.plan.command) c.args.plan.names c.args.plan.heading.line loaded.end maps
+    loaded.map.tiles.statuses loaded.map.state c.now_ms-moment.result c.args.plan.heard c.say_line-heard.result
     c.run_rescue-closed.result.heard c.in-Ok.ready c.begin-rescue.result c.run_rescue-closed.result.end c.answer.result
     (record {
       source = g.S.Source.state c.args.source.now;
@@ -42,7 +48,7 @@ returns-clause-ran g c = λ test.
     })
     (g.K.Clock.state c.args.clock.now) (g.C.Console.state c.args.console.now) c.requires.planned.names
     (c.in-Ok.ensures.ready test)
-    (c.begin-rescue.ensures c.args.end maps c.args.start.tiles.statuses c.args.start.state c.requires.placed c.requires.fits
+    (c.begin-rescue.ensures loaded.end maps loaded.map.tiles.statuses loaded.map.state c.requires.placed c.requires.fits
     (c.in-Ok.ensures.ready test))
     c.run_rescue-closed.ensures.went c.answer.ensures c.now_ms-moment.ensures.told (omega arith)
     c.say_line-heard.ensures

@@ -2,6 +2,7 @@ use Rattle.std.proofs.Common.{subst, rules, None, Some}
 use Rattle.faulty_source.specs.SourceChanges.{Stays as SourceStays}
 use Rattle.rescue_domain.proofs.TestingLemmas.{stays_below}
 use Rattle.ddrescue_words.specs.Asking.{told_by}
+use Rattle.rescue_rules.specs.Setting.{Setting}
 use Rattle.copy_passes.proofs.TurnLemmas.{between}
 use Rattle.task_files.specs.Asked.{setting_of}
 use Rattle.task_files.specs.Answers.{Causes}
@@ -12,29 +13,27 @@ use Rattle.task_rescue.proofs.rescue.run_tested.Goals as goal
 pub returns-in-None-clause-ran : goal.returns-in-None-clause-ran
 returns-in-None-clause-ran g c = rw c.in-None.is (c.run.ensures.ran None)
 
-pub returns-in-Some-clause-ran : goal.returns-in-Some-clause-ran
-returns-in-Some-clause-ran g c =
+pub returns-clause-ran : goal.returns-clause-ran
+returns-clause-ran g c =
     let state = g.S.Source.state in
     let new = c.run-in-Some.new in
+    let loaded = c.args.files.loaded in
+    let s : Setting = setting_of (told_by c.args.plan.command) c.args.plan.heading.line loaded.end
+    (maps_read c.args.plan.command.options loaded.domain_map (Some c.in-Some.tiles) loaded.map) in
     rw c.in-Some.is
     (subst
-    (λ (s : g.row.S.Denot). DidRun
-    (setting_of (told_by c.args.plan.command) c.args.plan.heading.line c.args.end
-    (maps_read c.args.plan.command.options c.args.domain_map.now (Some c.in-Some.tiles) c.args.start))
-    (Some c.in-Some.tiles.statuses) c.args.start.tiles.statuses c.args.start.state c.args.heard c.run-in-Some.result.heard
-    c.run-in-Some.result.ending
-    (between (state c.args.source.now) (state s) (g.D.Site.state c.args.site.now) (g.D.Site.state new.site)
+    (λ (x : g.row.S.Denot). DidRun s (Some c.in-Some.tiles.statuses) loaded.map.tiles.statuses loaded.map.state
+    c.args.plan.heard c.run-in-Some.result.heard c.run-in-Some.result.ending
+    (between (state c.args.source.now) (state x) (g.D.Site.state c.args.site.now) (g.D.Site.state new.site)
     (g.K.Clock.state c.args.clock.now) (g.K.Clock.state new.clock) (g.C.Console.state c.args.console.now)
     (g.C.Console.state new.console)))
     {x = new.source.inner.now}
     (search rules)
-    (ran_below _ _ _ _ _ _ _ c.new-tested.ensures.state c.run-in-Some.ensures.source.keeps
-    (setting_of (told_by c.args.plan.command) c.args.plan.heading.line c.args.end
-    (maps_read c.args.plan.command.options c.args.domain_map.now (Some c.in-Some.tiles) c.args.start))
-    _ _ _ _ _ _ _ _ _ _ _ (c.run-in-Some.ensures.ran (Some c.in-Some.tiles))))
+    (ran_below _ _ _ _ _ _ _ c.new-tested.ensures.state c.run-in-Some.ensures.source.keeps s _ _ _ _ _ _ _ _ _ _ _
+    (c.run-in-Some.ensures.ran (Some c.in-Some.tiles))))
 
-pub returns-in-Some-clause-cause : goal.returns-in-Some-clause-cause
-returns-in-Some-clause-cause g c =
+pub returns-clause-cause : goal.returns-clause-cause
+returns-clause-cause g c =
     let state = g.S.Source.state in
     let new = c.run-in-Some.new in
     subst
@@ -45,8 +44,8 @@ returns-in-Some-clause-cause g c =
     (causes_below _ _ _ _ _ _ _ c.new-tested.ensures.state c.run-in-Some.ensures.source.keeps _ _ _
     c.run-in-Some.ensures.cause)
 
-pub returns-in-Some-clause-source : goal.returns-in-Some-clause-source
-returns-in-Some-clause-source g c =
+pub returns-clause-source : goal.returns-clause-source
+returns-clause-source g c =
     let state = g.S.Source.state in
     subst
     (λ (s : g.row.S.Denot). SourceStays (state c.args.source.now) (state s))

@@ -8,28 +8,28 @@ use Rattle.task_sample.proofs.sample.count_sample.Goals as goal
 pub count_run-requires-clause-copying : goal.count_run-requires-clause-copying
 count_run-requires-clause-copying g c =
     (c.begin-rescue.ensures c.in-Ok.end
-    (maps_read (told_by c.sample_command-command.result).options None None c.in-Ok-start_fresh.start)
-    c.in-Ok-start_fresh.start.tiles.statuses c.in-Ok-start_fresh.start.state
+    (maps_read (told_by c.sample_command-command.result).options None None c.in-Ok-start_fresh.map)
+    c.in-Ok-start_fresh.map.tiles.statuses c.in-Ok-start_fresh.map.state
     (sample_placed (told_by c.sample_command-command.result) c.in-Ok.end c.in-Ok.ensures.short
     c.sample_command-command.ensures.told) c.in-Ok-start_fresh.ensures.fits (c.in_ok-ready.ensures.ready None)).copying
 
 pub count_run-requires-clause-places : goal.count_run-requires-clause-places
 count_run-requires-clause-places g c =
     (c.begin-rescue.ensures c.in-Ok.end
-    (maps_read (told_by c.sample_command-command.result).options None None c.in-Ok-start_fresh.start)
-    c.in-Ok-start_fresh.start.tiles.statuses c.in-Ok-start_fresh.start.state
+    (maps_read (told_by c.sample_command-command.result).options None None c.in-Ok-start_fresh.map)
+    c.in-Ok-start_fresh.map.tiles.statuses c.in-Ok-start_fresh.map.state
     (sample_placed (told_by c.sample_command-command.result) c.in-Ok.end c.in-Ok.ensures.short
     c.sample_command-command.ensures.told) c.in-Ok-start_fresh.ensures.fits (c.in_ok-ready.ensures.ready None)).places
 
 pub returns : goal.returns
 returns g c =
     sample_counted (told_by c.sample_command-command.result) c.in_ok-names.names c.in_ok-heading.heading.line c.in-Ok.end
-    c.in-Ok-start_fresh.start c.now_ms-moment.result _ c.begin-rescue.result c.count_run.result
+    c.in-Ok-start_fresh.map c.now_ms-moment.result _ c.begin-rescue.result c.count_run.result
     (g.S.Source.state c.args.source.now) _ _ (g.K.Clock.state c.args.clock.now) _ _ c.sample_command-command.ensures.told
     (c.in_ok-names.ensures ∙ names_alike _) (ap (λ (h : HeadingLines). h.line) c.in_ok-heading.ensures) c.in-Ok-start_fresh.ensures.fresh
     (c.begin-rescue.ensures c.in-Ok.end
-    (maps_read (told_by c.sample_command-command.result).options None None c.in-Ok-start_fresh.start)
-    c.in-Ok-start_fresh.start.tiles.statuses c.in-Ok-start_fresh.start.state
+    (maps_read (told_by c.sample_command-command.result).options None None c.in-Ok-start_fresh.map)
+    c.in-Ok-start_fresh.map.tiles.statuses c.in-Ok-start_fresh.map.state
     (sample_placed (told_by c.sample_command-command.result) c.in-Ok.end c.in-Ok.ensures.short
     c.sample_command-command.ensures.told) c.in-Ok-start_fresh.ensures.fits (c.in_ok-ready.ensures.ready None))
     (record {

@@ -13,7 +13,7 @@ use Rattle.task_sweeps.proofs.fill.fill.Goals as goal
 pub returns-in_err-domain_map-clause-worked : goal.returns-in_err-domain_map-clause-worked
 returns-in_err-domain_map-clause-worked g c =
     let p = err_from_is_err_and c.from_residual.result c.from_residual.ensures.1 in
-    rw (p.1, p.2) (fill_unread c.args.types (told_by c.args.plan.command) _ c.args.heard c.requires.planned.different _
+    rw (p.1, p.2) (fill_unread c.args.types (told_by c.args.plan.command) _ c.args.plan.heard c.requires.planned.different _
     (g.S.Source.state c.args.source.now) (g.D.Site.state c.args.site.now) (g.D.Site.state c.read_named.new.site)
     (g.K.Clock.state c.args.clock.now)
     (g.C.Console.state c.args.console.now) c.in_err-domain_map.ensures.told)
@@ -35,7 +35,7 @@ returns-in_err-domain_map-clause-source g c = keeps_self _
 
 pub returns-in_default-clause-worked : goal.returns-in_default-clause-worked
 returns-in_default-clause-worked g c =
-    fill_unopened c.args.types (told_by c.args.plan.command) _ c.args.heard c.requires.planned.different
+    fill_unopened c.args.types (told_by c.args.plan.command) _ c.args.plan.heard c.requires.planned.different
     c.in_ok-domain_map.domain_map (g.S.Source.state c.args.source.now) (g.D.Site.state c.args.site.now)
     (g.D.Site.state c.read_named.new.site) c.in_ok-domain_map.ensures.told c.in_ok-domain_map.ensures.site
     (g.S.Source.state c.open_input.new.self) (g.K.Clock.state c.args.clock.now)
@@ -45,7 +45,7 @@ returns-in_default-clause-worked g c =
 pub returns-in_err-buffer-clause-worked : goal.returns-in_err-buffer-clause-worked
 returns-in_err-buffer-clause-worked g c =
     let p = err_from_is_err_and c.from_residual-in_err-buffer.result c.from_residual-in_err-buffer.ensures.1 in
-    rw (p.1, p.2) (fill_unpatterned c.args.types (told_by c.args.plan.command) _ c.args.heard c.requires.planned.different
+    rw (p.1, p.2) (fill_unpatterned c.args.types (told_by c.args.plan.command) _ c.args.plan.heard c.requires.planned.different
     c.in_ok-domain_map.domain_map (g.S.Source.state c.args.source.now) (g.D.Site.state c.args.site.now)
     (g.D.Site.state c.read_named.new.site) c.in_ok-domain_map.ensures.told c.in_ok-domain_map.ensures.site
     c.in-Ok.end (g.S.Source.state c.open_input.new.self) (g.S.Source.state c.read_pattern.new.source) (g.K.Clock.state c.args.clock.now)
@@ -62,7 +62,7 @@ returns-in_err-buffer-clause-worked g c =
 pub returns-in_err-open_output-clause-worked : goal.returns-in_err-open_output-clause-worked
 returns-in_err-open_output-clause-worked g c =
     let p = err_from_is_err_and c.from_residual-in_err-open_output.result c.from_residual-in_err-open_output.ensures.1 in
-    rw (p.1, p.2) (fill_output c.args.types (told_by c.args.plan.command) _ c.args.heard c.requires.planned.different
+    rw (p.1, p.2) (fill_output c.args.types (told_by c.args.plan.command) _ c.args.plan.heard c.requires.planned.different
     c.in_ok-domain_map.domain_map (g.S.Source.state c.args.source.now) (g.D.Site.state c.args.site.now)
     (g.D.Site.state c.read_named.new.site) c.in_ok-domain_map.ensures.told c.in_ok-domain_map.ensures.site
     c.in-Ok.end (g.S.Source.state c.open_input.new.self) (g.S.Source.state c.read_pattern.new.source) (g.K.Clock.state c.args.clock.now)
@@ -78,10 +78,10 @@ returns-in_err-open_output-clause-worked g c =
     (takes_as c.cluster.result _ _ _ _ _ c.cluster.ensures c.in_ok-buffer.ensures.takes)
     _ (g.D.Site.state c.open_output.new.site) c.in_err-open_output.ensures.opens)
 
-pub returns-in_err-start-clause-worked : goal.returns-in_err-start-clause-worked
-returns-in_err-start-clause-worked g c =
-    let p = err_from_is_err_and c.from_residual-in_err-start.result c.from_residual-in_err-start.ensures.1 in
-    rw (p.1, p.2) (fill_load c.args.types (told_by c.args.plan.command) _ c.args.heard c.requires.planned.different
+pub returns-in_err-map-clause-worked : goal.returns-in_err-map-clause-worked
+returns-in_err-map-clause-worked g c =
+    let p = err_from_is_err_and c.from_residual-in_err-map.result c.from_residual-in_err-map.ensures.1 in
+    rw (p.1, p.2) (fill_load c.args.types (told_by c.args.plan.command) _ c.args.plan.heard c.requires.planned.different
     c.in_ok-domain_map.domain_map (g.S.Source.state c.args.source.now) (g.D.Site.state c.args.site.now)
     (g.D.Site.state c.read_named.new.site) c.in_ok-domain_map.ensures.told c.in_ok-domain_map.ensures.site
     c.in-Ok.end (g.S.Source.state c.open_input.new.self) (g.S.Source.state c.read_pattern.new.source) (g.K.Clock.state c.args.clock.now)
@@ -101,7 +101,7 @@ returns-in_err-start-clause-worked g c =
       apart = c.requires.planned.apart;
       output = c.in_ok-open_output.ensures.opens;
       keeps = c.open_output.ensures.keeps;
-      loads = c.in_err-start.ensures.loaded;
+      loads = c.in_err-map.ensures.loaded;
     }))
 
 pub returns-in_err-buffer-clause-cause : goal.returns-in_err-buffer-clause-cause
@@ -122,25 +122,25 @@ returns-in_err-open_output-clause-cause g c =
     (c.in_ok-buffer.ensures.cause.losses ∙ c.open_input.ensures.call.losses) c.in_ok-domain_map.ensures.kept
     (output_causes _ _ _ _ c.in_err-open_output.ensures.cause))
 
-pub returns-in_err-start-clause-cause : goal.returns-in_err-start-clause-cause
-returns-in_err-start-clause-cause g c =
-    let p = err_from_is_err_and c.from_residual-in_err-start.result c.from_residual-in_err-start.ensures.1 in
+pub returns-in_err-map-clause-cause : goal.returns-in_err-map-clause-cause
+returns-in_err-map-clause-cause g c =
+    let p = err_from_is_err_and c.from_residual-in_err-map.result c.from_residual-in_err-map.ensures.1 in
     rw (p.1, p.2) (causes_after _ (g.S.Source.state c.args.source.now) (g.S.Source.state c.read_pattern.new.source)
     (g.S.Source.state c.read_pattern.new.source) (g.D.Site.state c.args.site.now) (g.D.Site.state c.open_output.new.site)
     (g.D.Site.state c.load.new.site) (c.read_pattern.ensures.source.faults ∙ c.in-Ok.ensures.call.kept)
     (c.in_ok-buffer.ensures.cause.losses ∙ c.open_input.ensures.call.losses)
     (c.in_ok-open_output.ensures.kept ∙ c.in_ok-domain_map.ensures.kept)
-    (load_causes _ _ _ _ c.in_err-start.ensures.cause))
+    (load_causes _ _ _ _ c.in_err-map.ensures.cause))
 
-pub returns-in_err-start-clause-draft : goal.returns-in_err-start-clause-draft
-returns-in_err-start-clause-draft g c =
-    let p = err_from_is_err_and c.from_residual-in_err-start.result c.from_residual-in_err-start.ensures.1 in
+pub returns-in_err-map-clause-draft : goal.returns-in_err-map-clause-draft
+returns-in_err-map-clause-draft g c =
+    let p = err_from_is_err_and c.from_residual-in_err-map.result c.from_residual-in_err-map.ensures.1 in
     rw (p.1, p.2) (c.load.ensures.site.draft ∙ c.open_output.ensures.draft ∙ c.read_named.ensures.site.draft
-    ∙ c.requires.no_draft ∙ sym (load_leaves _ _ _ c.in_err-start.ensures.cause))
+    ∙ c.requires.no_draft ∙ sym (load_leaves _ _ _ c.in_err-map.ensures.cause))
 
 pub returns-then-not-places_fit-clause-worked : goal.returns-then-not-places_fit-clause-worked
 returns-then-not-places_fit-clause-worked g c =
-    fill_unplaced c.args.types (told_by c.args.plan.command) _ c.args.heard c.requires.planned.different
+    fill_unplaced c.args.types (told_by c.args.plan.command) _ c.args.plan.heard c.requires.planned.different
     c.in_ok-domain_map.domain_map (g.S.Source.state c.args.source.now) (g.D.Site.state c.args.site.now)
     (g.D.Site.state c.read_named.new.site) c.in_ok-domain_map.ensures.told c.in_ok-domain_map.ensures.site
     c.in-Ok.end (g.S.Source.state c.open_input.new.self) (g.S.Source.state c.read_pattern.new.source) (g.K.Clock.state c.args.clock.now)
@@ -154,20 +154,20 @@ returns-then-not-places_fit-clause-worked g c =
     }) c.read_pattern.ensures.source
     c.in_ok-buffer.buffer.items
     (takes_as c.cluster.result _ _ _ _ _ c.cluster.ensures c.in_ok-buffer.ensures.takes)
-    c.args.plan.names c.in_ok-start.start (g.D.Site.state c.open_output.new.site)
+    c.args.plan.names c.in_ok-map.map (g.D.Site.state c.open_output.new.site)
     (g.D.Site.state c.load.new.site) (record {
       names = c.requires.planned.names;
       apart = c.requires.planned.apart;
       output = c.in_ok-open_output.ensures.opens;
       keeps = c.open_output.ensures.keeps;
-      loads = c.in_ok-start.ensures.loaded;
+      loads = c.in_ok-map.ensures.loaded;
     })
     (c.load.ensures.site.keeps.tells ∙ c.open_output.ensures.keeps.tells) c.end-top.result c.end-top.ensures.end
     (c.if-not-places_fit.ensures.beyond refl)
 
 pub returns-clause-worked : goal.returns-clause-worked
 returns-clause-worked g c =
-    fill_goes c.args.types (told_by c.args.plan.command) _ c.args.heard c.requires.planned.different
+    fill_goes c.args.types (told_by c.args.plan.command) _ c.args.plan.heard c.requires.planned.different
     c.in_ok-domain_map.domain_map (g.S.Source.state c.args.source.now) (g.D.Site.state c.args.site.now)
     (g.D.Site.state c.read_named.new.site) c.in_ok-domain_map.ensures.told c.in_ok-domain_map.ensures.site
     c.in-Ok.end (g.S.Source.state c.open_input.new.self) (g.S.Source.state c.read_pattern.new.source) (g.K.Clock.state c.args.clock.now)
@@ -182,12 +182,12 @@ returns-clause-worked g c =
     c.deref.result.now
     (takes_into _ _ _ _ _ _ c.deref.ensures.value
     (takes_as c.cluster.result _ _ _ _ _ c.cluster.ensures c.in_ok-buffer.ensures.takes))
-    c.args.plan.names c.in_ok-start.start (g.D.Site.state c.open_output.new.site) (g.D.Site.state c.load.new.site) (record {
+    c.args.plan.names c.in_ok-map.map (g.D.Site.state c.open_output.new.site) (g.D.Site.state c.load.new.site) (record {
       names = c.requires.planned.names;
       apart = c.requires.planned.apart;
       output = c.in_ok-open_output.ensures.opens;
       keeps = c.open_output.ensures.keeps;
-      loads = c.in_ok-start.ensures.loaded;
+      loads = c.in_ok-map.ensures.loaded;
     })
     (c.load.ensures.site.keeps.tells ∙ c.open_output.ensures.keeps.tells) c.end-top.result c.end-top.ensures.end
     c.run.result.heard c.run.result.ending
@@ -204,8 +204,8 @@ returns-in_err-open_output-clause-source g c =
     keeps_more (g.S.Source.state c.args.source.now) (g.S.Source.state c.open_input.new.self)
     (g.S.Source.state c.read_pattern.new.source) c.open_input.ensures.call.keeps c.read_pattern.ensures.source.keeps
 
-pub returns-in_err-start-clause-source : goal.returns-in_err-start-clause-source
-returns-in_err-start-clause-source g c =
+pub returns-in_err-map-clause-source : goal.returns-in_err-map-clause-source
+returns-in_err-map-clause-source g c =
     keeps_more (g.S.Source.state c.args.source.now) (g.S.Source.state c.open_input.new.self)
     (g.S.Source.state c.read_pattern.new.source) c.open_input.ensures.call.keeps c.read_pattern.ensures.source.keeps
 
@@ -225,4 +225,4 @@ returns-clause-cause g c =
     (g.D.Site.state c.args.site.now) (g.D.Site.state c.load.new.site) (g.D.Site.state c.run.new.site)
     (c.read_pattern.ensures.source.faults ∙ c.in-Ok.ensures.call.kept)
     (c.in_ok-buffer.ensures.cause.losses ∙ c.open_input.ensures.call.losses)
-    (c.in_ok-start.ensures.kept ∙ c.in_ok-open_output.ensures.kept ∙ c.in_ok-domain_map.ensures.kept) c.run.ensures.cause
+    (c.in_ok-map.ensures.kept ∙ c.in_ok-open_output.ensures.kept ∙ c.in_ok-domain_map.ensures.kept) c.run.ensures.cause

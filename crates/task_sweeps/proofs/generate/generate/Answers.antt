@@ -12,7 +12,7 @@ use Rattle.task_sweeps.proofs.generate.generate.Goals as goal
 pub returns-in_err-domain_map-clause-worked : goal.returns-in_err-domain_map-clause-worked
 returns-in_err-domain_map-clause-worked g c =
     let p = err_from_is_err_and c.from_residual.result c.from_residual.ensures.1 in
-    rw (p.1, p.2) (generate_unread (told_by c.args.plan.command) _ c.args.heard c.requires.planned.different _
+    rw (p.1, p.2) (generate_unread (told_by c.args.plan.command) _ c.args.plan.heard c.requires.planned.different _
     (g.S.Source.state c.args.source.now) (g.D.Site.state c.args.site.now) (g.D.Site.state c.read_named.new.site)
     (g.K.Clock.state c.args.clock.now)
     (g.C.Console.state c.args.console.now) c.in_err-domain_map.ensures.told)
@@ -34,7 +34,7 @@ returns-in_err-domain_map-clause-source g c = keeps_self _
 
 pub returns-in_default-clause-worked : goal.returns-in_default-clause-worked
 returns-in_default-clause-worked g c =
-    generate_unopened (told_by c.args.plan.command) _ c.args.heard c.requires.planned.different
+    generate_unopened (told_by c.args.plan.command) _ c.args.plan.heard c.requires.planned.different
     c.in_ok-domain_map.domain_map (g.S.Source.state c.args.source.now) (g.D.Site.state c.args.site.now)
     (g.D.Site.state c.read_named.new.site) c.in_ok-domain_map.ensures.told c.in_ok-domain_map.ensures.site
     (g.S.Source.state c.open_input.new.self) (g.K.Clock.state c.args.clock.now)
@@ -44,7 +44,7 @@ returns-in_default-clause-worked g c =
 pub returns-in_err-open_output-clause-worked : goal.returns-in_err-open_output-clause-worked
 returns-in_err-open_output-clause-worked g c =
     let p = err_from_is_err_and c.from_residual-in_err-open_output.result c.from_residual-in_err-open_output.ensures.1 in
-    rw (p.1, p.2) (generate_output (told_by c.args.plan.command) _ c.args.heard c.requires.planned.different
+    rw (p.1, p.2) (generate_output (told_by c.args.plan.command) _ c.args.plan.heard c.requires.planned.different
     c.in_ok-domain_map.domain_map (g.S.Source.state c.args.source.now) (g.D.Site.state c.args.site.now)
     (g.D.Site.state c.read_named.new.site) c.in_ok-domain_map.ensures.told c.in_ok-domain_map.ensures.site
     c.in-Ok.end (g.S.Source.state c.open_input.new.self) (g.K.Clock.state c.args.clock.now)
@@ -57,10 +57,10 @@ returns-in_err-open_output-clause-worked g c =
       short = c.in-Ok.ensures.short;
     }) _ (g.D.Site.state c.open_output.new.site) c.in_err-open_output.ensures.opens)
 
-pub returns-in_err-start-clause-worked : goal.returns-in_err-start-clause-worked
-returns-in_err-start-clause-worked g c =
-    let p = err_from_is_err_and c.from_residual-in_err-start.result c.from_residual-in_err-start.ensures.1 in
-    rw (p.1, p.2) (generate_load (told_by c.args.plan.command) _ c.args.heard c.requires.planned.different
+pub returns-in_err-map-clause-worked : goal.returns-in_err-map-clause-worked
+returns-in_err-map-clause-worked g c =
+    let p = err_from_is_err_and c.from_residual-in_err-map.result c.from_residual-in_err-map.ensures.1 in
+    rw (p.1, p.2) (generate_load (told_by c.args.plan.command) _ c.args.plan.heard c.requires.planned.different
     c.in_ok-domain_map.domain_map (g.S.Source.state c.args.source.now) (g.D.Site.state c.args.site.now)
     (g.D.Site.state c.read_named.new.site) c.in_ok-domain_map.ensures.told c.in_ok-domain_map.ensures.site
     c.in-Ok.end (g.S.Source.state c.open_input.new.self) (g.K.Clock.state c.args.clock.now)
@@ -76,7 +76,7 @@ returns-in_err-start-clause-worked g c =
       apart = c.requires.planned.apart;
       output = c.in_ok-open_output.ensures.opens;
       keeps = c.open_output.ensures.keeps;
-      loads = c.in_err-start.ensures.loaded;
+      loads = c.in_err-map.ensures.loaded;
     }))
 
 pub returns-in_err-open_output-clause-cause : goal.returns-in_err-open_output-clause-cause
@@ -87,24 +87,24 @@ returns-in_err-open_output-clause-cause g c =
     (g.D.Site.state c.open_output.new.site) c.in-Ok.ensures.call.kept c.open_input.ensures.call.losses
     c.in_ok-domain_map.ensures.kept (output_causes _ _ _ _ c.in_err-open_output.ensures.cause))
 
-pub returns-in_err-start-clause-cause : goal.returns-in_err-start-clause-cause
-returns-in_err-start-clause-cause g c =
-    let p = err_from_is_err_and c.from_residual-in_err-start.result c.from_residual-in_err-start.ensures.1 in
+pub returns-in_err-map-clause-cause : goal.returns-in_err-map-clause-cause
+returns-in_err-map-clause-cause g c =
+    let p = err_from_is_err_and c.from_residual-in_err-map.result c.from_residual-in_err-map.ensures.1 in
     rw (p.1, p.2) (causes_after _ (g.S.Source.state c.args.source.now) (g.S.Source.state c.open_input.new.self)
     (g.S.Source.state c.open_input.new.self) (g.D.Site.state c.args.site.now) (g.D.Site.state c.open_output.new.site)
     (g.D.Site.state c.load.new.site) c.in-Ok.ensures.call.kept c.open_input.ensures.call.losses
     (c.in_ok-open_output.ensures.kept ∙ c.in_ok-domain_map.ensures.kept)
-    (load_causes _ _ _ _ c.in_err-start.ensures.cause))
+    (load_causes _ _ _ _ c.in_err-map.ensures.cause))
 
-pub returns-in_err-start-clause-draft : goal.returns-in_err-start-clause-draft
-returns-in_err-start-clause-draft g c =
-    let p = err_from_is_err_and c.from_residual-in_err-start.result c.from_residual-in_err-start.ensures.1 in
+pub returns-in_err-map-clause-draft : goal.returns-in_err-map-clause-draft
+returns-in_err-map-clause-draft g c =
+    let p = err_from_is_err_and c.from_residual-in_err-map.result c.from_residual-in_err-map.ensures.1 in
     rw (p.1, p.2) (c.load.ensures.site.draft ∙ c.open_output.ensures.draft ∙ c.read_named.ensures.site.draft
-    ∙ c.requires.no_draft ∙ sym (load_leaves _ _ _ c.in_err-start.ensures.cause))
+    ∙ c.requires.no_draft ∙ sym (load_leaves _ _ _ c.in_err-map.ensures.cause))
 
 pub returns-then-not-places_fit-clause-worked : goal.returns-then-not-places_fit-clause-worked
 returns-then-not-places_fit-clause-worked g c =
-    generate_unplaced (told_by c.args.plan.command) _ c.args.heard c.requires.planned.different
+    generate_unplaced (told_by c.args.plan.command) _ c.args.plan.heard c.requires.planned.different
     c.in_ok-domain_map.domain_map (g.S.Source.state c.args.source.now) (g.D.Site.state c.args.site.now)
     (g.D.Site.state c.read_named.new.site) c.in_ok-domain_map.ensures.told c.in_ok-domain_map.ensures.site
     c.in-Ok.end (g.S.Source.state c.open_input.new.self) (g.K.Clock.state c.args.clock.now)
@@ -115,18 +115,18 @@ returns-then-not-places_fit-clause-worked g c =
       tells = c.open_input.ensures.call.keeps.tells;
       all = c.in-Ok.ensures.call.all;
       short = c.in-Ok.ensures.short;
-    }) c.args.plan.names c.in_ok-start.start (g.D.Site.state c.open_output.new.site) (g.D.Site.state c.load.new.site) (record {
+    }) c.args.plan.names c.in_ok-map.map (g.D.Site.state c.open_output.new.site) (g.D.Site.state c.load.new.site) (record {
       names = c.requires.planned.names;
       apart = c.requires.planned.apart;
       output = c.in_ok-open_output.ensures.opens;
       keeps = c.open_output.ensures.keeps;
-      loads = c.in_ok-start.ensures.loaded;
+      loads = c.in_ok-map.ensures.loaded;
     })
     (c.load.ensures.site.keeps.tells ∙ c.open_output.ensures.keeps.tells) (c.if-not-places_fit.ensures.beyond refl)
 
 pub returns-clause-worked : goal.returns-clause-worked
 returns-clause-worked g c =
-    generate_goes (told_by c.args.plan.command) _ c.args.heard c.requires.planned.different
+    generate_goes (told_by c.args.plan.command) _ c.args.plan.heard c.requires.planned.different
     c.in_ok-domain_map.domain_map (g.S.Source.state c.args.source.now) (g.D.Site.state c.args.site.now)
     (g.D.Site.state c.read_named.new.site) c.in_ok-domain_map.ensures.told c.in_ok-domain_map.ensures.site
     c.in-Ok.end (g.S.Source.state c.open_input.new.self) (g.K.Clock.state c.args.clock.now)
@@ -137,12 +137,12 @@ returns-clause-worked g c =
       tells = c.open_input.ensures.call.keeps.tells;
       all = c.in-Ok.ensures.call.all;
       short = c.in-Ok.ensures.short;
-    }) c.args.plan.names c.in_ok-start.start (g.D.Site.state c.open_output.new.site) (g.D.Site.state c.load.new.site) (record {
+    }) c.args.plan.names c.in_ok-map.map (g.D.Site.state c.open_output.new.site) (g.D.Site.state c.load.new.site) (record {
       names = c.requires.planned.names;
       apart = c.requires.planned.apart;
       output = c.in_ok-open_output.ensures.opens;
       keeps = c.open_output.ensures.keeps;
-      loads = c.in_ok-start.ensures.loaded;
+      loads = c.in_ok-map.ensures.loaded;
     })
     (c.load.ensures.site.keeps.tells ∙ c.open_output.ensures.keeps.tells) c.run.result.heard c.run.result.ending
     (g.D.Site.state c.run.new.site) (g.K.Clock.state c.run.new.clock) (g.C.Console.state c.run.new.console)
@@ -154,4 +154,4 @@ returns-clause-cause g c =
     cause_after _ (g.S.Source.state c.args.source.now) (g.S.Source.state c.open_input.new.self)
     (g.D.Site.state c.args.site.now) (g.D.Site.state c.load.new.site) (g.D.Site.state c.run.new.site)
     c.in-Ok.ensures.call.kept c.open_input.ensures.call.losses
-    (c.in_ok-start.ensures.kept ∙ c.in_ok-open_output.ensures.kept ∙ c.in_ok-domain_map.ensures.kept) c.run.ensures.cause
+    (c.in_ok-map.ensures.kept ∙ c.in_ok-open_output.ensures.kept ∙ c.in_ok-domain_map.ensures.kept) c.run.ensures.cause

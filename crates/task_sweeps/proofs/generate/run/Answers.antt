@@ -10,46 +10,53 @@ use Rattle.task_sweeps.proofs.generate.run.Goals as goal
 
 pub run_generate-closed-requires-clause-room : goal.run_generate-closed-requires-clause-room
 run_generate-closed-requires-clause-room g c =
-    let maps : Maps = maps_read c.args.plan.command.options c.args.domain_map.now None c.args.start in
-    let is = c.make_job-job.ensures c.args.end maps c.args.start.tiles.statuses c.args.start.state c.requires.placed
+    let loaded = c.args.loaded in
+    let maps : Maps = maps_read c.args.plan.command.options loaded.domain_map None loaded.map in
+    let is = c.make_job-job.ensures loaded.end maps loaded.map.tiles.statuses loaded.map.state c.requires.placed
     (c.in-Ok.ensures None) in
     rw (ap (λ (s : Settings). s.cluster) is.settings_are) (search rules)
 
 pub run_generate-closed-requires-clause-sound : goal.run_generate-closed-requires-clause-sound
 run_generate-closed-requires-clause-sound g c =
-    let maps : Maps = maps_read c.args.plan.command.options c.args.domain_map.now None c.args.start in
-    (c.make_job-job.ensures c.args.end maps c.args.start.tiles.statuses c.args.start.state c.requires.placed
+    let loaded = c.args.loaded in
+    let maps : Maps = maps_read c.args.plan.command.options loaded.domain_map None loaded.map in
+    (c.make_job-job.ensures loaded.end maps loaded.map.tiles.statuses loaded.map.state c.requires.placed
     (c.in-Ok.ensures None)).sound
 
 pub run_generate-closed-requires-clause-suits : goal.run_generate-closed-requires-clause-suits
 run_generate-closed-requires-clause-suits g c =
-    let maps : Maps = maps_read c.args.plan.command.options c.args.domain_map.now None c.args.start in
+    let loaded = c.args.loaded in
+    let maps : Maps = maps_read c.args.plan.command.options loaded.domain_map None loaded.map in
     job_suits _ _ _ _ _ _ _ _ _ _
-    (c.make_job-job.ensures c.args.end maps c.args.start.tiles.statuses c.args.start.state c.requires.placed
+    (c.make_job-job.ensures loaded.end maps loaded.map.tiles.statuses loaded.map.state c.requires.placed
     (c.in-Ok.ensures None))
 
 pub run_generate-closed-requires-clause-places : goal.run_generate-closed-requires-clause-places
 run_generate-closed-requires-clause-places g c =
-    let maps : Maps = maps_read c.args.plan.command.options c.args.domain_map.now None c.args.start in
-    (c.make_job-job.ensures c.args.end maps c.args.start.tiles.statuses c.args.start.state c.requires.placed
+    let loaded = c.args.loaded in
+    let maps : Maps = maps_read c.args.plan.command.options loaded.domain_map None loaded.map in
+    (c.make_job-job.ensures loaded.end maps loaded.map.tiles.statuses loaded.map.state c.requires.placed
     (c.in-Ok.ensures None)).places
 
 pub run_generate-closed-requires-clause-program : goal.run_generate-closed-requires-clause-program
 run_generate-closed-requires-clause-program g c =
-    let maps : Maps = maps_read c.args.plan.command.options c.args.domain_map.now None c.args.start in
+    let loaded = c.args.loaded in
+    let maps : Maps = maps_read c.args.plan.command.options loaded.domain_map None loaded.map in
     job_heading _ _ _ _ _ _ _ _ _ _
-    (c.make_job-job.ensures c.args.end maps c.args.start.tiles.statuses c.args.start.state c.requires.placed
+    (c.make_job-job.ensures loaded.end maps loaded.map.tiles.statuses loaded.map.state c.requires.placed
     (c.in-Ok.ensures None))
     c.requires.planned.heading
 
 pub returns-in_default-make_sweep-clause-ran : goal.returns-in_default-make_sweep-clause-ran
 returns-in_default-make_sweep-clause-ran g c = λ test.
-    generated_none _ c.args.start.tiles.statuses c.args.start.state c.args.heard (g.D.Site.state c.args.site.now)
+    let loaded = c.args.loaded in
+    generated_none _ loaded.map.tiles.statuses loaded.map.state c.args.plan.heard (g.D.Site.state c.args.site.now)
     (g.K.Clock.state c.args.clock.now) (g.C.Console.state c.args.console.now)
 
 pub returns-in_default-vec-clause-ran : goal.returns-in_default-vec-clause-ran
 returns-in_default-vec-clause-ran g c = λ test.
-    generated_none _ c.args.start.tiles.statuses c.args.start.state c.args.heard (g.D.Site.state c.args.site.now)
+    let loaded = c.args.loaded in
+    generated_none _ loaded.map.tiles.statuses loaded.map.state c.args.plan.heard (g.D.Site.state c.args.site.now)
     (g.K.Clock.state c.args.clock.now) (g.C.Console.state c.args.console.now)
 
 pub returns-in_default-make_sweep-clause-cause : goal.returns-in_default-make_sweep-clause-cause
@@ -57,9 +64,10 @@ returns-in_default-make_sweep-clause-cause g c = none_cause (g.D.Site.state c.ar
 
 pub returns-clause-ran : goal.returns-clause-ran
 returns-clause-ran g c = λ test.
-    let maps : Maps = maps_read c.args.plan.command.options c.args.domain_map.now test c.args.start in
-    generated_so (told_by c.args.plan.command) c.in-Some.names c.args.plan.heading c.args.end maps
-    c.args.start.tiles.statuses c.args.start.state c.now_ms-moment.result c.args.heard c.say_line-heard.result
+    let loaded = c.args.loaded in
+    let maps : Maps = maps_read c.args.plan.command.options loaded.domain_map test loaded.map in
+    generated_so (told_by c.args.plan.command) c.in-Some.names c.args.plan.heading loaded.end maps
+    loaded.map.tiles.statuses loaded.map.state c.now_ms-moment.result c.args.plan.heard c.say_line-heard.result
     c.run_generate-closed.result.heard c.in-Ok.ready c.make_job-job.result c.run_generate-closed.result.end c.answer.result
     (record {
       site = g.D.Site.state c.args.site.now;
@@ -71,7 +79,7 @@ returns-clause-ran g c = λ test.
     })
     (g.K.Clock.state c.args.clock.now) (g.C.Console.state c.args.console.now)
     (sym c.requires.planned.names ∙ c.in-Some.is) (c.in-Ok.ensures test)
-    (c.make_job-job.ensures c.args.end maps c.args.start.tiles.statuses c.args.start.state c.requires.placed
+    (c.make_job-job.ensures loaded.end maps loaded.map.tiles.statuses loaded.map.state c.requires.placed
     (c.in-Ok.ensures test))
     c.run_generate-closed.ensures.sweeps c.answer.ensures c.now_ms-moment.ensures.told (omega arith) c.say_line-heard.ensures
 

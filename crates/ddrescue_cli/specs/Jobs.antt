@@ -1,0 +1,36 @@
+-- What is to be done for the words of a call, and how a call ends for which nothing is.
+use Rattle.std.specs.Prelude.{◌≡◌, ℕ, false, not, List, None}
+use Rattle.option_words.specs.Words.{command_line}
+use Rattle.rescue_rules.specs.Snapshots.{heading_at}
+use Rattle.ddrescue_words.specs.Command.{Sample as SampleTask}
+use Rattle.ddrescue_words.specs.Asking.{IsAsked, told_by}
+use Rattle.program_promise.specs.World.{WorldState}
+use Rattle.task_files.specs.declared.checked.CheckedCommand.{CheckedCommand}
+use Rattle.task_files.specs.declared.ending.Ended.{Ended}
+use Rattle.task_files.specs.Names.{program_name}
+use Rattle.task_files.specs.Asked.{names_by}
+use Rattle.ddrescue_cli.specs.declared.aim.Aim.{Aim}
+use Rattle.ddrescue_cli.specs.declared.job.Job.{Job}
+use Rattle.ddrescue_cli.specs.declared.job.Job.TheVariants.{Files, Sample}
+use Rattle.ddrescue_cli.specs.Aims.{task_for}
+use Rattle.ddrescue_cli.specs.Words.{same_of}
+use Rattle.ddrescue_cli.specs.Ddrescue.{TaskSaid}
+
+-- A plan is what the words ask for, with this aim. Its files have different names, the names and the heading of its
+-- mapfile are made, and it is heard unless the words ask for silence.
+pub record IsPlanFor (words : List (List ℕ)) (aim : Aim) (plan : CheckedCommand) : Type 0 where
+  pub asked : IsAsked words (task_for aim (told_by plan.command))
+  pub different : same_of (told_by plan.command) ≡ None
+  pub names : plan.names ≡ names_by (told_by plan.command)
+  pub heading : plan.heading ≡ heading_at (command_line program_name words) 0 0
+  pub heard : plan.heard ≡ not (told_by plan.command).options.quiet
+
+-- a job is what the words ask for
+abbrev pub IsJobFor : (words : List (List ℕ)) → Job → Type 0
+IsJobFor words (Files plan aim) = IsPlanFor words aim plan
+IsJobFor words (Sample kib quiet) = IsAsked words (SampleTask kib quiet)
+
+-- Whatever a call was handed, if no draft is begun, this is how it ends that does nothing.
+abbrev pub IsAnswered : (words : List (List ℕ)) → Ended → Type 0
+IsAnswered words ended =
+    (w : WorldState) → w.site.is_drafting ≡ false → TaskSaid words ended.ending ended.heard w w
