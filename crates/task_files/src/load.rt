@@ -31,7 +31,7 @@ pub struct LoadedMap {
     pub listed_end: u64,
 }
 
-/// What a run goes on from: what was loaded of its files.
+/// What was loaded of the files before a run.
 #[derive(Drop)]
 pub struct LoadedFiles {
     /// The map whose finished positions are asked for and no others, if it is named.

@@ -34,7 +34,7 @@ struct NamedMaps {
     test_map: Option<PlainTiles>,
 }
 
-/// What a rescue goes on from: what was loaded of its files, and the test map, if one is named.
+/// What was loaded of the files before a rescue, and the test map, if one is named.
 #[derive(Drop)]
 struct TestedFiles {
     loaded: LoadedFiles,
