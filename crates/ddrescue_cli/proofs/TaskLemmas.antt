@@ -26,18 +26,19 @@ use Rattle.program_promise.specs.Causes.{changes_of}
 use Rattle.program_promise.specs.World.{WorldState, with_console}
 use Rattle.program_promise.specs.Program.{line_by}
 use Rattle.program_promise.specs.Promise.{DoneFor, Worked}
+use Rattle.task_files.specs.declared.ending.Operand.{Operand}
 use Rattle.task_files.specs.declared.ending.Ending.{Ending}
 use Rattle.task_files.specs.declared.ending.Ending.TheVariants.{Usage, SiteFault}
 use Rattle.task_files.specs.Names.{first_same, AreNamedApart, program_name}
 use Rattle.task_files.specs.Asked.{names_by}
-use Rattle.task_files.specs.Answers.{Causes, drafting_left, failure_after, files_of_task, row_of}
+use Rattle.task_files.specs.Answers.{Causes, NameOneFileTwice, drafting_left, failure_after, files_of_task, row_of}
 use Rattle.task_files.specs.Steps.{IsPlanned}
 use Rattle.ddrescue_cli.specs.Aims.{IsNamedFor, task_for, WorkedFor}
 use Rattle.ddrescue_cli.specs.Jobs.{IsJobFor, IsPlanFor}
 use Rattle.ddrescue_cli.specs.ToldParts.{across}
 use Rattle.ddrescue_cli.specs.Words.{same_of}
 use Rattle.ddrescue_cli.specs.Ddrescue.{TaskSaid, rescue_program}
-use Rattle.task_files.proofs.ApartLemmas.{apart_of}
+use Rattle.task_files.proofs.ApartLemmas.{apart_of, named_apart}
 use Rattle.ddrescue_cli.proofs.MadeLemmas.{task_said}
 use Rattle.ddrescue_cli.proofs.PromiseLemmas.{fill_done, generate_done, rescue_done}
 
@@ -56,14 +57,6 @@ pub quiet_for : (aim : Aim) (c : Command) → is_quiet (task_for aim c) ≡ c.op
 quiet_for ToRescue c = refl
 quiet_for (ToFill types) c = refl
 quiet_for ToGenerate c = refl
-
--- it asks for no sample
-pub never_sampled : (words : List (List ℕ)) (aim : Aim) (c : Command) → IsAsked words (task_for aim c) → (kib : ℕ)
-    (quiet : Bool) → AskSample words kib quiet → ⊥
-never_sampled words aim c a kib quiet asks =
-    let over : files_of_task (Sample kib quiet) ≡ Some c =
-    ap files_of_task (a.only.alone (Sample kib quiet) asks) ∙ files_for aim c in
-    let never : None ≡ Some c = over in cc
 
 limits_for : (aim : Aim) (c : Command) → IsInLimits (task_for aim c) → AreInLimits c.options
 limits_for ToRescue c h = h
@@ -91,6 +84,7 @@ plan_made words aim plan c asked is names heading different heard =
       heard = heard ∙ ap (λ (x : Command). not x.options.quiet) same;
     }
 
+-- what the words ask for, by the code's own job
 pub files_job : (words : List (List ℕ)) (job : Job) (plan : CheckedCommand) (aim : Aim) → job ≡ Files plan aim
     → IsJobFor words job → IsPlanFor words aim plan
 files_job words job plan aim is for_words = subst (IsJobFor words) is for_words
@@ -114,6 +108,22 @@ planned_for words aim plan h =
 pub named_by_plan : (words : List (List ℕ)) (aim : Aim) (plan : CheckedCommand) → IsPlanFor words aim plan
     → IsNamedFor aim (told_by plan.command)
 named_by_plan words aim plan h = named_for aim (told_by plan.command) h.asked.limits
+
+-- its words name no file twice
+pub never_twice : (words : List (List ℕ)) (aim : Aim) (plan : CheckedCommand) → IsPlanFor words aim plan
+    → (first second : Operand) → NameOneFileTwice words first second → ⊥
+never_twice words aim plan h first second twice =
+    let c : Command = told_by plan.command in
+    named_apart words (task_for aim c) c h.asked (files_for aim c) h.different first second twice
+
+-- and ask for no sample
+pub never_sampled : (words : List (List ℕ)) (aim : Aim) (plan : CheckedCommand) → IsPlanFor words aim plan → (kib : ℕ)
+    (quiet : Bool) → AskSample words kib quiet → ⊥
+never_sampled words aim plan h kib quiet asks =
+    let c : Command = told_by plan.command in
+    let over : files_of_task (Sample kib quiet) ≡ Some c =
+    ap files_of_task (h.asked.only.alone (Sample kib quiet) asks) ∙ files_for aim c in
+    let never : None ≡ Some c = over in cc
 
 -- ---- what is done and said
 

@@ -1,4 +1,4 @@
--- What is to be done for the words of a call, and how a call ends for which nothing is.
+-- What the words of a call ask for once they are checked, and how a call ends that does nothing.
 use Rattle.std.specs.Prelude.{◌≡◌, ℕ, false, not, List, None}
 use Rattle.option_words.specs.Words.{command_line}
 use Rattle.rescue_rules.specs.Snapshots.{heading_at}
@@ -30,7 +30,7 @@ abbrev pub IsJobFor : (words : List (List ℕ)) → Job → Type 0
 IsJobFor words (Files plan aim) = IsPlanFor words aim plan
 IsJobFor words (Sample kib quiet) = IsAsked words (SampleTask kib quiet)
 
--- Whatever a call was handed, if no draft is begun, this is how it ends that does nothing.
+-- A call may end so and do nothing, whatever it was handed, if no draft is begun.
 abbrev pub IsAnswered : (words : List (List ℕ)) → Ended → Type 0
 IsAnswered words ended =
     (w : WorldState) → w.site.is_drafting ≡ false → TaskSaid words ended.ending ended.heard w w

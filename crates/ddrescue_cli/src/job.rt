@@ -12,7 +12,7 @@ use std::alloc::Global;
 use task_files::checked::{CheckedCommand, check_command};
 use task_files::ending::{Ended, Ending};
 
-/// What is to be done for the words.
+/// What a call has to do.
 #[derive(Drop)]
 pub(crate) enum Job<'a> {
     /// The work on files that have different names.
@@ -39,7 +39,7 @@ fn check_files<'a>(
     }
 }
 
-/// What is to be done for a task that the words ask for.
+/// The job of a task that the words ask for.
 fn check_task<'a>(alloc: Global, words: &Words, task: Task<'a>) -> Result<Job<'a>, Ended>
     requires { IsTask words.now task }
     ensures job { IfOk result (λ job. IsJobFor words.now job) }
@@ -53,7 +53,7 @@ fn check_task<'a>(alloc: Global, words: &Words, task: Task<'a>) -> Result<Job<'a
     }
 }
 
-/// What is to be done for the words. If nothing is, says how the call ends, and whether that is to be said.
+/// The job that the words ask for; or else how the call ends without one, and whether that is to be said.
 pub(crate) fn read_job(alloc: Global, words: &Words) -> Result<Job<'_>, Ended>
     ensures job { IfOk result (λ job. IsJobFor words.now job) }
     ensures refused { IfErr result (λ ended. IsAnswered words.now ended) }

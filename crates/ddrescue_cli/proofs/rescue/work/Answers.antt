@@ -1,7 +1,5 @@
-use Rattle.ddrescue_words.specs.Asking.{told_by}
-use Rattle.task_files.proofs.ApartLemmas.{named_apart}
 use Rattle.ddrescue_cli.proofs.MadeLemmas.{sample_said}
-use Rattle.ddrescue_cli.proofs.TaskLemmas.{files_for, files_job, sample_job, planned_for, named_by_plan, never_sampled}
+use Rattle.ddrescue_cli.proofs.TaskLemmas.{files_job, sample_job, planned_for, named_by_plan, never_sampled, never_twice}
 use Rattle.ddrescue_cli.proofs.rescue.work.Goals as goal
 
 pub work_on-requires-clause-planned : goal.work_on-requires-clause-planned
@@ -18,18 +16,18 @@ returns-in-Ok-Files-clause-said g c =
 
 pub returns-in-Ok-Files-clause-untouched : goal.returns-in-Ok-Files-clause-untouched
 returns-in-Ok-Files-clause-untouched g c = λ fault refused.
-    absurd ((files_job c.args.words.now _ _ _ c.in-Ok-Files.field-0-is c.in-Ok-Files.ensures.job).asked.only.accepted fault refused)
+    let is = files_job c.args.words.now _ _ _ c.in-Ok-Files.field-0-is c.in-Ok-Files.ensures.job in
+    absurd (is.asked.only.accepted fault refused)
 
 pub returns-in-Ok-Files-clause-unopened : goal.returns-in-Ok-Files-clause-unopened
 returns-in-Ok-Files-clause-unopened g c = λ first second twice.
-    let is = files_job c.args.words.now _ _ _ c.in-Ok-Files.field-0-is c.in-Ok-Files.ensures.job in
-    absurd (named_apart c.args.words.now _ (told_by c.in-Ok-Files.plan.command) is.asked
-    (files_for c.in-Ok-Files.aim (told_by c.in-Ok-Files.plan.command)) is.different first second twice)
+    absurd (never_twice _ _ _ (files_job c.args.words.now _ _ _ c.in-Ok-Files.field-0-is c.in-Ok-Files.ensures.job)
+    first second twice)
 
 pub returns-in-Ok-Files-clause-apart : goal.returns-in-Ok-Files-clause-apart
 returns-in-Ok-Files-clause-apart g c = λ kib quiet asks.
-    let is = files_job c.args.words.now _ _ _ c.in-Ok-Files.field-0-is c.in-Ok-Files.ensures.job in
-    absurd (never_sampled _ c.in-Ok-Files.aim (told_by c.in-Ok-Files.plan.command) is.asked kib quiet asks)
+    absurd (never_sampled _ _ _ (files_job c.args.words.now _ _ _ c.in-Ok-Files.field-0-is c.in-Ok-Files.ensures.job)
+    kib quiet asks)
 
 pub returns-in-Ok-Sample-clause-said : goal.returns-in-Ok-Sample-clause-said
 returns-in-Ok-Sample-clause-said g c =
@@ -38,7 +36,8 @@ returns-in-Ok-Sample-clause-said g c =
 
 pub returns-in-Ok-Sample-clause-untouched : goal.returns-in-Ok-Sample-clause-untouched
 returns-in-Ok-Sample-clause-untouched g c = λ fault refused.
-    absurd ((sample_job c.args.words.now _ _ _ c.in-Ok-Sample.field-0-is c.in-Ok-Sample.ensures.job).only.accepted fault refused)
+    let is = sample_job c.args.words.now _ _ _ c.in-Ok-Sample.field-0-is c.in-Ok-Sample.ensures.job in
+    absurd (is.only.accepted fault refused)
 
 pub returns-in-Err-clause-said : goal.returns-in-Err-clause-said
 returns-in-Err-clause-said g c = c.in-Err.ensures.refused _ c.requires
