@@ -27,7 +27,7 @@ use crate::line::{say_last, say_phase};
 use crate::request::{leads_up, next_lead, next_request};
 use crate::save_now::{save_now, save_or_sync};
 use crate::settings::Settings;
-use crate::state::{Progress, Tally};
+use crate::state::Progress;
 use crate::turn::{Advanced, Turn};
 use block_list::tiles::Tiles;
 use crash_site::site::Site;
@@ -41,6 +41,7 @@ use rescue_domain::live::Live;
 use rescue_rules::phase::Phase;
 use rescue_rules::report::{Counts, Report};
 use rescue_rules::stop::{Limit, RunEnd, Stop};
+use rescue_rules::tally::Tally;
 use save_resume::draft::SaveFault;
 use save_resume::names::Names;
 use std::marker::Model;
@@ -353,7 +354,7 @@ impl<T: Tiles> Running<T> {
     /// Says the line after an event, if one is due. A console that fails isn't told any further.
     fn say_due<C: Console>(&mut self, due: bool, console: &mut C)
         ensures stands { self.new ≡ record self.old { heard = self.new.heard } }
-        ensures says { SpeaksOn (out_pieces (if due then report_text (phase_front self.old.machine.shown)
+        ensures says { SpeaksOn (out_pieces (if due then report_text (phase_front self.old.machine.tally.shown)
             (report_of (setting_in self.old) self.old.machine) ∷ [] else [])) self.old.heard self.new.heard
             (C.state console.old) (C.state console.new) }
     {
