@@ -53,14 +53,14 @@ const MOST_NEW_BLOCKS: usize = 6;
 /// A run of a rescue between its turns, whatever its phase.
 #[derive(Drop)]
 pub(crate) struct Running<T: Tiles> {
-    settings: Settings,
-    domain: Domain,
-    tiles: T,
+    pub(crate) settings: Settings,
+    pub(crate) domain: Domain,
+    pub(crate) tiles: T,
     buf: Vec<u8>,
     names: Option<Names>,
     heading: Heading,
     phase: Phase,
-    progress: Progress,
+    pub(crate) progress: Progress,
     tally: Tally,
     counts: Counts,
     heard: bool,
@@ -121,36 +121,6 @@ impl<T: Tiles> Running<T> {
             counts,
             heard,
         }
-    }
-
-    pub fn settings(&self) -> &Settings
-        ensures { result.now ≡ self.now.settings }
-    {
-        &self.settings
-    }
-
-    pub fn domain(&self) -> &Domain
-        ensures { result.now ≡ self.now.domain }
-    {
-        &self.domain
-    }
-
-    pub fn tiles(&self) -> &T
-        ensures { T.statuses result.now ≡ self.now.machine.map }
-    {
-        &self.tiles
-    }
-
-    pub fn phase(&self) -> Phase
-        ensures { result ≡ self.now.phase }
-    {
-        self.phase
-    }
-
-    pub fn pass(&self) -> u32
-        ensures { result ≡ self.now.pass }
-    {
-        self.progress.pass
     }
 
     /// The next request of this pass.
