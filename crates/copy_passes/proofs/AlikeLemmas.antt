@@ -1,12 +1,12 @@
 -- States that are alike, and runs from them.
-use Rattle.std.proofs.Common.{◌≡◌, ℕ, Option, List, [], ◌∷◌, ◌++◌, All, refl, sym, ap, subst, ◌∙◌}
+use Rattle.std.proofs.Common.{◌≡◌, Option, List, [], ◌∷◌, ◌++◌, All, refl, sym, ap, subst, ◌∙◌}
 use Rattle.std.specs.List.{flat_map}
 use Rattle.std.proofs.lemmas.Grind.{flat_map-append}
 use Rattle.rescue_rules.specs.Setting.{Setting}
 use Rattle.rescue_rules.specs.Machine.{Machine}
 use Rattle.block_list.specs.declared.status.Status.{Status}
-use Rattle.rescue_rules.specs.declared.report.Said.{Said}
 use Rattle.rescue_rules.specs.declared.stop.Limit.{Limit}
+use Rattle.rescue_rules.specs.declared.tally.Tally.{Tally}
 use Rattle.rescue_rules.specs.Step.{Event, limit_met, step}
 use Rattle.rescue_rules.specs.Moves.{Move, begun, ready, moves, state_after, IsMove, IsRun}
 use Rattle.rescue_rules.specs.RunCalls.{move_calls, run_calls}
@@ -23,39 +23,15 @@ alike_by s m n same =
     let b : Stays n (ready s n) = stays_ready s n in
     record {
       map = sym b.map ∙ ap (λ (k : Machine). k.map) same ∙ a.map;
-      failed = sym b.failed ∙ ap (λ (k : Machine). k.failed) same ∙ a.failed;
-      began = sym b.began ∙ ap (λ (k : Machine). k.began) same ∙ a.began;
-      now = sym b.now ∙ ap (λ (k : Machine). k.now) same ∙ a.now;
-      whole_at = sym b.whole_at ∙ ap (λ (k : Machine). k.whole_at) same ∙ a.whole_at;
-      due_at = sym b.due_at ∙ ap (λ (k : Machine). k.due_at) same ∙ a.due_at;
-      shown = sym b.shown ∙ ap (λ (k : Machine). k.shown) same ∙ a.shown;
-      over = sym b.over ∙ ap (λ (k : Machine). k.over) same ∙ a.over;
-      written = sym b.written ∙ ap (λ (k : Machine). k.written) same ∙ a.written;
-      said = sym b.said ∙ ap (λ (k : Machine). k.said) same ∙ a.said;
-      first_areas = sym b.first_areas ∙ ap (λ (k : Machine). k.first_areas) same ∙ a.first_areas;
+      tally = sym b.tally ∙ ap (λ (k : Machine). k.tally) same ∙ a.tally;
       next = same;
     }
 
 -- they have met the same limit
 pub limit_alike : (s : Setting) (m n : Machine) → IsAlike s m n → limit_met s n ≡ limit_met s m
 limit_alike s m n alike =
-    let L : List Status → Option ℕ → Option Said → (failed first_areas now whole_at : ℕ) → Option Limit =
-    λ map over said failed first_areas now whole_at. limit_met s (record m {
-      map = map;
-      over = over;
-      said = said;
-      failed = failed;
-      first_areas = first_areas;
-      now = now;
-      whole_at = whole_at;
-    }) in
-    ap (λ (v : List Status). L v n.over n.said n.failed n.first_areas n.now n.whole_at) alike.map
-    ∙ ap (λ (v : Option ℕ). L m.map v n.said n.failed n.first_areas n.now n.whole_at) alike.over
-    ∙ ap (λ (v : Option Said). L m.map m.over v n.failed n.first_areas n.now n.whole_at) alike.said
-    ∙ ap (λ (v : ℕ). L m.map m.over m.said v n.first_areas n.now n.whole_at) alike.failed
-    ∙ ap (λ (v : ℕ). L m.map m.over m.said m.failed v n.now n.whole_at) alike.first_areas
-    ∙ ap (λ (v : ℕ). L m.map m.over m.said m.failed m.first_areas v n.whole_at) alike.now
-    ∙ ap (L m.map m.over m.said m.failed m.first_areas m.now) alike.whole_at
+    let L : List Status → Tally → Option Limit = λ map tally. limit_met s (record m { map = map; tally = tally }) in
+    ap (λ (v : List Status). L v n.tally) alike.map ∙ ap (L m.map) alike.tally
 
 -- what an event makes of the state that is ready for it
 abbrev moved : Setting → Event → Machine → Move

@@ -1,5 +1,5 @@
 -- A position is asked at most once in copying.
-use Rattle.std.proofs.Common.{◌≡◌, ◌⊎◌, ℕ, zero, suc, ◌+◌, ◌<◌, ◌≤◌, true, List, [], ◌∷◌, Option, Some, refl, sym, ap, ◌∙◌, arith, subst, ⊎_elim}
+use Rattle.std.proofs.Common.{◌≡◌, ◌⊎◌, ℕ, zero, suc, ◌+◌, ◌<◌, ◌≤◌, true, List, [], ◌∷◌, Some, refl, sym, ap, ◌∙◌, arith, subst, ⊎_elim}
 use Rattle.std.specs.List.{slice_get}
 use Rattle.std.proofs.lemmas.Option.{same_Some}
 use Rattle.block_list.specs.declared.status.Status.{Status}
@@ -9,6 +9,7 @@ use Rattle.faulty_source.specs.Ends.{is_before}
 use Rattle.rescue_rules.specs.declared.phase.Phase.{Phase}
 use Rattle.rescue_rules.specs.declared.phase.Phase.TheVariants.{Copying}
 use Rattle.rescue_rules.specs.declared.stop.TrimMode.TheVariants.{Lead}
+use Rattle.rescue_rules.specs.declared.tally.Tally.{Tally}
 use Rattle.rescue_rules.specs.Setting.{Setting, IsSensible}
 use Rattle.rescue_rules.specs.Passes.{taken}
 use Rattle.rescue_rules.specs.Machine.{Machine, pass_of}
@@ -32,7 +33,7 @@ steps s m e ok order is = move_steps s (ready s m) e ok (order_ready s m order) 
 -- a position is non-tried, and before the input's end if that was met
 record IsUntried (m : Machine) (x : ℕ) : Type 0 where
   status : Has m.map NonTried x
-  before : is_before m.over x ≡ true
+  before : is_before m.tally.over x ≡ true
 
 -- copying asks for such positions alone
 asked_non_tried : (s : Setting) (m : Machine) (e : Event) (x : ℕ) → StepsBy s (ready s m) e → is_copying (ready s m) ≡ true
@@ -44,7 +45,7 @@ asked_non_tried s m e x by on asks =
     record {
       status = subst (λ (map : List Status). Has map NonTried x) (stays_ready s m).map
           (subst (λ (p : Phase). Has (ready s m).map (taken p) x) phase has);
-      before = subst (λ (o : Option ℕ). is_before o x ≡ true) (stays_ready s m).over
+      before = subst (λ (t : Tally). is_before t.over x ≡ true) (stays_ready s m).tally
           (wanted_before s (ready s m) x (by.wanted x asks.from asks.to));
     }
 
@@ -65,7 +66,7 @@ tried_stays s m e x tried left =
     tried (record {
       status = subst (λ (map : List Status). Has map NonTried x) (stays_ready s m).map
           (non_tried_stood s (ready s m) e.reading x left.status);
-      before = subst (λ (o : Option ℕ). is_before o x ≡ true) (stays_ready s m).over
+      before = subst (λ (t : Tally). is_before t.over x ≡ true) (stays_ready s m).tally
           (before_was (ready s m) e.reading x left.before);
     })
 

@@ -13,21 +13,21 @@ top_by len None = len
 top_by len (Some end) = min len end
 
 abbrev pub top_of : Machine → ℕ
-top_of m = top_by (length m.map) m.over
+top_of m = top_by (length m.map) m.tally.over
 
 top_by_within : (len : ℕ) (over : Option ℕ) → top_by len over ≤ len
 top_by_within len None = omega arith
 top_by_within len (Some end) = omega arith
 
 pub top_within : (m : Machine) → top_of m ≤ length m.map
-top_within m = top_by_within (length m.map) m.over
+top_within m = top_by_within (length m.map) m.tally.over
 
 below_by : (len : ℕ) (over : Option ℕ) (x : ℕ) → x < len → is_before over x ≡ true → x < top_by len over
 below_by len None x within before = within
 below_by len (Some end) x within before = omega (arith, within, ltb-true x end before)
 
-pub below_top : (m : Machine) (x : ℕ) → x < length m.map → is_before m.over x ≡ true → x < top_of m
-below_top m x within before = below_by (length m.map) m.over x within before
+pub below_top : (m : Machine) (x : ℕ) → x < length m.map → is_before m.tally.over x ≡ true → x < top_of m
+below_top m x within before = below_by (length m.map) m.tally.over x within before
 
 -- no read reaches beyond what it asked for
 pub reach_few : (r : Reading) → length r.given ≤ r.asked → reach r ≤ r.pos + r.asked
@@ -41,22 +41,22 @@ top_earlier len None end = omega arith
 top_earlier len (Some other) end = omega arith
 
 -- it reaches over all of that, or to where the map now ends
-pub takes_far : (m n : Machine) (r : Reading) → n.over ≡ over_after m r → length n.map ≡ length m.map
+pub takes_far : (m n : Machine) (r : Reading) → n.tally.over ≡ over_after m r → length n.map ≡ length m.map
     → ((r.pos + r.asked ≤ reach r) × (top_of n ≤ top_of m)) ⊎ (top_of n ≤ reach r)
 takes_far m n r over size =
     ⊎_elim
     (λ (on : r.ended ≡ true).
     let end : ℕ = r.pos + length r.given in
-    let is : n.over ≡ Some (earlier m.over end) =
-    subst (λ (o : Option ℕ). n.over ≡ o) (cond-true r.ended (Some (earlier m.over end)) m.over on) over in
+    let is : n.tally.over ≡ Some (earlier m.tally.over end) =
+    subst (λ (o : Option ℕ). n.tally.over ≡ o) (cond-true r.ended (Some (earlier m.tally.over end)) m.tally.over on) over in
     let low : top_of n ≤ end =
-    subst (λ (o : Option ℕ). top_by (length n.map) o ≤ end) (sym is) (top_earlier (length n.map) m.over end) in
+    subst (λ (o : Option ℕ). top_by (length n.map) o ≤ end) (sym is) (top_earlier (length n.map) m.tally.over end) in
     inr (omega (arith, low, cond-true r.ended (length r.given) r.asked on)))
     (λ (off : r.ended ≡ false).
-    let is : n.over ≡ m.over =
-    subst (λ (o : Option ℕ). n.over ≡ o)
-    (cond-false r.ended (Some (earlier m.over (r.pos + length r.given))) m.over off) over in
-    let same : top_of n ≡ top_of m = ap (top_by (length n.map)) is ∙ ap (λ (k : ℕ). top_by k m.over) size in
+    let is : n.tally.over ≡ m.tally.over =
+    subst (λ (o : Option ℕ). n.tally.over ≡ o)
+    (cond-false r.ended (Some (earlier m.tally.over (r.pos + length r.given))) m.tally.over off) over in
+    let same : top_of n ≡ top_of m = ap (top_by (length n.map)) is ∙ ap (λ (k : ℕ). top_by k m.tally.over) size in
     inl (omega (arith, cond-false r.ended (length r.given) r.asked off), omega (arith, same)))
     (cases_Bool r.ended)
 
@@ -74,8 +74,8 @@ before_reach m r x before to =
     ⊎_elim
     (λ (on : r.ended ≡ true).
     let end : ℕ = r.pos + length r.given in
-    let low : x < end = earlier_low m.over end x
-    (subst (λ (o : Option ℕ). is_before o x ≡ true) (cond-true r.ended (Some (earlier m.over end)) m.over on) before) in
+    let low : x < end = earlier_low m.tally.over end x
+    (subst (λ (o : Option ℕ). is_before o x ≡ true) (cond-true r.ended (Some (earlier m.tally.over end)) m.tally.over on) before) in
     omega (arith, low, cond-true r.ended (length r.given) r.asked on))
     (λ (off : r.ended ≡ false). omega (arith, to, cond-false r.ended (length r.given) r.asked off))
     (cases_Bool r.ended)
@@ -85,11 +85,11 @@ before_by : (len : ℕ) (over : Option ℕ) (x : ℕ) → x < top_by len over �
 before_by len None x below = refl
 before_by len (Some end) x below = lt-ltb x end (omega (arith, below))
 
-pub before_top : (m : Machine) (x : ℕ) → x < top_of m → is_before m.over x ≡ true
-before_top m x below = before_by (length m.map) m.over x below
+pub before_top : (m : Machine) (x : ℕ) → x < top_of m → is_before m.tally.over x ≡ true
+before_top m x below = before_by (length m.map) m.tally.over x below
 
 -- and was so before a read
-pub top_less : (m n : Machine) (r : Reading) (x : ℕ) → n.over ≡ over_after m r → length n.map ≡ length m.map
+pub top_less : (m n : Machine) (r : Reading) (x : ℕ) → n.tally.over ≡ over_after m r → length n.map ≡ length m.map
     → x < top_of n → x < top_of m
 top_less m n r x over size below =
     below_top m x (omega (arith, below, top_within n, size))

@@ -25,19 +25,10 @@ use Rattle.rescue_core.specs.Turning.{Halted}
 use Rattle.rescue_core.specs.Closing.{StoppedState, drafting_at_stop}
 
 -- Two states that differ at most in the passes without a request that one of them has gone on over. They have the same
--- map, counts, times, shown state, end, last line and first areas, and go on to the same request, or both to the end.
+-- map and the same tally, and go on to the same request, or both to the end.
 pub record IsAlike (s : Setting) (m n : Machine) : Type 0 where
   pub map : n.map ≡ m.map
-  pub failed : n.failed ≡ m.failed
-  pub began : n.began ≡ m.began
-  pub now : n.now ≡ m.now
-  pub whole_at : n.whole_at ≡ m.whole_at
-  pub due_at : n.due_at ≡ m.due_at
-  pub shown : n.shown ≡ m.shown
-  pub over : n.over ≡ m.over
-  pub written : n.written ≡ m.written
-  pub said : n.said ≡ m.said
-  pub first_areas : n.first_areas ≡ m.first_areas
+  pub tally : n.tally ≡ m.tally
   pub next : ready s n ≡ ready s m
 
 -- a run in the pass of another, where that one stands, and heard as that one is

@@ -20,8 +20,8 @@ use Rattle.rescue_rules.specs.Beginning.{first_pass, first_cursor}
 use Rattle.rescue_domain.specs.Parts.{covers}
 use Rattle.rescue_core.specs.declared.settings.Settings.{Settings}
 use Rattle.rescue_core.specs.declared.state.Progress.{Progress}
-use Rattle.rescue_core.specs.declared.state.Tally.{Tally}
 use Rattle.rescue_rules.specs.declared.report.Counts.{Counts}
+use Rattle.rescue_rules.specs.declared.tally.Tally.{Tally}
 use Rattle.rescue_rules.specs.Counts.{counts_of}
 use Rattle.rescue_rules.proofs.FitLemmas.{first_few, first_there, start_there}
 use Rattle.rescue_rules.proofs.ReadyLemmas.{order_lead}
@@ -127,7 +127,7 @@ running_started settings domain names line map loaded progress tally heard room 
     }
 
 -- and its counts are those of its whole map
-all_live : (s : Setting) (m : Machine) → m.over ≡ None → is_live s m ≡ s.domain
+all_live : (s : Setting) (m : Machine) → m.tally.over ≡ None → is_live s m ≡ s.domain
 all_live s m none = fun_ext (λ x. ap (λ (o : Option ℕ). s.domain x && is_before o x) none ∙ and-true (s.domain x))
 
 pub counted_started : (settings : Settings) (domain : List Range) (names : Option MapNames) (line : List ℕ) (map : List Status)

@@ -16,19 +16,19 @@ use Rattle.rescue_core.specs.Closing.{closing_snapshot, LastSave, Saved, Unsaved
 
 -- what a save says of a run that shows this
 abbrev pub with_shown : RunState → MapState → Snapshot
-with_shown r shown = record { map = r.machine.map; shown = shown; began = r.machine.began; now = r.machine.now }
+with_shown r shown = record { map = r.machine.map; shown = shown; began = r.machine.tally.began; now = r.machine.tally.now }
 
 -- what a run shows last
 abbrev pub ShowsLast : Option Stop → (shown last : MapState) → Type 0
 ShowsLast stop shown last = MatchOption stop (last ≡ record shown { current = Finished; pass = 1 }) (λ _. last ≡ shown)
 
-closing_is : (stop : Option Stop) (r : RunState) (last : MapState) → ShowsLast stop r.machine.shown last
+closing_is : (stop : Option Stop) (r : RunState) (last : MapState) → ShowsLast stop r.machine.tally.shown last
     → with_shown r last ≡ closing_snapshot stop r
 closing_is None r last is = ap (with_shown r) is
 closing_is (Some stop) r last is = ap (with_shown r) is
 
 pub saves_whole : {T : Type 0} (stop : Option Stop) (r : RunState) (last : MapState) (saved : T) (site site' : SiteState)
-    → ShowsLast stop r.machine.shown last
+    → ShowsLast stop r.machine.tally.shown last
     → SavesMap (closing_calls (setting_in r) (with_shown r last)) false (Ok saved) site site'
     → LastSave stop r (end_of stop) site site'
 saves_whole stop r last saved site site' is s =
@@ -37,7 +37,7 @@ saves_whole stop r last saved site site' is s =
     s.draft
 
 pub saves_broken : {T : Type 0} (stop : Option Stop) (r : RunState) (last : MapState) (fault : SaveFault) (site site' : SiteState)
-    → ShowsLast stop r.machine.shown last → site.is_drafting ≡ false
+    → ShowsLast stop r.machine.tally.shown last → site.is_drafting ≡ false
     → SavesMap {T = T} (closing_calls (setting_in r) (with_shown r last)) false (Err fault) site site'
     → LastSave stop r (SaveFailed fault.call stop) site site'
 saves_broken stop r last fault site site' is none s =

@@ -135,10 +135,10 @@ reads_of r e phase request turn live map is =
     let at_map : MarksCount s m e.reading (passing has_failed (is_live s m) map) old (counts_of (is_live s m) map)
     = subst (λ (l : List Status). MarksCount s m e.reading (passing has_failed (is_live s m) l) old (counts_of (is_live s m) l))
     (sym is.map_is) counted in
-    let at_domain : MarksCount s m e.reading (passing has_failed (λ x. covers live.domain.now x && is_before m.over x) map) old
+    let at_domain : MarksCount s m e.reading (passing has_failed (λ x. covers live.domain.now x && is_before m.tally.over x) map) old
     (counts_of (is_live s m) map)
     = subst
-    (λ (d : List Range). MarksCount s m e.reading (passing has_failed (λ x. covers d x && is_before m.over x) map) old
+    (λ (d : List Range). MarksCount s m e.reading (passing has_failed (λ x. covers d x && is_before m.tally.over x) map) old
     (counts_of (is_live s m) map))
     (sym is.domain_is) at_map in
     record {
@@ -251,8 +251,8 @@ ends_at r e phase request turn live map got end is marked some =
     = subst (λ (k : ℕ). Ends k map (counts_of (is_live s m) map) (is_live s m)) (sym met.at)
     (subst (λ (l : List Status). Ends (e.reading.pos + length e.reading.given) l (counts_of (is_live s m) l) (is_live s m))
     (sym is.map_is) counted) in
-    let domain : Ends end map (counts_of (is_live s m) map) (λ x. covers live.domain.now x && is_before m.over x)
-    = subst (λ (d : List Range). Ends end map (counts_of (is_live s m) map) (λ x. covers d x && is_before m.over x))
+    let domain : Ends end map (counts_of (is_live s m) map) (λ x. covers live.domain.now x && is_before m.tally.over x)
+    = subst (λ (d : List Range). Ends end map (counts_of (is_live s m) map) (λ x. covers d x && is_before m.tally.over x))
     (sym is.domain_is) at in
     subst (λ (c : Counts). Ends end map c (lives live)) (sym marked)
     (subst (λ (o : Option ℕ). Ends end map (counts_of (is_live s m) map) (λ x. covers live.domain.now x && is_before o x))

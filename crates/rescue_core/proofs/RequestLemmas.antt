@@ -7,11 +7,11 @@ use Rattle.rescue_rules.specs.declared.phase.Phase.{Phase}
 use Rattle.rescue_rules.specs.declared.phase.Phase.TheVariants.{Copying, Trimming}
 use Rattle.rescue_rules.specs.declared.stop.TrimMode.{TrimMode}
 use Rattle.rescue_rules.specs.declared.stop.TrimMode.TheVariants.{Lead}
+use Rattle.rescue_rules.specs.declared.tally.Tally.{Tally}
 use Rattle.rescue_rules.specs.Setting.{Setting}
 use Rattle.rescue_rules.specs.Passes.{Pass, is_up, numbered, passes_from}
 use Rattle.rescue_rules.specs.Machine.{Machine, Search, pass_of, start_of, search_in, search_of}
 use Rattle.rescue_core.specs.declared.state.Progress.{Progress}
-use Rattle.rescue_core.specs.declared.state.Tally.{Tally}
 use Rattle.rescue_core.specs.RunState.{machine_at}
 use Rattle.rescue_core.specs.Requesting.{StandsAt}
 

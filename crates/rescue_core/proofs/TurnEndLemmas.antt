@@ -29,7 +29,7 @@ says_none false console = (refl, refl)
 -- the line of a run, if it is due, is said by one who is heard so far or not
 abbrev pub SaysOf : RunState → (due heard heard' : Bool) → (console console' : ConsoleState) → Type 0
 SaysOf r due heard heard' console console' =
-    SpeaksOn (out_pieces (if due then report_text (phase_front r.machine.shown) (report_of (setting_in r) r.machine) ∷ []
+    SpeaksOn (out_pieces (if due then report_text (phase_front r.machine.tally.shown) (report_of (setting_in r) r.machine) ∷ []
     else [])) heard heard' console console'
 
 -- A turn up to its marks, between these two states, after which the line that is due was said, and the run was heard

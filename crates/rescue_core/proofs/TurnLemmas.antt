@@ -13,6 +13,7 @@ use Rattle.rescue_rules.specs.declared.stop.TrimMode.{TrimMode}
 use Rattle.rescue_rules.specs.declared.stop.TrimMode.TheVariants.{Lead, Tail}
 use Rattle.rescue_rules.specs.declared.phase.Phase.{Phase}
 use Rattle.rescue_rules.specs.declared.phase.Phase.TheVariants.{Copying, Trimming, Scraping, Retrying}
+use Rattle.rescue_rules.specs.declared.tally.Tally.{Tally}
 use Rattle.rescue_rules.specs.Setting.{Setting, IsSensible}
 use Rattle.rescue_rules.specs.Passes.{Pass, taken, numbered}
 use Rattle.rescue_rules.specs.Machine.{Machine, pass_of, has_taken, is_live, is_wanted, ceiling, Search, search_in, search_of, cut_start, cut_end, IsRequest}
@@ -21,10 +22,9 @@ use Rattle.rescue_rules.proofs.RoundLemmas.{ceiling_above}
 use Rattle.rescue_rules.proofs.StepLemmas.{Asks, request_asks, wanted_domain, asks_back}
 use Rattle.rescue_core.specs.declared.settings.Settings.{Settings}
 use Rattle.rescue_core.specs.declared.state.Progress.{Progress}
-use Rattle.rescue_core.specs.declared.state.Tally.{Tally}
 use Rattle.rescue_core.specs.RunState.{RunState, setting_in, HasPlaces, IsRunning, run_at}
 use Rattle.rescue_core.specs.Turning.{stepped}
-use Rattle.rescue_core.specs.TurnParts.{progress_of, tally_of, IsBackOf}
+use Rattle.rescue_core.specs.TurnParts.{progress_of, IsBackOf}
 use Rattle.rescue_core.proofs.StageLemmas.{running_sensible}
 
 -- no search asks for more than a cluster
@@ -115,7 +115,7 @@ pub run_steps : (settings : Settings) (domain : List Range) (names : Option MapN
     → let r : RunState = run_at settings domain names line map phase progress tally heard in
     map' ≡ map_after (setting_in r) r.machine e.reading
     → progress' ≡ progress_of progress.pass (step (setting_in r) r.machine e)
-    → tally' ≡ tally_of (step (setting_in r) r.machine e)
+    → tally' ≡ (step (setting_in r) r.machine e).tally
     → run_at settings domain names line map' phase progress' tally' heard ≡ stepped r e heard
 run_steps settings domain names line map map' phase progress progress' tally tally' heard e map_is place_is tally_is =
     let r : RunState = run_at settings domain names line map phase progress tally heard in

@@ -17,6 +17,7 @@ use Rattle.rescue_rules.specs.Passes.{Pass, numbered, current_of}
 use Rattle.rescue_rules.specs.Machine.{Machine, pass_of, has_taken, is_live, is_wanted, IsRequest}
 use Rattle.rescue_rules.specs.Step.{Event, step}
 use Rattle.rescue_rules.specs.declared.report.Counts.{Counts}
+use Rattle.rescue_rules.specs.declared.tally.Tally.{Tally}
 use Rattle.rescue_rules.specs.Said.{is_line_due}
 use Rattle.rescue_rules.specs.MachineLaws.{StepsBy}
 use Rattle.rescue_rules.proofs.StepLemmas.{move_steps}
@@ -24,13 +25,12 @@ use Rattle.rescue_core.specs.declared.gather.Gathered.{Gathered}
 use Rattle.rescue_core.specs.declared.running.Running.TheInside.{Inside}
 use Rattle.rescue_core.specs.declared.settings.Settings.{Settings}
 use Rattle.rescue_core.specs.declared.state.Progress.{Progress}
-use Rattle.rescue_core.specs.declared.state.Tally.{Tally}
 use Rattle.rescue_core.specs.declared.turn.Turn.{Turn}
 use Rattle.rescue_core.specs.declared.turn.Advanced.{Advanced}
 use Rattle.rescue_core.specs.Across.{Across}
 use Rattle.rescue_core.specs.RunState.{RunState, setting_in, run_at, HasPlaces, IsRunning, HasCounts}
 use Rattle.rescue_core.specs.Turning.{turn_of, stepped, Halted}
-use Rattle.rescue_core.specs.TurnParts.{progress_of, tally_of, RunsAt, IsReadOf, Gathers, Advances}
+use Rattle.rescue_core.specs.TurnParts.{progress_of, RunsAt, IsReadOf, Gathers, Advances}
 use Rattle.rescue_core.specs.After.{Marks, GoesOnAfter}
 use Rattle.rescue_core.proofs.TurnLemmas.{Fits, request_fits, wanted_in, run_steps}
 use Rattle.rescue_core.proofs.RunningLemmas.{running_steps}
@@ -184,11 +184,11 @@ does_step p r room request got map' progress' tally' counts counts' advanced sou
     ∙ wanted_in s m n.map p.phase p.progress.pass 1 request.pos x (begins_fits p r room request b).wanted b.running.pass in
     let size : length m.map ≡ length d.old = ap (λ (l : List Status). length l) (sym d.old_is) in
     let place_is : progress' ≡ progress_of p.progress.pass n = d.goes.places before e at read turn size more in
-    let shown : d.goes.shown ≡ n.shown
+    let shown : d.goes.shown ≡ n.tally.shown
     = d.goes.shown_is
     ∙ ap (λ (q : Progress). record { pos = q.cursor; current = current_of p.phase; pass = q.pass }) place_is
     ∙ ap (λ (q : Pass). record { pos = n.cursor; current = current_of q.phase; pass = q.number }) (sym b.running.pass) in
-    let tally_is : tally' ≡ tally_of n
+    let tally_is : tally' ≡ n.tally
     = d.goes.tallies before e refl turn g.after shown (d.goes.meets e.reading g.cut) in
     run_steps p.settings p.domain p.names p.line p.map map' p.phase p.progress progress' p.tally tally' p.heard e map_is
     place_is tally_is

@@ -12,6 +12,7 @@ use Rattle.transfer_token.specs.Tokens.{IsCut}
 use Rattle.rescue_rules.specs.declared.phase.Phase.{Phase}
 use Rattle.rescue_rules.specs.declared.phase.Phase.TheVariants.{Trimming}
 use Rattle.rescue_rules.specs.declared.report.Counts.{Counts}
+use Rattle.rescue_rules.specs.declared.tally.Tally.{Tally}
 use Rattle.rescue_rules.specs.Passes.{numbered, current_of}
 use Rattle.rescue_rules.specs.Machine.{Machine, has_taken, is_wanted}
 use Rattle.rescue_rules.specs.Said.{is_line_due}
@@ -20,12 +21,11 @@ use Rattle.rescue_core.specs.declared.gather.Gathered.{Gathered}
 use Rattle.rescue_core.specs.declared.landing.Kept.{Kept}
 use Rattle.rescue_core.specs.declared.settings.Settings.{Settings}
 use Rattle.rescue_core.specs.declared.state.Progress.{Progress}
-use Rattle.rescue_core.specs.declared.state.Tally.{Tally}
 use Rattle.rescue_core.specs.declared.turn.Turn.{Turn}
 use Rattle.rescue_core.specs.declared.turn.Advanced.{Advanced}
 use Rattle.rescue_core.specs.RunState.{RunState, setting_in, HasCounts}
 use Rattle.rescue_core.specs.Turning.{turn_of, stepped}
-use Rattle.rescue_core.specs.TurnParts.{RunsAt, IsReadOf, progress_of, tally_of, fetched_of, end_met}
+use Rattle.rescue_core.specs.TurnParts.{RunsAt, IsReadOf, progress_of, fetched_of, end_met}
 use Rattle.rescue_core.specs.Counting.{IsMarkedRead}
 
 -- the marks of what was kept
@@ -51,9 +51,9 @@ Places settings phase progress request turn top more progress' =
 -- what it has come to
 abbrev pub Tallies : Tally → Turn → (after : ℕ) → MapState → (end : Option ℕ) → Tally → Type 0
 Tallies tally turn after shown end tally' =
-    (r : RunState) (e : Event) → tally ≡ tally_of r.machine → turn ≡ turn_of r e → e.after ≡ after
-    → shown ≡ (step (setting_in r) r.machine e).shown → end ≡ end_met e.reading
-    → tally' ≡ tally_of (step (setting_in r) r.machine e)
+    (r : RunState) (e : Event) → tally ≡ r.machine.tally → turn ≡ turn_of r e → e.after ≡ after
+    → shown ≡ (step (setting_in r) r.machine e).tally.shown → end ≡ end_met e.reading
+    → tally' ≡ (step (setting_in r) r.machine e).tally
 
 -- the counts of a run after a turn
 abbrev pub Recounts : Counts → Live → List Status → Phase → Request → Turn → (end : Option ℕ) → Counts → Type 0
@@ -82,5 +82,5 @@ pub record GoesOnAfter (settings : Settings) (domain : List Range) (phase : Phas
   pub recounts : Recounts counts left map' phase request got.turn end counts'
   pub answers : advanced.turn ≡ got.turn
   pub speaks : advanced.speaks ≡ is_line_due tally.said (current_of phase) (got.after / 1000)
-  pub saves : (m : Machine) (e : Event) → m.due_at ≡ tally.due_at → e.after ≡ got.after
+  pub saves : (m : Machine) (e : Event) → m.tally.due_at ≡ tally.due_at → e.after ≡ got.after
       → advanced.saves ≡ is_timely m e

@@ -28,7 +28,7 @@ pub record IsMarkedRead (r : RunState) (e : Event) (phase : Phase) (request : Re
   pub few : length e.reading.given ≤ request.len
   pub answers : turn ≡ turn_of r e
   pub domain_is : live.domain.now ≡ r.domain
-  pub over_is : live.over ≡ r.machine.over
+  pub over_is : live.over ≡ r.machine.tally.over
   pub map_is : map ≡ map_after (setting_in r) r.machine e.reading
 
 -- the positions that are left and failed, and those that are finished

@@ -19,7 +19,7 @@ pub record StandsAt (m : Machine) (phase : Phase) (progress : Progress) (statuse
   pub cursor : m.cursor ≡ progress.cursor
   pub mode : m.mode ≡ progress.mode
   pub map : m.map ≡ statuses
-  pub over : m.over ≡ end
+  pub over : m.tally.over ≡ end
 
 -- what is cut of the next range of a search, from p up to q: a range of positions of a domain that have a status
 pub record IsCutOf (f : RulesSearch) (sector : ℕ) (domain : ℕ → Bool) (map : List Status) (status : Status)

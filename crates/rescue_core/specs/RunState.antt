@@ -10,6 +10,7 @@ use Rattle.rescue_rules.specs.declared.phase.Phase.{Phase}
 use Rattle.rescue_rules.specs.declared.phase.Phase.TheVariants.{Copying, Trimming, Scraping}
 use Rattle.rescue_rules.specs.declared.stop.TrimMode.{TrimMode}
 use Rattle.rescue_rules.specs.declared.stop.TrimMode.TheVariants.{Lead, Tail}
+use Rattle.rescue_rules.specs.declared.tally.Tally.{Tally}
 use Rattle.rescue_rules.specs.Setting.{Setting}
 use Rattle.rescue_rules.specs.Passes.{passes_from, is_up, numbered}
 use Rattle.rescue_rules.specs.Machine.{Machine, pass_of, is_live}
@@ -21,7 +22,6 @@ use Rattle.rescue_rules.specs.Beginning.{first_pass, shown_at_first, machine_of}
 use Rattle.rescue_domain.specs.Parts.{covers}
 use Rattle.rescue_core.specs.declared.settings.Settings.{Settings}
 use Rattle.rescue_core.specs.declared.state.Progress.{Progress}
-use Rattle.rescue_core.specs.declared.state.Tally.{Tally}
 
 -- A run's settings, its domain, the names of its mapfile and its draft if there is a mapfile, and the command line. The
 -- phase and the pass that it is in, and how far it is. Whether it is heard: lines are asked for, and each was put.
@@ -99,16 +99,7 @@ machine_at s map phase progress tally = record {
   cursor = progress.cursor;
   mode = progress.mode;
   skip = progress.skip;
-  failed = tally.failed;
-  began = tally.began;
-  now = tally.now;
-  whole_at = tally.whole_at;
-  due_at = tally.due_at;
-  shown = tally.shown;
-  over = tally.over;
-  written = tally.written;
-  said = tally.said;
-  first_areas = tally.first_areas;
+  tally = tally;
 }
 
 -- the run that these parts make
@@ -185,4 +176,5 @@ passed r phase pass = record r {
 
 -- a run that shows another state
 abbrev pub run_showing : RunState → MapState → RunState
-run_showing r state = record r { machine = record r.machine { shown = state } }
+run_showing r state =
+    record r { machine = record r.machine { tally = record r.machine.tally { shown = state } } }

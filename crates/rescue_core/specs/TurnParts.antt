@@ -24,7 +24,6 @@ use Rattle.rescue_core.specs.declared.landing.Kept.{Kept}
 use Rattle.rescue_core.specs.declared.landing.Kept.TheVariants.{Whole as WholeKept, Part as PartKept, Nothing as NothingKept, Ended as EndedKept, Empty as EmptyKept}
 use Rattle.rescue_core.specs.declared.settings.Settings.{Settings}
 use Rattle.rescue_core.specs.declared.state.Progress.{Progress}
-use Rattle.rescue_core.specs.declared.state.Tally.{Tally}
 use Rattle.rescue_core.specs.declared.timed.Timed.{Timed}
 use Rattle.rescue_core.specs.declared.turn.Advanced.{Advanced}
 use Rattle.rescue_core.specs.RunState.{RunState, setting_in}
@@ -33,21 +32,6 @@ use Rattle.rescue_core.specs.Turning.{IsEvent, turn_of, stepped, move_by}
 -- where a state stands, in a pass with this number
 abbrev pub progress_of : (pass : ℕ) → Machine → Progress
 progress_of pass m = record { pass = pass; cursor = m.cursor; mode = m.mode; skip = m.skip }
-
--- what it has come to
-abbrev pub tally_of : Machine → Tally
-tally_of m = record {
-  failed = m.failed;
-  began = m.began;
-  now = m.now;
-  whole_at = m.whole_at;
-  due_at = m.due_at;
-  shown = m.shown;
-  over = m.over;
-  written = m.written;
-  said = m.said;
-  first_areas = m.first_areas;
-}
 
 -- a run with these settings, in this phase and at this place
 pub record RunsAt (settings : Settings) (phase : Phase) (progress : Progress) (r : RunState) : Type 0 where
@@ -119,5 +103,6 @@ pub record Advances (request : Request) (got : Advanced) (r r' : RunState) (sour
   pub steps : r' ≡ stepped r event r.heard
   pub writes : Makes (write_calls (setting_in r) event.reading) site site'
   pub speaks : got.speaks
-      ≡ is_line_due r.machine.said (move_by r event).after.shown.current ((move_by r event).after.now / 1000)
+      ≡ is_line_due r.machine.tally.said (move_by r event).after.tally.shown.current
+      ((move_by r event).after.tally.now / 1000)
   pub saves : got.saves ≡ is_timely r.machine event

@@ -11,7 +11,7 @@ use crate::landing::Kept;
 use crate::mark::mark;
 use crate::progress::progress_after;
 use crate::settings::Settings;
-use crate::state::{Progress, Tally};
+use crate::state::Progress;
 use crate::tally::{Due, shown_at, tally_after};
 use crate::turn::{Advanced, Turn};
 use crate::wanted::trims_on;
@@ -20,6 +20,7 @@ use rescue_domain::domain::Domain;
 use rescue_domain::live::Live;
 use rescue_rules::phase::Phase;
 use rescue_rules::report::Counts;
+use rescue_rules::tally::Tally;
 use transfer_token::token::Request;
 
 /// Marks what was kept and missed, moves cursor and skip on, and counts the read; tells what is due then.

@@ -3,12 +3,11 @@ ghost use Rattle.std.specs.Prelude.{◌≡◌, ◌-◌, Some, None, if◌then◌
 ghost use Rattle.rescue_rules.specs.declared.stop.Limit.TheVariants.{TimedOut};
 ghost use Rattle.rescue_rules.specs.Step.{areas_allowed, exceeds, limit_met, time_allowed};
 ghost use Rattle.rescue_core.specs.RunState.{RunState, HasCounts, setting_in};
-ghost use Rattle.rescue_core.specs.TurnParts.{tally_of};
 
 use crate::settings::Settings;
-use crate::state::Tally;
 use rescue_rules::report::Counts;
 use rescue_rules::stop::Limit;
+use rescue_rules::tally::Tally;
 use run_options::limits::AreaLimit;
 
 /// Whether a number is beyond a limit, if there is one.
@@ -23,7 +22,7 @@ fn exceeds(limit: Option<u64>, number: u64) -> bool
 
 /// Whether more areas have failed than may.
 fn has_too_many(settings: &Settings, tally: Tally, areas: u64) -> bool
-    ensures { (r : RunState) → r.settings ≡ settings.now → tally ≡ tally_of r.machine
+    ensures { (r : RunState) → r.settings ≡ settings.now → tally ≡ r.machine.tally
         → result ≡ exceeds (areas_allowed (setting_in r) r.machine) areas }
 {
     match settings.limits.areas {
@@ -35,9 +34,9 @@ fn has_too_many(settings: &Settings, tally: Tally, areas: u64) -> bool
 
 /// The limit of a run that had no read but failed ones for longer than may be.
 fn late(settings: &Settings, tally: Tally) -> Option<Limit>
-    ensures { (r : RunState) → r.settings ≡ settings.now → tally ≡ tally_of r.machine
-        → result ≡ (if exceeds (time_allowed (setting_in r)) (r.machine.now - r.machine.whole_at)
-        then Some (TimedOut (r.machine.now - r.machine.whole_at)) else None) }
+    ensures { (r : RunState) → r.settings ≡ settings.now → tally ≡ r.machine.tally
+        → result ≡ (if exceeds (time_allowed (setting_in r)) (r.machine.tally.now - r.machine.tally.whole_at)
+        then Some (TimedOut (r.machine.tally.now - r.machine.tally.whole_at)) else None) }
 {
     let seconds = settings.limits.timeout?;
     let idle = tally.now.saturating_sub(tally.whole_at);
@@ -50,7 +49,7 @@ fn late(settings: &Settings, tally: Tally) -> Option<Limit>
 
 /// The limit that a run has met, if it has, by what it has come to and its counts: none before its first event.
 pub(crate) fn limit_met(settings: &Settings, tally: Tally, counts: Counts) -> Option<Limit>
-    ensures { (r : RunState) → r.settings ≡ settings.now → tally ≡ tally_of r.machine → HasCounts r counts
+    ensures { (r : RunState) → r.settings ≡ settings.now → tally ≡ r.machine.tally → HasCounts r counts
         → result ≡ limit_met (setting_in r) r.machine }
 {
     if tally.said.is_none() {

@@ -215,35 +215,28 @@ impl<P: Stage, T: Tiles> Rescue<P, T> {
     pub fn settings(&self) -> &Settings
         ensures { result.now ≡ self.now.settings }
     {
-        self.running.settings()
+        &self.running.settings
     }
 
     /// The positions that the rescue asks for.
     pub fn domain(&self) -> &Domain
         ensures { result.now ≡ self.now.domain }
     {
-        self.running.domain()
+        &self.running.domain
     }
 
     /// The rescue's map.
     pub fn tiles(&self) -> &T
         ensures { T.statuses result.now ≡ self.now.machine.map }
     {
-        self.running.tiles()
-    }
-
-    /// The phase of its pass.
-    pub fn phase(&self) -> Phase
-        ensures { result ≡ self.now.phase }
-    {
-        self.running.phase()
+        &self.running.tiles
     }
 
     /// The number of its pass, counted from 1 within the phase.
     pub fn pass(&self) -> u32
         ensures { result ≡ self.now.pass }
     {
-        self.running.pass()
+        self.running.progress.pass
     }
 
     /// The next request of its pass.

@@ -27,7 +27,7 @@ use crate::line::{say_last, say_phase};
 use crate::request::{leads_up, next_lead, next_request};
 use crate::save_now::{save_now, save_or_sync};
 use crate::settings::Settings;
-use crate::state::{Progress, Tally};
+use crate::state::Progress;
 use crate::turn::{Advanced, Turn};
 use block_list::tiles::Tiles;
 use crash_site::site::Site;
@@ -41,6 +41,7 @@ use rescue_domain::live::Live;
 use rescue_rules::phase::Phase;
 use rescue_rules::report::{Counts, Report};
 use rescue_rules::stop::{Limit, RunEnd, Stop};
+use rescue_rules::tally::Tally;
 use save_resume::draft::SaveFault;
 use save_resume::names::Names;
 use std::marker::Model;
@@ -52,14 +53,14 @@ const MOST_NEW_BLOCKS: usize = 6;
 /// A run of a rescue between its turns, whatever its phase.
 #[derive(Drop)]
 pub(crate) struct Running<T: Tiles> {
-    settings: Settings,
-    domain: Domain,
-    tiles: T,
+    pub(crate) settings: Settings,
+    pub(crate) domain: Domain,
+    pub(crate) tiles: T,
     buf: Vec<u8>,
     names: Option<Names>,
     heading: Heading,
     phase: Phase,
-    progress: Progress,
+    pub(crate) progress: Progress,
     tally: Tally,
     counts: Counts,
     heard: bool,
@@ -120,36 +121,6 @@ impl<T: Tiles> Running<T> {
             counts,
             heard,
         }
-    }
-
-    pub fn settings(&self) -> &Settings
-        ensures { result.now ≡ self.now.settings }
-    {
-        &self.settings
-    }
-
-    pub fn domain(&self) -> &Domain
-        ensures { result.now ≡ self.now.domain }
-    {
-        &self.domain
-    }
-
-    pub fn tiles(&self) -> &T
-        ensures { T.statuses result.now ≡ self.now.machine.map }
-    {
-        &self.tiles
-    }
-
-    pub fn phase(&self) -> Phase
-        ensures { result ≡ self.now.phase }
-    {
-        self.phase
-    }
-
-    pub fn pass(&self) -> u32
-        ensures { result ≡ self.now.pass }
-    {
-        self.progress.pass
     }
 
     /// The next request of this pass.
@@ -353,7 +324,7 @@ impl<T: Tiles> Running<T> {
     /// Says the line after an event, if one is due. A console that fails isn't told any further.
     fn say_due<C: Console>(&mut self, due: bool, console: &mut C)
         ensures stands { self.new ≡ record self.old { heard = self.new.heard } }
-        ensures says { SpeaksOn (out_pieces (if due then report_text (phase_front self.old.machine.shown)
+        ensures says { SpeaksOn (out_pieces (if due then report_text (phase_front self.old.machine.tally.shown)
             (report_of (setting_in self.old) self.old.machine) ∷ [] else [])) self.old.heard self.new.heard
             (C.state console.old) (C.state console.new) }
     {

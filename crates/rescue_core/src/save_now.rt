@@ -6,10 +6,10 @@ ghost use Rattle.save_resume.specs.Saving.{save_calls, Saves};
 ghost use Rattle.rescue_rules.specs.Snapshots.{text_of};
 ghost use Rattle.rescue_core.specs.RunState.{names_in};
 
-use crate::state::Tally;
 use block_list::tiles::Tiles;
 use crash_site::site::{Site, SiteCall};
 use mapfile_text::heading::Heading;
+use rescue_rules::tally::Tally;
 use save_resume::draft::SaveFault;
 use save_resume::names::Names;
 use save_resume::save::save;

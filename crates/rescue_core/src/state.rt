@@ -1,9 +1,8 @@
-//! How far a run has come, and what it has counted.
+//! How far a run has come.
 use crate::request::start_of;
 use crate::settings::Settings;
-use mapfile_text::state::{Current, MapState};
+use mapfile_text::state::MapState;
 use rescue_rules::phase::COPYING_PASSES;
-use rescue_rules::report::Said;
 use rescue_rules::stop::TrimMode;
 
 /// How far a run has come in its map.
@@ -66,68 +65,6 @@ impl Progress {
                 cursor: state.pos.min(end),
                 ..progress
             }
-        }
-    }
-}
-
-/// What a run has come to. Times are in milliseconds since 1970.
-#[derive(Clone, Copy, Debug, PartialEq, Eq)]
-pub(crate) struct Tally {
-    /// How many reads failed.
-    pub failed: u64,
-    /// The start, the last event, the last read that didn't fail and the last save that was due.
-    pub began: u64,
-    pub now: u64,
-    pub whole_at: u64,
-    pub due_at: u64,
-    /// What a saved mapfile shows.
-    pub shown: MapState,
-    /// Where the input was found to end, if it was.
-    pub over: Option<u64>,
-    /// How many bytes were written.
-    pub written: u64,
-    /// The line that was put last after an event, if there was one.
-    pub said: Option<Said>,
-    /// How many areas had failed at the start.
-    pub first_areas: u64,
-}
-
-impl Tally {
-    ghost use Rattle.std.specs.Prelude.{◌≡◌, None};
-    ghost use Rattle.rescue_rules.specs.Beginning.{shown_at_first};
-
-    /// The tally of a run that begins at this moment, with `first_areas` areas that have failed. The run may go on with
-    /// a state that a mapfile showed.
-    pub fn first(loaded: Option<MapState>, moment: u64, first_areas: u64) -> Tally
-        ensures { result ≡ record {
-          failed = 0;
-          began = moment;
-          now = moment;
-          whole_at = moment;
-          due_at = moment;
-          shown = shown_at_first loaded;
-          over = None;
-          written = 0;
-          said = None;
-          first_areas = first_areas;
-        } }
-    {
-        let nothing = MapState {
-            pos: 0,
-            current: Current::Copying,
-            pass: 1,
-        };
-        Tally {
-            failed: 0,
-            began: moment,
-            now: moment,
-            whole_at: moment,
-            due_at: moment,
-            shown: loaded.unwrap_or(nothing),
-            over: None,
-            written: 0,
-            said: None,
-            first_areas,
         }
     }
 }

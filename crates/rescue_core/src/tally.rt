@@ -8,16 +8,17 @@ ghost use Rattle.rescue_rules.specs.Said.{is_line_due as line_due};
 ghost use Rattle.rescue_rules.specs.Step.{Event, is_timely, earlier, step};
 ghost use Rattle.rescue_core.specs.RunState.{RunState, setting_in};
 ghost use Rattle.rescue_core.specs.Turning.{turn_of};
-ghost use Rattle.rescue_core.specs.TurnParts.{IsReadOf, end_met, tally_of};
+ghost use Rattle.rescue_core.specs.TurnParts.{IsReadOf, end_met};
 
 use crate::due::{is_line_due, is_save_due};
 use crate::settings::Settings;
-use crate::state::{Progress, Tally};
+use crate::state::Progress;
 use crate::turn::Turn;
 use faulty_source::source::Got;
 use mapfile_text::state::{Current, MapState};
 use rescue_rules::phase::Phase;
 use rescue_rules::report::Said;
+use rescue_rules::tally::Tally;
 use transfer_token::token::Request;
 
 /// What a turn answers of what a read gave between two times, of which `kept` bytes were kept.
@@ -67,11 +68,11 @@ pub(crate) fn tally_after(
     shown: MapState,
     end: Option<u64>,
 ) -> Due
-    ensures tally { (r : RunState) (e : Event) → tally.old ≡ tally_of r.machine → turn ≡ turn_of r e
-        → e.after ≡ after → shown ≡ (step (setting_in r) r.machine e).shown → end ≡ end_met e.reading
-        → tally.new ≡ tally_of (step (setting_in r) r.machine e) }
+    ensures tally { (r : RunState) (e : Event) → tally.old ≡ r.machine.tally → turn ≡ turn_of r e
+        → e.after ≡ after → shown ≡ (step (setting_in r) r.machine e).tally.shown → end ≡ end_met e.reading
+        → tally.new ≡ (step (setting_in r) r.machine e).tally }
     ensures speaks { result.speaks ≡ line_due tally.old.said shown.current (after / 1000) }
-    ensures saves { (m : Machine) (e : Event) → m.due_at ≡ tally.old.due_at → e.after ≡ after
+    ensures saves { (m : Machine) (e : Event) → m.tally.due_at ≡ tally.old.due_at → e.after ≡ after
         → result.saves ≡ is_timely m e }
 {
     let second = after / 1000;

@@ -32,15 +32,17 @@ pub record IsUnlimited (s : Setting) : Type 0 where
 -- a state without its times and counts, of which no request depends
 abbrev pub quiet : Machine → Machine
 quiet m = record m {
-  failed = 0;
-  began = 0;
-  now = 0;
-  whole_at = 0;
-  due_at = 0;
-  shown = nothing_shown;
-  written = 0;
-  said = None;
-  first_areas = 0;
+  tally = record m.tally {
+    failed = 0;
+    began = 0;
+    now = 0;
+    whole_at = 0;
+    due_at = 0;
+    shown = nothing_shown;
+    written = 0;
+    said = None;
+    first_areas = 0;
+  };
 }
 
 -- ---- requests
@@ -112,7 +114,7 @@ after_by s m pos asked n over slow =
           else Lead;
       skip = if jump_by m asked n over slow then min (2 * m.skip) s.skips.most
           else if failed_by asked n over || slow then m.skip else s.skips.first;
-      over = if over then Some (earlier m.over (pos + n)) else m.over;
+      tally = record m.tally { over = if over then Some (earlier m.tally.over (pos + n)) else m.tally.over };
     })
 
 -- a step is that

@@ -260,18 +260,18 @@ end_cuts test s m e t few ended =
     let r : Reading = e.reading in
     let map : List Status = map_after s m r in
     let k : ℕ = r.pos + length r.given in
-    let over : over_after m r ≡ Some (earlier m.over k) = cond-true r.ended (Some (earlier m.over k)) m.over ended in
-    let last : is_before m.over (r.pos + r.asked - 1) ≡ true
+    let over : over_after m r ≡ Some (earlier m.tally.over k) = cond-true r.ended (Some (earlier m.tally.over k)) m.tally.over ended in
+    let last : is_before m.tally.over (r.pos + r.asked - 1) ≡ true
     = wanted_before s m (r.pos + r.asked - 1)
     (t.asks.wanted (r.pos + r.asked - 1) (omega (arith, t.asks.some)) (omega (arith, t.asks.some))) in
     record {
       front = λ x lt.
           ap (λ (o : Option ℕ). (s.domain x && is_before o x) && passes test (slice_get map x)) over
           ∙ ap (λ (b : Bool). (s.domain x && b) && passes test (slice_get map x))
-          (before_end m.over k (r.pos + r.asked - 1) x last (omega (arith, few, t.asks.some)) lt);
+          (before_end m.tally.over k (r.pos + r.asked - 1) x last (omega (arith, few, t.asks.some)) lt);
       back = λ x le.
           ap (λ (o : Option ℕ). (s.domain x && is_before o x) && passes test (slice_get map x)) over
-          ∙ ap (λ (b : Bool). (s.domain x && b) && passes test (slice_get map x)) (past_end m.over k x le)
+          ∙ ap (λ (b : Bool). (s.domain x && b) && passes test (slice_get map x)) (past_end m.tally.over k x le)
           ∙ ap (λ (b : Bool). b && passes test (slice_get map x)) (and_right (s.domain x) false refl);
     }
 
@@ -300,4 +300,4 @@ pub on_counts : (s : Setting) (m : Machine) (e : Event) → e.reading.ended ≡ 
     → counts_of (is_live s (step s m e)) (step s m e).map ≡ counts_of (is_live s m) (map_after s m e.reading)
 on_counts s m e on =
     ap (λ (o : Option ℕ). counts_of (λ x. s.domain x && is_before o x) (map_after s m e.reading))
-    (cond-false e.reading.ended (Some (earlier m.over (e.reading.pos + length e.reading.given))) m.over on)
+    (cond-false e.reading.ended (Some (earlier m.tally.over (e.reading.pos + length e.reading.given))) m.tally.over on)

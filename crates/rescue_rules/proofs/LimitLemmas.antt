@@ -22,7 +22,7 @@ said_some (Some old) current second =
     either_some (is_line_due (Some old) current second) (record { current = current; second = second }) old
 
 pub limits_after_events : LimitsAfterEvents
-limits_after_events s map from shown time m e = record { first = refl; after = said_some m.said _ _ }
+limits_after_events s map from shown time m e = record { first = refl; after = said_some m.tally.said _ _ }
 
 either_way : (b : Bool) (met : Option Limit) → (if b then met else met) ≡ met
 either_way true met = refl
@@ -30,4 +30,4 @@ either_way false met = refl
 
 -- a setting without limits meets none
 pub none_met : (s : Setting) (m : Machine) → s.limits ≡ no_limits → limit_met s m ≡ None
-none_met s m none = ap (λ (l : Limits). limit_met (record s { limits = l }) m) none ∙ either_way (is_none m.said) None
+none_met s m none = ap (λ (l : Limits). limit_met (record s { limits = l }) m) none ∙ either_way (is_none m.tally.said) None

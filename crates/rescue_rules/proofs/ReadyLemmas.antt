@@ -49,61 +49,16 @@ order_over s statuses state time =
 -- What stands in a state that goes on: all but the passes, the cursor, the mode and the skip.
 pub record Stays (m n : Machine) : Type 0 where
   pub map : n.map ≡ m.map
-  pub failed : n.failed ≡ m.failed
-  pub began : n.began ≡ m.began
-  pub now : n.now ≡ m.now
-  pub whole_at : n.whole_at ≡ m.whole_at
-  pub due_at : n.due_at ≡ m.due_at
-  pub shown : n.shown ≡ m.shown
-  pub over : n.over ≡ m.over
-  pub written : n.written ≡ m.written
-  pub said : n.said ≡ m.said
-  pub first_areas : n.first_areas ≡ m.first_areas
+  pub tally : n.tally ≡ m.tally
 
 stays_same : (m : Machine) → Stays m m
-stays_same m = record {
-  map = refl;
-  failed = refl;
-  began = refl;
-  now = refl;
-  whole_at = refl;
-  due_at = refl;
-  shown = refl;
-  over = refl;
-  written = refl;
-  said = refl;
-  first_areas = refl;
-}
+stays_same m = record { map = refl; tally = refl }
 
 stays_begun : (s : Setting) (m : Machine) (p : Pass) (ps : List Pass) → Stays m (begun s m p ps)
-stays_begun s m p ps = record {
-  map = refl;
-  failed = refl;
-  began = refl;
-  now = refl;
-  whole_at = refl;
-  due_at = refl;
-  shown = refl;
-  over = refl;
-  written = refl;
-  said = refl;
-  first_areas = refl;
-}
+stays_begun s m p ps = record { map = refl; tally = refl }
 
 pub stays_next : (s : Setting) (m : Machine) (ps : List Pass) → Stays m (at_next s m ps)
-stays_next s m [] = record {
-  map = refl;
-  failed = refl;
-  began = refl;
-  now = refl;
-  whole_at = refl;
-  due_at = refl;
-  shown = refl;
-  over = refl;
-  written = refl;
-  said = refl;
-  first_areas = refl;
-}
+stays_next s m [] = record { map = refl; tally = refl }
 stays_next s m (p ∷ ps) =
     cond_both (has_request s (begun s m p ps)) (begun s m p ps) (at_next s m ps) (Stays m)
     (λ on. stays_begun s m p ps)

@@ -4,6 +4,7 @@ use Rattle.std.specs.List.{slice_get}
 use Rattle.std.proofs.lemmas.List.Elements.{All-append, All-nil, All-cons, All-head, All-tail}
 use Rattle.std.proofs.lemmas.Option.{same_Some, none-some}
 use Rattle.faulty_source.specs.Journal.{Reading}
+use Rattle.rescue_rules.specs.declared.tally.Tally.{Tally}
 use Rattle.rescue_rules.specs.Setting.{Setting, IsSensible}
 use Rattle.rescue_rules.specs.Machine.{Machine}
 use Rattle.rescue_rules.specs.Step.{Event}
@@ -38,8 +39,8 @@ top = 2 ^ 32 - 1
 pub record IsTame (s : Setting) (end : ℕ) (m : Machine) : Type 0 where
   pub fits : Fits s far top m
   pub long : end ≤ length m.map
-  pub began : m.began < 2 ^ 64
-  pub now : m.now < 2 ^ 64
+  pub began : m.tally.began < 2 ^ 64
+  pub now : m.tally.now < 2 ^ 64
 
 tame_readable : (s : Setting) (end : ℕ) (m : Machine) → IsTame s end m → IsReadable end (snapshot_of m)
 tame_readable s end m h = record {
@@ -81,7 +82,7 @@ tame_move s ok end m e es order run timed h =
     record {
       fits = step_fits s far top (ready s m) e b (ready_fits s far top m h.fits);
       long = omega (arith, h.long, size, b.size);
-      began = omega (arith, h.began, (stays_ready s m).began);
+      began = omega (arith, h.began, ap (λ (t : Tally). t.began) (stays_ready s m).tally);
       now = timed;
     }
 

@@ -89,7 +89,7 @@ finished_unwanted s m x has wanted =
 
 pub wanted_domain : (s : Setting) (m : Machine) (x : ℕ) → is_wanted s m x ≡ true → s.domain x ≡ true
 wanted_domain s m x wanted =
-    (and_parts (s.domain x) (is_before m.over x)
+    (and_parts (s.domain x) (is_before m.tally.over x)
     (and_parts (is_live s m x) (has_taken m.passes (slice_get m.map x)) wanted).0).0
 
 -- in the mode of a range's back, trimming asks for the back of the range that begins there
@@ -362,7 +362,7 @@ step_tail s m e order t low =
     (λ at is good lt.
     let wanted : is_wanted s m at ≡ true = order.tail at is in
     let parts = and_parts (is_live s m at) (has_taken m.passes (slice_get m.map at)) wanted in
-    let live = and_parts (s.domain at) (is_before m.over at) parts.0 in
+    let live = and_parts (s.domain at) (is_before m.tally.over at) parts.0 in
     let same : slice_get (map_after s m r) at ≡ slice_get m.map at
     = ap (λ (map : List Status). slice_get map at)
     (cond-false (is_failed r) (scraped m.mode r.pos (with_rest s m r)) (with_kept s m r) (not-true (is_failed r) good))

@@ -42,16 +42,18 @@ machine_of s map from shown time = record {
   cursor = first_cursor s from map;
   mode = Lead;
   skip = s.skips.first;
-  failed = 0;
-  began = time;
-  now = time;
-  whole_at = time;
-  due_at = time;
-  shown = shown;
-  over = None;
-  written = 0;
-  said = None;
-  first_areas = (counts_of s.domain map).failed.areas;
+  tally = record {
+    failed = 0;
+    began = time;
+    now = time;
+    whole_at = time;
+    due_at = time;
+    shown = shown;
+    over = None;
+    written = 0;
+    said = None;
+    first_areas = (counts_of s.domain map).failed.areas;
+  };
 }
 
 -- a mapfile showed that its rescue was copying

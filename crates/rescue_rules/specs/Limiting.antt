@@ -11,7 +11,7 @@ use Rattle.rescue_rules.specs.Beginning.{machine_of}
 pub record LooksAtLimits (s : Setting) (map : List Status) (from : Option MapState) (shown : MapState) (time : ℕ)
     (m : Machine) (e : Event) : Type 0 where
   pub first : limit_met s (machine_of s map from shown time) ≡ None
-  pub after : is_none (step s m e).said ≡ false
+  pub after : is_none (step s m e).tally.said ≡ false
 
 abbrev pub LimitsAfterEvents : Type 0
 LimitsAfterEvents = (s : Setting) (map : List Status) (from : Option MapState) (shown : MapState) (time : ℕ)

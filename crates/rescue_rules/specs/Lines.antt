@@ -55,18 +55,18 @@ last_front done = if done then codes "finished" else codes "stopped"
 -- what a line tells of a state: its counts are those of what is left of the domain
 abbrev pub report_of : Setting → Machine → Report
 report_of s m = record {
-  shown = m.shown;
+  shown = m.tally.shown;
   counts = counts_of (is_live s m) m.map;
-  errors = m.failed;
-  taken = m.now - m.began;
-  written = m.written;
+  errors = m.tally.failed;
+  taken = m.tally.now - m.tally.began;
+  written = m.tally.written;
 }
 
 -- the line after a move, if one is due
 abbrev pub move_lines : Setting → Move → List (List ℕ)
 move_lines s v =
-    if is_line_due v.before.said v.after.shown.current (v.after.now / 1000)
-    then report_text (phase_front v.after.shown) (report_of s v.after) ∷ []
+    if is_line_due v.before.tally.said v.after.tally.shown.current (v.after.tally.now / 1000)
+    then report_text (phase_front v.after.tally.shown) (report_of s v.after) ∷ []
     else []
 
 -- the lines after the moves of events

@@ -4,7 +4,6 @@ use Rattle.std.specs.List.{list_any, range_with_len}
 use Rattle.block_list.specs.declared.status.Status.{Status}
 use Rattle.block_list.specs.Status.{same}
 use Rattle.block_list.specs.Places.{IsFirst, IsLast, IsRangeUp, IsRangeDown}
-use Rattle.mapfile_text.specs.declared.state.MapState.{MapState}
 use Rattle.faulty_source.specs.Ends.{is_before}
 use Rattle.faulty_source.specs.Journal.{floor}
 use Rattle.rescue_rules.specs.declared.stop.TrimMode.{TrimMode}
@@ -13,7 +12,7 @@ use Rattle.rescue_rules.specs.Setting.{Setting}
 use Rattle.rescue_rules.specs.declared.phase.Phase.{Phase}
 use Rattle.rescue_rules.specs.declared.phase.Phase.TheVariants.{Copying, Trimming, Scraping, Retrying}
 use Rattle.rescue_rules.specs.Passes.{Pass, taken, is_up, numbered}
-use Rattle.rescue_rules.specs.declared.report.Said.{Said}
+use Rattle.rescue_rules.specs.declared.tally.Tally.{Tally}
 
 pub record Machine : Type 0 where
   pub map : List Status
@@ -22,22 +21,8 @@ pub record Machine : Type 0 where
   pub cursor : ℕ
   pub mode : TrimMode
   pub skip : ℕ
-  -- how many reads failed; the times of the start, of the last event, of the last read that didn't fail and of the
-  -- last due save
-  pub failed : ℕ
-  pub began : ℕ
-  pub now : ℕ
-  pub whole_at : ℕ
-  pub due_at : ℕ
-  -- where a mapfile would say that it stands
-  pub shown : MapState
-  -- where reads met the input's end, if they did: what lies there or past it isn't asked for any more
-  pub over : Option ℕ
-  -- how many bytes were written, and the line that was put last, if an event had one
-  pub written : ℕ
-  pub said : Option Said
-  -- how many areas of the domain had failed at the start
-  pub first_areas : ℕ
+  -- its counts and times, the input's end if a read met it, and what it last showed and said
+  pub tally : Tally
 
 -- the pass that it is in
 abbrev pub pass_of : Machine → Pass
@@ -55,7 +40,7 @@ has_taken (p ∷ ps) (Some status) = same status (taken p.phase)
 
 -- the positions that are left of the domain
 abbrev pub is_live : Setting → Machine → ℕ → Bool
-is_live s m x = s.domain x && is_before m.over x
+is_live s m x = s.domain x && is_before m.tally.over x
 
 abbrev pub is_wanted : Setting → Machine → ℕ → Bool
 is_wanted s m x = is_live s m x && has_taken m.passes (slice_get m.map x)

@@ -28,7 +28,7 @@ text_of line p = printed (heading_at line p.began p.now) p.shown p.map
 
 -- what a save shows of a state
 abbrev pub snapshot_of : Machine → Snapshot
-snapshot_of m = record { map = m.map; shown = m.shown; began = m.began; now = m.now }
+snapshot_of m = record { map = m.map; shown = m.tally.shown; began = m.tally.began; now = m.tally.now }
 
 -- with a mapfile, a save is due after an event that comes long enough after the last due one, and meets no limit
 abbrev pub is_due : Setting → Move → Bool
@@ -36,7 +36,7 @@ is_due s v = s.has_mapfile && is_timely v.before v.event && is_none (limit_met s
 
 -- a finished run says so
 abbrev pub finished_snapshot : Machine → Snapshot
-finished_snapshot m = record (snapshot_of m) { shown = record m.shown { current = Finished; pass = 1 } }
+finished_snapshot m = record (snapshot_of m) { shown = record m.tally.shown { current = Finished; pass = 1 } }
 
 -- what the run's end saves
 abbrev pub last_snapshot : Setting → Machine → Snapshot

@@ -61,7 +61,7 @@ earlier (Some other) end = min other end
 
 -- where the input was found to end, after a read
 abbrev pub over_after : Machine → Reading → Option ℕ
-over_after m r = if r.ended then Some (earlier m.over (r.pos + length r.given)) else m.over
+over_after m r = if r.ended then Some (earlier m.tally.over (r.pos + length r.given)) else m.tally.over
 
 -- the kept part is finished, and of a read that failed the rest is marked; what an end cut off stands
 abbrev pub map_after : Setting → Machine → Reading → List Status
@@ -108,7 +108,7 @@ abbrev pub save_interval : ℕ
 save_interval = 30000
 
 abbrev pub is_timely : Machine → Event → Bool
-is_timely m e = nat_le (m.due_at + save_interval) e.after
+is_timely m e = nat_le (m.tally.due_at + save_interval) e.after
 
 -- the state after an event
 abbrev pub step : Setting → Machine → Event → Machine
@@ -121,14 +121,16 @@ step s m e =
           then mode_after m.mode (not (is_failed r)) (is_wanted s n (r.pos + r.asked)) r.pos (r.pos + r.asked)
           else Lead;
       skip = skip_after s m e;
-      failed = if is_failed r then raised m.failed else m.failed;
-      now = e.after;
-      whole_at = if is_failed r then m.whole_at else e.after;
-      due_at = if is_timely m e then e.after else m.due_at;
-      shown = record { pos = cursor_after s m e; current = current_of (pass_of m).phase; pass = (pass_of m).number };
-      over = over_after m r;
-      written = more_written m.written (kept s.sector r);
-      said = said_after m.said (current_of (pass_of m).phase) (e.after / 1000);
+      tally = record m.tally {
+        failed = if is_failed r then raised m.tally.failed else m.tally.failed;
+        now = e.after;
+        whole_at = if is_failed r then m.tally.whole_at else e.after;
+        due_at = if is_timely m e then e.after else m.tally.due_at;
+        shown = record { pos = cursor_after s m e; current = current_of (pass_of m).phase; pass = (pass_of m).number };
+        over = over_after m r;
+        written = more_written m.tally.written (kept s.sector r);
+        said = said_after m.tally.said (current_of (pass_of m).phase) (e.after / 1000);
+      };
     }
 
 abbrev pub exceeds : Option ℕ → ℕ → Bool
@@ -146,7 +148,7 @@ allowed_by first (New n) = first + n
 
 -- how many may have failed, if there is a limit
 abbrev pub areas_allowed : Setting → Machine → Option ℕ
-areas_allowed s m = option_map (allowed_by m.first_areas) s.limits.areas
+areas_allowed s m = option_map (allowed_by m.tally.first_areas) s.limits.areas
 
 -- how many milliseconds there may be no read but failed ones, if there is a limit
 abbrev pub time_allowed : Setting → Option ℕ
@@ -156,8 +158,9 @@ time_allowed s = option_map (λ n. n * 1000) s.limits.timeout
 -- didn't fail. Before the first event, which has its line, there is none.
 abbrev pub limit_met : Setting → Machine → Option Limit
 limit_met s m =
-    if is_none m.said then None
-    else if exceeds s.limits.errors m.failed then Some (TooManyErrors m.failed)
+    if is_none m.tally.said then None
+    else if exceeds s.limits.errors m.tally.failed then Some (TooManyErrors m.tally.failed)
     else if exceeds (areas_allowed s m) (areas_of s m) then Some (TooManyAreas (areas_of s m))
-    else if exceeds (time_allowed s) (m.now - m.whole_at) then Some (TimedOut (m.now - m.whole_at))
+    else if exceeds (time_allowed s) (m.tally.now - m.tally.whole_at)
+    then Some (TimedOut (m.tally.now - m.tally.whole_at))
     else None

@@ -5,3 +5,4 @@ pub mod laws;
 pub mod phase;
 pub mod report;
 pub mod stop;
+pub mod tally;

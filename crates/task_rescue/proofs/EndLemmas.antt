@@ -16,7 +16,6 @@ use Rattle.crash_site.specs.CallsMade.{Made, BrokeAt}
 use Rattle.crash_site.specs.SiteState.{SiteState}
 use Rattle.crash_site.specs.SiteChanges.{Breaks, Makes}
 use Rattle.mapfile_text.specs.declared.state.Current.TheVariants.{Finished}
-use Rattle.mapfile_text.specs.declared.state.MapState.{MapState}
 use Rattle.save_resume.specs.Saving.{save_calls, IsNameIn}
 use Rattle.save_resume.proofs.CallLemmas.{made_more, broke_front, broke_back, named_front, named_back}
 use Rattle.rescue_console.specs.ClockState.{ClockState, Reads as ReadsClock}
@@ -27,6 +26,7 @@ use Rattle.rescue_rules.specs.declared.stop.Stop.{Stop}
 use Rattle.rescue_rules.specs.declared.stop.Stop.TheVariants.{SourceLost, Site, NoMemory, LimitMet}
 use Rattle.rescue_rules.specs.declared.stop.RunEnd.{RunEnd}
 use Rattle.rescue_rules.specs.declared.stop.RunEnd.TheVariants.{Stopped}
+use Rattle.rescue_rules.specs.declared.tally.Tally.{Tally}
 use Rattle.rescue_rules.specs.Setting.{Setting}
 use Rattle.rescue_rules.specs.declared.phase.Phase.TheVariants.{Retrying}
 use Rattle.rescue_rules.specs.Machine.{Machine, IsRequest, has_request}
@@ -76,12 +76,9 @@ over_alike r m n over alike is =
 
 snapshot_alike : (s : Setting) (m n : Machine) → IsAlike s m n → snapshot_of n ≡ snapshot_of m
 snapshot_alike s m n alike =
-    let P : List Status → MapState → ℕ → ℕ → Snapshot = λ map shown began now.
-    record { map = map; shown = shown; began = began; now = now } in
-    ap (λ (map : List Status). P map n.shown n.began n.now) alike.map
-    ∙ ap (λ (shown : MapState). P m.map shown n.began n.now) alike.shown
-    ∙ ap (λ (began : ℕ). P m.map m.shown began n.now) alike.began
-    ∙ ap (P m.map m.shown m.began) alike.now
+    let P : List Status → Tally → Snapshot = λ map tally.
+    record { map = map; shown = tally.shown; began = tally.began; now = tally.now } in
+    ap (λ (map : List Status). P map n.tally) alike.map ∙ ap (P m.map) alike.tally
 
 pub finished_alike : (s : Setting) (m n : Machine) → IsAlike s m n → finished_snapshot n ≡ finished_snapshot m
 finished_alike s m n alike =

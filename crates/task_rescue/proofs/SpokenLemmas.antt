@@ -17,6 +17,7 @@ use Rattle.rescue_rules.specs.declared.report.Counts.{Counts}
 use Rattle.rescue_rules.specs.declared.report.Report.{Report}
 use Rattle.rescue_rules.specs.declared.stop.Stop.{Stop}
 use Rattle.rescue_rules.specs.declared.stop.RunEnd.{RunEnd}
+use Rattle.rescue_rules.specs.declared.tally.Tally.{Tally}
 use Rattle.rescue_rules.specs.Setting.{Setting}
 use Rattle.rescue_rules.specs.Machine.{Machine, IsRequest, is_live}
 use Rattle.rescue_rules.specs.Step.{Event, limit_met}
@@ -36,7 +37,7 @@ use Rattle.copy_passes.proofs.TurnLemmas.{IsOneMove, one_move, says_more}
 -- alike states tell the same
 pub report_alike : (s : Setting) (m n : Machine) → IsAlike s m n → report_of s n ≡ report_of s m
 report_alike s m n alike =
-    let live : is_live s n ≡ is_live s m = ap (λ (over : Option ℕ). λ x. s.domain x && is_before over x) alike.over in
+    let live : is_live s n ≡ is_live s m = ap (λ (t : Tally). λ x. s.domain x && is_before t.over x) alike.tally in
     let C : (ℕ → Bool) → List Status → Counts = counts_of in
     let counts : C (is_live s n) n.map ≡ C (is_live s m) m.map = cc in
     cc

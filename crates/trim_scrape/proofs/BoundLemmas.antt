@@ -1,11 +1,12 @@
 -- How often a run asks for a position.
-use Rattle.std.proofs.Common.{◌≡◌, ◌⊎◌, ℕ, zero, suc, ◌+◌, true, false, List, [], ◌∷◌, Option, Some, refl, sym, ap, subst, ◌∙◌, inl, inr, ⊎_elim}
+use Rattle.std.proofs.Common.{◌≡◌, ◌⊎◌, ℕ, zero, suc, ◌+◌, true, false, List, [], ◌∷◌, Some, refl, sym, ap, subst, ◌∙◌, inl, inr, ⊎_elim}
 use Rattle.std.proofs.lemmas.List.Elements.{All-get_or}
 use Rattle.std.proofs.lemmas.Option.{get_or_from_slice_get, same_Some, slice_get_within}
 use Rattle.block_list.specs.declared.status.Status.{Status}
 use Rattle.block_list.specs.declared.status.Status.TheVariants.{NonTried, NonTrimmed, NonScraped, BadSector, Finished}
 use Rattle.block_list.specs.Map.{Has}
 use Rattle.faulty_source.specs.Ends.{is_before}
+use Rattle.rescue_rules.specs.declared.tally.Tally.{Tally}
 use Rattle.rescue_rules.specs.declared.phase.Phase.{Phase}
 use Rattle.rescue_rules.specs.declared.phase.Phase.TheVariants.{Copying, Trimming, Scraping, Retrying}
 use Rattle.rescue_rules.specs.Setting.{Setting, IsSensible}
@@ -90,7 +91,7 @@ IsNarrowed m x = Has m.map BadSector x ⊎ Has m.map Finished x
 
 -- or it isn't left of the domain any more
 abbrev IsSettled : Machine → ℕ → Type 0
-IsSettled m x = is_before m.over x ≡ true → IsNarrowed m x
+IsSettled m x = is_before m.tally.over x ≡ true → IsNarrowed m x
 
 narrowed_has : (m : Machine) (t : Status) (x : ℕ) → IsNarrowed m x → Has m.map t x → (t ≡ BadSector) ⊎ (t ≡ Finished)
 narrowed_has m t x narrowed has =
@@ -137,7 +138,7 @@ narrowing_makes s m e x by on asks before =
 settled_ready : (s : Setting) (m : Machine) (x : ℕ) → IsSettled m x → IsSettled (ready s m) x
 settled_ready s m x settled before =
     narrowed_ready s m x
-    (settled (subst (λ (o : Option ℕ). is_before o x ≡ true) (stays_ready s m).over before))
+    (settled (subst (λ (t : Tally). is_before t.over x ≡ true) (stays_ready s m).tally before))
 
 narrowing_keeps : (s : Setting) (m : Machine) (e : Event) (x : ℕ) → Moves s m e → IsSettled m x
     → IsSettled (move_of s m e).after x

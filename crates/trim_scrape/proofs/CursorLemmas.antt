@@ -27,7 +27,7 @@ LiesAhead false cursor x = x < cursor
 -- Trimming goes back to its pass's start, so that it leaves each position; any other phase leaves what lies ahead; and
 -- neither anything past the input's end.
 pub record IsLeft (s : Setting) (m : Machine) (x : ℕ) : Type 0 where
-  pub before : is_before m.over x ≡ true
+  pub before : is_before m.tally.over x ≡ true
   pub ahead : is_trimming m ≡ false → LiesAhead (is_up s (pass_of m)) m.cursor x
 
 -- all but trimming search from the cursor on, in the pass's direction
@@ -197,7 +197,7 @@ start_by true len x within = (let e : 0 ≤ x = omega arith in e)
 start_by false len x within = within
 
 pub left_begun : (s : Setting) (m : Machine) (p : Pass) (ps : List Pass) (x : ℕ) → x < length m.map
-    → is_before m.over x ≡ true → IsLeft s (begun s m p ps) x
+    → is_before m.tally.over x ≡ true → IsLeft s (begun s m p ps) x
 left_begun s m p ps x within before =
     record { before = before; ahead = λ off. start_by (is_up s p) (length m.map) x within }
 

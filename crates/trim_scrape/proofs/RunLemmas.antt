@@ -1,9 +1,10 @@
 -- An event of a run, between states in order.
-use Rattle.std.proofs.Common.{◌≡◌, ℕ, ◌+◌, ◌≤◌, true, ◌&&◌, List, [], ◌∷◌, length, Option, refl, ap, sym, ◌∙◌}
+use Rattle.std.proofs.Common.{◌≡◌, ℕ, ◌+◌, ◌≤◌, true, ◌&&◌, List, [], ◌∷◌, length, refl, ap, sym, ◌∙◌}
 use Rattle.std.specs.List.{slice_get}
 use Rattle.block_list.specs.declared.status.Status.{Status}
 use Rattle.block_list.specs.Map.{Has}
 use Rattle.faulty_source.specs.Ends.{is_before}
+use Rattle.rescue_rules.specs.declared.tally.Tally.{Tally}
 use Rattle.rescue_rules.specs.Setting.{Setting, IsSensible}
 use Rattle.rescue_rules.specs.Passes.{taken}
 use Rattle.rescue_rules.specs.Machine.{Machine, pass_of, is_live, IsRequest}
@@ -61,7 +62,7 @@ asked_taken s m e x by asks = wanted_taken s (ready s m) x (by.steps.wanted x as
 -- what is left of the domain at a run's end was left at its start
 live_unready : (s : Setting) (m : Machine) (x : ℕ) → is_live s (ready s m) x ≡ true → is_live s m x ≡ true
 live_unready s m x live =
-    sym (ap (λ (o : Option ℕ). s.domain x && is_before o x) (stays_ready s m).over) ∙ live
+    sym (ap (λ (t : Tally). s.domain x && is_before t.over x) (stays_ready s m).tally) ∙ live
 
 pub run_live : (s : Setting) (m : Machine) (es : List Event) (x : ℕ) → is_live s (state_after s m es) x ≡ true
     → is_live s m x ≡ true

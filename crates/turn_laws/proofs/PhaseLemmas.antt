@@ -74,20 +74,7 @@ turns_run s r r' o setting tells w =
       alike =
           let a : IsAlike (nameless s) (state_after (nameless s) m w.events) r'.machine
           = subst (λ (x : Setting). IsAlike x (state_after x m w.events) r'.machine) setting w.state in
-          record {
-            map = a.map;
-            failed = a.failed;
-            began = a.began;
-            now = a.now;
-            whole_at = a.whole_at;
-            due_at = a.due_at;
-            shown = a.shown;
-            over = a.over;
-            written = a.written;
-            said = a.said;
-            first_areas = a.first_areas;
-            next = a.next;
-          };
+          record { map = a.map; tally = a.tally; next = a.next };
       calls = w.made.made tells
           ∙ ap (λ (cs : List Call). o.site.calls ++ map Done cs) (calls_named s (setting_in r) m w.events setting);
     }

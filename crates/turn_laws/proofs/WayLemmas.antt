@@ -1,5 +1,5 @@
 -- A run that is under way stays so.
-use Rattle.std.proofs.Common.{◌≡◌, ℕ, ◌+◌, ◌<◌, ◌≤◌, Bool, true, false, ◌&&◌, nat_le, nat_lt, Contains, if◌then◌else◌, List, [], ◌∷◌, ◌++◌, drop, Option, refl, sym, ap, subst, ◌∙◌, arith, append_assoc, ⊎_elim}
+use Rattle.std.proofs.Common.{◌≡◌, ℕ, ◌+◌, ◌<◌, ◌≤◌, Bool, true, false, ◌&&◌, nat_le, nat_lt, Contains, if◌then◌else◌, List, [], ◌∷◌, ◌++◌, drop, refl, sym, ap, subst, ◌∙◌, arith, append_assoc, ⊎_elim}
 use Rattle.std.specs.List.{slice_index_or}
 use Rattle.std.proofs.lemmas.Bool.{cond_both, leb-true, ltb-true, le-leb, lt-ltb, true≢false}
 use Rattle.std.proofs.lemmas.List.Elements.{All-contains, Contains-append_cases, Contains-append_right}
@@ -8,6 +8,7 @@ use Rattle.block_list.specs.declared.status.Status.TheVariants.{NonTried, NonTri
 use Rattle.block_list.specs.Map.{Has}
 use Rattle.faulty_source.specs.Ends.{is_before}
 use Rattle.rescue_rules.specs.declared.stop.TrimMode.{TrimMode}
+use Rattle.rescue_rules.specs.declared.tally.Tally.{Tally}
 use Rattle.rescue_rules.specs.declared.phase.Phase.{Phase}
 use Rattle.rescue_rules.specs.declared.phase.Phase.TheVariants.{Copying, Trimming, Scraping, Retrying}
 use Rattle.rescue_rules.specs.Setting.{Setting}
@@ -51,7 +52,7 @@ ahead_by true cursor x lies = le-leb cursor x lies
 ahead_by false cursor x lies = lt-ltb x cursor lies
 
 -- what a pass still comes to, it owes
-pub owes_by : (s : Setting) (m : Machine) (p : Pass) (x : ℕ) → is_before m.over x ≡ true → StillComes s m p x
+pub owes_by : (s : Setting) (m : Machine) (p : Pass) (x : ℕ) → is_before m.tally.over x ≡ true → StillComes s m p x
     → Owes s m p x
 owes_by s m p x before (Now ps is ahead) =
     OwedNow ps is (record {
@@ -133,7 +134,7 @@ to_come_ready : (s : Setting) (m : Machine) (p : Pass) → MayRun s m → IsToCo
 to_come_ready s m p may come x live has =
     let was : Has m.map (taken p.phase) x = has_unready s m (taken p.phase) x has in
     let inside : is_live s m x ≡ true
-    = sym (ap (λ (o : Option ℕ). s.domain x && is_before o x) (stays_ready s m).over) ∙ live in
+    = sym (ap (λ (t : Tally). s.domain x && is_before t.over x) (stays_ready s m).tally) ∙ live in
     comes_by s (ready s m) p x
     (owes_ready s m p x may.order may.passes (slice_get_within m.map x (taken p.phase) was) inside (λ all. was)
     (owes_by s m p x (live_before s m x inside) (come x inside was)))

@@ -82,7 +82,7 @@ left_well s m es x NonScraped e live within has =
     (λ (off : s.passes.scrapes ≡ false). Unscraped off has)
     (cases_Bool s.passes.scrapes)
 left_well s m es x BadSector e live within has =
-    let before : is_before m.over x ≡ true = live_before s m x (run_live s m es x live) in
+    let before : is_before m.tally.over x ≡ true = live_before s m x (run_live s m es x live) in
     Bad has (λ n comes.
     (owed_fails s m es (numbered Retrying n) x e.ok (may_run s m e.began) e.run e.over (record { last = λ is. absurd (cc) })
     live within has (owes_by s m (numbered Retrying n) x before comes)).there)

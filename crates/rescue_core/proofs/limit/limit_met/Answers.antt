@@ -4,13 +4,12 @@ use Rattle.rescue_rules.specs.declared.report.Counts.{Counts}
 use Rattle.rescue_rules.specs.declared.report.Said.{Said}
 use Rattle.rescue_rules.specs.declared.stop.Limit.{Limit}
 use Rattle.rescue_rules.specs.declared.stop.Limit.TheVariants.{TooManyErrors, TooManyAreas, TimedOut}
+use Rattle.rescue_rules.specs.declared.tally.Tally.{Tally}
 use Rattle.rescue_rules.specs.Setting.{Setting}
 use Rattle.rescue_rules.specs.Machine.{Machine}
 use Rattle.rescue_rules.specs.Step.{areas_allowed, areas_of, exceeds, limit_met, time_allowed}
 use Rattle.rescue_core.specs.declared.settings.Settings.{Settings}
-use Rattle.rescue_core.specs.declared.state.Tally.{Tally}
 use Rattle.rescue_core.specs.RunState.{RunState, HasCounts, setting_in}
-use Rattle.rescue_core.specs.TurnParts.{tally_of}
 use Rattle.rescue_core.proofs.limit.limit_met.Goals as goal
 
 -- a run with an event has its line
@@ -28,24 +27,24 @@ asked_later false false first later begun few = refl
 -- by the number of areas and the time
 abbrev late_limit : Setting → Machine → Option Limit
 late_limit s m =
-    if exceeds (time_allowed s) (m.now - m.whole_at) then Some (TimedOut (m.now - m.whole_at)) else None
+    if exceeds (time_allowed s) (m.tally.now - m.tally.whole_at) then Some (TimedOut (m.tally.now - m.tally.whole_at)) else None
 
 abbrev later_limit : Setting → Machine → (areas : ℕ) → Option Limit
 later_limit s m areas = if exceeds (areas_allowed s m) areas then Some (TooManyAreas areas) else late_limit s m
 
 met_later : (r : RunState) (settings : Settings) (tally : Tally) (counts : Counts) → r.settings ≡ settings
-    → tally ≡ tally_of r.machine → HasCounts r counts → is_none tally.said ≡ false
+    → tally ≡ r.machine.tally → HasCounts r counts → is_none tally.said ≡ false
     → exceeds settings.limits.errors tally.failed ≡ false
     → later_limit (setting_in r) r.machine counts.failed.areas ≡ limit_met (setting_in r) r.machine
 met_later r settings tally counts set is counted begun few =
     let s : Setting = setting_in r in
     let m : Machine = r.machine in
-    let begun_is : is_none m.said ≡ false = ap (λ (t : Tally). is_none t.said) (sym is) ∙ begun in
-    let few_are : exceeds s.limits.errors m.failed ≡ false =
-    ap (λ (t : Settings). exceeds t.limits.errors m.failed) set
+    let begun_is : is_none m.tally.said ≡ false = ap (λ (t : Tally). is_none t.said) (sym is) ∙ begun in
+    let few_are : exceeds s.limits.errors m.tally.failed ≡ false =
+    ap (λ (t : Settings). exceeds t.limits.errors m.tally.failed) set
     ∙ ap (λ (t : Tally). exceeds settings.limits.errors t.failed) (sym is) ∙ few in
     ap (λ (c : Counts). later_limit s m c.failed.areas) counted.counts_are
-    ∙ asked_later (is_none m.said) (exceeds s.limits.errors m.failed) (Some (TooManyErrors m.failed))
+    ∙ asked_later (is_none m.tally.said) (exceeds s.limits.errors m.tally.failed) (Some (TooManyErrors m.tally.failed))
     (later_limit s m (areas_of s m)) begun_is few_are
 
 chosen : (b : Bool) (x y : Option Limit) → b ≡ true → x ≡ (if b then x else y)

@@ -1,5 +1,5 @@
 use Rattle.std.proofs.Common.{length, ap, sym}
-use Rattle.rescue_core.specs.declared.state.Tally.{Tally}
+use Rattle.rescue_rules.specs.declared.tally.Tally.{Tally}
 use Rattle.rescue_core.proofs.BeginLemmas.{running_started, counted_started}
 use Rattle.rescue_core.proofs.running.Running.start.Goals as goal
 
