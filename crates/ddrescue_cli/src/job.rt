@@ -6,7 +6,7 @@ ghost use Rattle.ddrescue_cli.specs.Jobs.{IsAnswered, IsJobFor};
 
 use crate::aim::Aim;
 use ddrescue_words::command::{Command, Task, read_command};
-use option_values::command_error::CommandError;
+use option_words::command_error::CommandError;
 use option_words::words::Words;
 use std::alloc::Global;
 use task_files::checked::{CheckedCommand, check_command};

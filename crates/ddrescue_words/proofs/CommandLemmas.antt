@@ -7,9 +7,9 @@ use Rattle.option_words.specs.declared.reading.Item.{Item}
 use Rattle.option_words.specs.declared.fault.UsageFault.{UsageFault}
 use Rattle.option_words.specs.declared.fault.UsageFault.TheVariants.{BadValue}
 use Rattle.option_words.specs.Reading.{IsReading}
-use Rattle.option_values.specs.Values.{empty_operand, is_given}
-use Rattle.option_values.specs.Grammar.{AskForOnly, unless_empty}
-use Rattle.option_values.proofs.MeaningLemmas.{reading_asks as asked_only}
+use Rattle.option_words.specs.Values.{empty_operand, is_given}
+use Rattle.option_words.specs.Grammar.{AskForOnly, unless_empty}
+use Rattle.option_words.proofs.MeaningLemmas.{reading_asks as asked_only}
 use Rattle.ddrescue_words.specs.declared.options.Options.{Options}
 use Rattle.ddrescue_words.specs.declared.command.Task.{Task as TaskCode}
 use Rattle.ddrescue_words.specs.Options.{cluster_limit, cluster_of, option_meanings, options_in, quiet_letter, sectors_of}

@@ -1,8 +1,8 @@
 -- The rows that have a letter, and the one after them that has none.
 use Rattle.std.proofs.Common.{◌≡◌, ◌≢◌, ℕ, zero, suc, List, [], ◌∷◌, ◌++◌, length, slice_get, Option, Some, None, refl, sym, ◌∙◌, ap}
 use Rattle.std.specs.Option.{option_and_then}
-use Rattle.option_values.specs.Values.{letter_at, letter_meant, meanings_of, row_of}
-use Rattle.option_values.proofs.RowLemmas.{letter_given, row_by_letter}
+use Rattle.option_words.specs.Values.{letter_at, letter_meant, meanings_of, row_of}
+use Rattle.option_words.proofs.RowLemmas.{letter_given, row_by_letter}
 use Rattle.ddrescue_words.specs.Options.{lettered_rows, option_rows, sample_place, sample_row}
 
 -- what stands at a place of a list, if it isn't the last

@@ -5,9 +5,9 @@ use Rattle.std.proofs.lemmas.Bool.Decides.{nat_tests}
 use Rattle.std.proofs.lemmas.Option.{cond_some}
 use Rattle.std.proofs.lemmas.Str.Pattern.{IsSplitOnceResult, split_parts, contains_char}
 use Rattle.std.specs.Str.Pattern.{FindsChar, HasMatch}
-use Rattle.option_values.specs.Values.{is_empty_text, size_by}
+use Rattle.option_words.specs.Values.{is_empty_text, size_by}
 use Rattle.ddrescue_words.specs.Options.{with_first, comma_parts, default_skip, default_skip_max, size_if_given, skips_given, skips_in_parts, skips_of, whole_sectors}
-use Rattle.option_values.proofs.ValueLemmas.{then_part, size_by_below}
+use Rattle.option_words.proofs.ValueLemmas.{then_part, size_by_below}
 
 -- a text has no comma
 abbrev LacksComma : List ℕ → Type 0

@@ -7,11 +7,11 @@ use Rattle.option_words.specs.declared.reading.Item.{Item}
 use Rattle.option_words.specs.declared.reading.WordReading.{WordReading}
 use Rattle.option_words.specs.declared.fault.UsageFault.{UsageFault}
 use Rattle.option_words.specs.declared.fault.UsageFault.TheVariants.{BadValue, Conflict, Operands}
-use Rattle.option_values.specs.declared.command_error.CommandError.{CommandError}
-pub use Rattle.option_values.specs.Values.{IsWord, empty_operand}
-use Rattle.option_values.specs.Values.{is_given, is_of, last_of, last_value, word_in}
-pub use Rattle.option_values.specs.Grammar.{Unread, Wrong, unless_empty, unread_error}
-use Rattle.option_values.specs.Grammar.{Grammar, AreOptionsOf, AskFor, AskForOnly, AreRefusedBy, AskSilence, IsRefusalBy, IsErrorBy}
+use Rattle.option_words.specs.declared.command_error.CommandError.{CommandError}
+pub use Rattle.option_words.specs.Values.{IsWord, empty_operand}
+use Rattle.option_words.specs.Values.{is_given, is_of, last_of, last_value, word_in}
+pub use Rattle.option_words.specs.Grammar.{Unread, Wrong, unless_empty, unread_error}
+use Rattle.option_words.specs.Grammar.{Grammar, AreOptionsOf, AskFor, AskForOnly, AreRefusedBy, AskSilence, IsRefusalBy, IsErrorBy}
 use Rattle.run_options.specs.Passes.{all_phases_once}
 use Rattle.ddrescue_words.specs.declared.options.Options.{Options}
 use Rattle.ddrescue_words.specs.declared.command.Command.{Command as CommandCode}

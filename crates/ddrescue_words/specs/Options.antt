@@ -5,8 +5,8 @@ use Rattle.size_suffixes.specs.Interval.{interval}
 use Rattle.block_list.specs.Types.{types_of}
 use Rattle.option_words.specs.declared.row.Takes.TheVariants.{Never, Always}
 use Rattle.option_words.specs.declared.reading.Item.{Item}
-use Rattle.option_values.specs.Values.{Meaning, OptionRow, is_empty_text, is_name, meanings_of, number_by, size_by, within_range}
-use Rattle.option_values.specs.Values.{options_in as options_by}
+use Rattle.option_words.specs.Values.{Meaning, OptionRow, is_empty_text, is_name, meanings_of, number_by, size_by, within_range}
+use Rattle.option_words.specs.Values.{options_in as options_by}
 use Rattle.run_options.specs.declared.limits.AreaLimit.{AreaLimit}
 use Rattle.run_options.specs.declared.limits.AreaLimit.TheVariants.{New, Total}
 use Rattle.run_options.specs.Limits.{no_limits}

@@ -1,7 +1,7 @@
 //! What the words of a command line ask for.
 ghost use Rattle.std.specs.Prelude.{◌≡◌, All, Ok, Err, is_some, IfOk, IfErr, option_map};
 ghost use Rattle.option_words.specs.Spots.{HasSpot};
-ghost use Rattle.option_values.specs.Values.{IsWord};
+ghost use Rattle.option_words.specs.Values.{IsWord};
 ghost use Rattle.ddrescue_words.specs.Options.{options_in};
 ghost use Rattle.ddrescue_words.specs.Asking.{AreInLimits, AreOptions, IsErrorOf, IsTask, command_with, conflict_in, first_word, goes_with_sample, is_mode_given, later_word, maps_in, mode_task, modes_conflict, sample_command, sample_conflict, sample_task, task_by, task_read, task_with, test_conflict, told_by, wants_mapfile};
 
@@ -10,13 +10,13 @@ use crate::options::{
     TEST_MODE, option_table,
 };
 use block_list::types::TypeSet;
-use option_values::command_error::{CommandError, unread};
-use option_values::given::{is_given, last_of, last_value, letter_of};
-use option_values::operands::find_empty;
-use option_values::settings::{read_sector_in, read_settings};
+use option_words::command_error::{CommandError, unread};
 use option_words::fault::UsageFault;
+use option_words::given::{is_given, last_of, last_value, letter_of};
+use option_words::operands::find_empty;
 use option_words::reader::read_words;
 use option_words::reading::{Item, WordReading};
+use option_words::settings::{read_sector_in, read_settings};
 use option_words::table::OptionTable;
 use option_words::words::Words;
 use run_options::passes::Passes;

@@ -2,17 +2,17 @@
 ghost use Rattle.std.specs.Prelude.{◌≡◌, ◌^◌, ◌<◌, ◌≤◌, Some, option_map, option_and_then};
 ghost use Rattle.std.specs.Result.{result_ok};
 ghost use Rattle.size_suffixes.specs.Interval.{interval};
-ghost use Rattle.option_values.specs.Values.{number_by, row_of, set_by, size_by, within_range};
+ghost use Rattle.option_words.specs.Values.{number_by, row_of, set_by, size_by, within_range};
 ghost use Rattle.ddrescue_words.specs.Options.{area_limit_of, cluster_of, in_sectors, lettered_rows, no_options, option_rows, sample_of, sample_row, sectors_of, skips_of};
 ghost use Rattle.ddrescue_words.specs.Asking.{AreInLimits, AreOptions, is_too_large, wants_mapfile};
 
 use crate::skips::{DEFAULT_SKIP, DEFAULT_SKIP_MAX, in_sectors, read_skips};
 use block_list::types::TypeSet;
-use option_values::given::letter_of;
-use option_values::settings::Settings;
-use option_values::values::{is_name, number_by, size_by, within_range};
+use option_words::given::letter_of;
 use option_words::row::{Row, Takes};
+use option_words::settings::Settings;
 use option_words::table::OptionTable;
+use option_words::values::{is_name, number_by, size_by, within_range};
 use run_options::limits::{AreaLimit, Limits};
 use run_options::passes::Passes;
 use size_suffixes::interval::read_interval;

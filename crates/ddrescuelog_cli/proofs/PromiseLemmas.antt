@@ -4,8 +4,8 @@ use Rattle.std.proofs.lemmas.Bool.{cond_both}
 use Rattle.option_words.specs.declared.reading.Item.{Item}
 use Rattle.option_words.specs.declared.fault.UsageFault.{UsageFault}
 use Rattle.option_words.specs.declared.fault.UsageFault.TheVariants.{BadValue, Modes, PlaceTooLarge}
-use Rattle.option_values.specs.Grammar.{unless_empty}
-use Rattle.option_values.specs.Values.{empty_operand}
+use Rattle.option_words.specs.Grammar.{unless_empty}
+use Rattle.option_words.specs.Values.{empty_operand}
 use Rattle.program_promise.specs.World.{WorldState, Told}
 use Rattle.program_promise.specs.Kinds.{IsWorkKind, Wrong}
 use Rattle.program_promise.specs.WellMade.{IsWellMade}

@@ -11,7 +11,7 @@ use Rattle.save_resume.specs.Saving.{drafting_after_fault}
 use Rattle.option_words.specs.declared.fault.WordFault.TheVariants.{NoMemory as WordNoMemory}
 use Rattle.option_words.specs.declared.fault.UsageFault.{UsageFault}
 use Rattle.option_words.specs.declared.fault.UsageFault.TheVariants.{Word, BadValue, Conflict, Modes, Operands, PlaceTooLarge}
-use Rattle.fault_texts.specs.Texts.{error_text, fault_text, at_line, message_of}
+use Rattle.console_texts.specs.Texts.{error_text, fault_text, at_line, message_of}
 use Rattle.program_promise.specs.Kinds.{AtCall, AtTake, AtPut, is_silent_kind}
 use Rattle.program_promise.specs.Rows.{AnswerRow, asked_row, brought_row, failed_row, only_where, starved_row, usage_row}
 use Rattle.ddrescuelog_words.specs.Modes.{creates}

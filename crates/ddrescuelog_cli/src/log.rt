@@ -24,7 +24,7 @@ use crash_site::site::Site;
 use ddrescuelog_words::command::{Command, read_command};
 use ddrescuelog_words::mode::LogMode;
 use mapfile_text::heading::{Heading, Program};
-use option_values::command_error::CommandError;
+use option_words::command_error::CommandError;
 use option_words::words::Words;
 use program_promise::answer::say_ending;
 use rescue_console::console::Console;

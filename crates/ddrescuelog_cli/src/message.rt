@@ -4,8 +4,8 @@ ghost use Rattle.arrayvec.specs.ArrayVec.{array_vec_len};
 ghost use Rattle.ddrescuelog_cli.specs.Answers.{is_silent, map_error_text, message, text_of_ending, which_text};
 
 use crate::ending::{LogEnding, Which};
-use fault_texts::faults::{add_map_error, add_site_fault, add_usage};
-use fault_texts::message::{Message, add, add_number, begin, end};
+use console_texts::faults::{add_map_error, add_site_fault, add_usage};
+use console_texts::message::{Message, add, add_number, begin, end};
 use mapfile_text::read::MapError;
 use program_promise::answer::Answer;
 

@@ -7,7 +7,7 @@ use crate::ending::LogEnding;
 use crate::out::printed;
 use block_list::plain_tiles::PlainTiles;
 use block_list::tiles::NoMemory;
-use map_printing::put_map;
+use console_texts::printing::put_map;
 use mapfile_text::heading::Heading;
 use mapfile_text::state::MapState;
 use rescue_console::console::Console;

@@ -6,7 +6,7 @@ ghost use Rattle.ddrescuelog_cli.specs.Results.{status_name, count_line, domain_
 use crate::out::Buffer;
 use block_list::areas::Count;
 use block_list::status::Status;
-use fault_texts::message::{Message, add, add_number};
+use console_texts::message::{Message, add, add_number};
 use map_algebra::summary::Summary;
 use mapfile_text::state::MapState;
 

@@ -8,9 +8,9 @@ use Rattle.option_words.specs.declared.reading.Item.{Item}
 use Rattle.option_words.specs.declared.fault.UsageFault.{UsageFault}
 use Rattle.option_words.specs.declared.fault.UsageFault.TheVariants.{BadValue, Modes}
 use Rattle.option_words.specs.Reading.{IsReading}
-use Rattle.option_values.specs.Values.{empty_operand, is_name, last_value}
-use Rattle.option_values.specs.Grammar.{Unread, Wrong, unless_empty}
-use Rattle.option_values.proofs.MeaningLemmas.{reading_asks as asked_only}
+use Rattle.option_words.specs.Values.{empty_operand, is_name, last_value}
+use Rattle.option_words.specs.Grammar.{Unread, Wrong, unless_empty}
+use Rattle.option_words.proofs.MeaningLemmas.{reading_asks as asked_only}
 use Rattle.ddrescuelog_words.specs.declared.mode.LogMode.{LogMode}
 use Rattle.ddrescuelog_words.specs.declared.options.LogOptions.{LogOptions}
 use Rattle.ddrescuelog_words.specs.Modes.{creates, has_other, other_letter}

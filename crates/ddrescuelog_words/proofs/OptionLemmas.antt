@@ -10,12 +10,12 @@ use Rattle.block_list.specs.Status.{status_of_symbol}
 use Rattle.block_list.specs.Types.{types_of}
 use Rattle.option_words.specs.Rows.{is_letter}
 use Rattle.option_words.specs.declared.reading.Item.{Item}
-use Rattle.option_values.specs.Values.{OptionRow, default_sector, is_given, is_name, is_of, last_of, last_value, later, letter_meant, options_with, set_by, set_in_turn, size_by, value_of, with_item, with_sector, word_at}
-use Rattle.option_values.proofs.LastLemmas.{none_counts}
-use Rattle.option_values.proofs.RowLemmas.{EachRow, letter_given, row_passes, equal_letter}
-use Rattle.option_values.proofs.TurnLemmas.{IsSector, sector_in_turn, turn_parts, default_is}
-use Rattle.option_values.proofs.ValueLemmas.{map_part, or_part, size_by_below}
-use Rattle.option_values.proofs.QuietLemmas.{or_false, or_true}
+use Rattle.option_words.specs.Values.{OptionRow, default_sector, is_given, is_name, is_of, last_of, last_value, later, letter_meant, options_with, set_by, set_in_turn, size_by, value_of, with_item, with_sector, word_at}
+use Rattle.option_words.proofs.LastLemmas.{none_counts}
+use Rattle.option_words.proofs.RowLemmas.{EachRow, letter_given, row_passes, equal_letter}
+use Rattle.option_words.proofs.TurnLemmas.{IsSector, sector_in_turn, turn_parts, default_is}
+use Rattle.option_words.proofs.ValueLemmas.{map_part, or_part, size_by_below}
+use Rattle.option_words.proofs.QuietLemmas.{or_false, or_true}
 use Rattle.map_algebra.specs.declared.combine.Op.TheVariants.{And, Or, Xor}
 use Rattle.map_algebra.specs.Change.{change_of}
 use Rattle.ddrescuelog_words.specs.declared.mode.LogMode.{LogMode}

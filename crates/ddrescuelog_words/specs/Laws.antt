@@ -1,7 +1,7 @@
 -- What the definitions mean.
 use Rattle.std.specs.Prelude.{◌≢◌, ℕ, List}
 use Rattle.option_words.specs.declared.fault.UsageFault.TheVariants.{Modes}
-use Rattle.option_values.specs.Grammar.{HasOneMeaning as HasOneMeaningBy}
+use Rattle.option_words.specs.Grammar.{HasOneMeaning as HasOneMeaningBy}
 use Rattle.ddrescuelog_words.specs.Command.{AreRefused, log_grammar}
 
 -- Words ask for one thing at most, are refused for one fault at most, and never both.

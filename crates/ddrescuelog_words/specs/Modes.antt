@@ -3,7 +3,7 @@ use Rattle.std.specs.Prelude.{ℕ, Bool, true, false, List, [], ◌∷◌, Optio
 use Rattle.block_list.specs.declared.status.Status.{Status}
 use Rattle.block_list.specs.declared.status.Status.TheVariants.{NonTried, BadSector, Finished}
 use Rattle.block_list.specs.Status.{status_of_symbol}
-use Rattle.option_values.specs.Values.{is_name}
+use Rattle.option_words.specs.Values.{is_name}
 use Rattle.map_algebra.specs.declared.combine.Op.{Op}
 use Rattle.map_algebra.specs.declared.combine.Op.TheVariants.{And, Or, Xor}
 use Rattle.ddrescuelog_words.specs.declared.mode.LogMode.{LogMode}

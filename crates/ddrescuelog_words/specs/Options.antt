@@ -4,8 +4,8 @@ use Rattle.block_list.specs.Types.{types_of}
 use Rattle.option_words.specs.declared.row.Takes.{Takes}
 use Rattle.option_words.specs.declared.row.Takes.TheVariants.{Never, Always, Optional}
 use Rattle.option_words.specs.declared.reading.Item.{Item}
-use Rattle.option_values.specs.Values.{Meaning, OptionRow, is_name, meanings_of, size_by}
-use Rattle.option_values.specs.Values.{options_in as options_by}
+use Rattle.option_words.specs.Values.{Meaning, OptionRow, is_name, meanings_of, size_by}
+use Rattle.option_words.specs.Values.{options_in as options_by}
 use Rattle.map_algebra.specs.declared.combine.Op.TheVariants.{And, Or, Xor}
 use Rattle.map_algebra.specs.Change.{change_of, inverting}
 use Rattle.ddrescuelog_words.specs.declared.mode.LogMode.{LogMode}

@@ -1,6 +1,6 @@
 //! The options of `ddrescuelog`, and what they ask for.
 ghost use Rattle.std.specs.Prelude.{◌≡◌, ◌<◌, ◌≤◌, option_map};
-ghost use Rattle.option_values.specs.Values.{row_of, set_by};
+ghost use Rattle.option_words.specs.Values.{row_of, set_by};
 ghost use Rattle.ddrescuelog_words.specs.Modes.{one_type, two_types, with_map};
 ghost use Rattle.ddrescuelog_words.specs.Options.{ends_beyond, no_options, option_rows};
 ghost use Rattle.ddrescuelog_words.specs.Command.{AreOptions};
@@ -10,11 +10,11 @@ use block_list::status::Status;
 use block_list::types::TypeSet;
 use map_algebra::change::TypeChange;
 use map_algebra::combine::Op;
-use option_values::given::letter_of;
-use option_values::settings::Settings;
-use option_values::values::{is_name, size_by};
+use option_words::given::letter_of;
 use option_words::row::{Row, Takes};
+use option_words::settings::Settings;
 use option_words::table::OptionTable;
+use option_words::values::{is_name, size_by};
 
 /// The least end that is too large for a map.
 const END_LIMIT: u64 = 1 << 63;

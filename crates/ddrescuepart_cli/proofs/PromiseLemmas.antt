@@ -3,7 +3,7 @@ use Rattle.std.proofs.Common.{ℕ, Bool, List, [], ◌∷◌, Option, Some, None
 use Rattle.std.proofs.lemmas.Bool.{cond_both}
 use Rattle.faulty_source.proofs.Keeping.{keeps_self}
 use Rattle.option_words.specs.Words.{word}
-use Rattle.option_values.specs.Values.{is_empty_text, is_given}
+use Rattle.option_words.specs.Values.{is_empty_text, is_given}
 use Rattle.work_rules.specs.Work.{Deeds}
 use Rattle.program_promise.specs.World.{WorldState}
 use Rattle.program_promise.specs.Kinds.{IsWorkKind}

@@ -1,7 +1,7 @@
 -- The row of each answer, from which follows what it says of the words, which count rose, its exit status and its
 -- message; and what it says of the disk. No row stands for several answers.
 use Rattle.std.specs.Prelude.{◌≡◌, ℕ, Bool, true, List, codes, is_some}
-use Rattle.fault_texts.specs.Texts.{message_of}
+use Rattle.console_texts.specs.Texts.{message_of}
 use Rattle.program_promise.specs.Kinds.{AtOpen, AtRead, AtPut, is_silent_kind}
 use Rattle.program_promise.specs.Rows.{AnswerRow, asked_row, brought_row, failed_row, starved_row, wrong_row}
 use Rattle.partition_domain.specs.declared.stop.SearchStop.{SearchStop}

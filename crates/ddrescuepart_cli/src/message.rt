@@ -4,8 +4,8 @@ ghost use Rattle.arrayvec.specs.ArrayVec.{array_vec_len};
 ghost use Rattle.ddrescuepart_cli.specs.Answers.{is_silent, message, text_of_ending};
 
 use crate::ending::PartEnding;
-use fault_texts::faults::add_usage;
-use fault_texts::message::{Message, add, begin, end};
+use console_texts::faults::add_usage;
+use console_texts::message::{Message, add, begin, end};
 use program_promise::answer::Answer;
 
 /// The program's name, which begins its command line and its messages.

@@ -14,7 +14,7 @@ use block_list::tiles::NoMemory;
 use ddrescuepart_words::command::{Command, read_command};
 use faulty_source::source::Source;
 use mapfile_text::heading::{Heading, Program};
-use option_values::command_error::CommandError;
+use option_words::command_error::CommandError;
 use option_words::words::Words;
 use partition_domain::domain::{make_room, print_domain};
 use partition_domain::find::find_partition;

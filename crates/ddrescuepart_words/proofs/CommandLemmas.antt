@@ -6,9 +6,9 @@ use Rattle.option_words.specs.declared.reading.Item.{Item}
 use Rattle.option_words.specs.declared.fault.UsageFault.{UsageFault}
 use Rattle.option_words.specs.declared.fault.UsageFault.TheVariants.{BadValue}
 use Rattle.option_words.specs.Reading.{IsReading}
-use Rattle.option_values.specs.Values.{is_empty_text, is_given, number_by}
-use Rattle.option_values.proofs.ValueLemmas.{in_range}
-use Rattle.option_values.proofs.MeaningLemmas.{reading_asks as asked_only}
+use Rattle.option_words.specs.Values.{is_empty_text, is_given, number_by}
+use Rattle.option_words.proofs.ValueLemmas.{in_range}
+use Rattle.option_words.proofs.MeaningLemmas.{reading_asks as asked_only}
 use Rattle.ddrescuepart_words.specs.Command.{AreOptions, Command, IsAsked, command_in, last_partition, option_meanings, part_grammar, partition_by, quiet_letter, with_operands, with_partition}
 
 -- what is asked for by two operands

@@ -7,9 +7,9 @@ use Rattle.option_words.specs.declared.reading.Item.{Item}
 use Rattle.option_words.specs.declared.reading.WordReading.{WordReading}
 use Rattle.option_words.specs.declared.fault.UsageFault.{UsageFault}
 use Rattle.option_words.specs.declared.fault.UsageFault.TheVariants.{BadValue, Operands}
-use Rattle.option_values.specs.declared.command_error.CommandError.{CommandError}
-use Rattle.option_values.specs.Values.{Meaning, is_empty_text, is_given, number_by, within_range}
-use Rattle.option_values.specs.Grammar.{Grammar, AreOptionsOf, AskFor, AreRefusedBy, AskSilence, IsErrorBy}
+use Rattle.option_words.specs.declared.command_error.CommandError.{CommandError}
+use Rattle.option_words.specs.Values.{Meaning, is_empty_text, is_given, number_by, within_range}
+use Rattle.option_words.specs.Grammar.{Grammar, AreOptionsOf, AskFor, AreRefusedBy, AskSilence, IsErrorBy}
 use Rattle.ddrescuepart_words.specs.declared.command.Command.{Command as CommandCode}
 
 -- the infile's name, the number of the partition, counted from 1, and whether nothing is to be said

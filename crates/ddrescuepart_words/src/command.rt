@@ -1,16 +1,16 @@
 //! What the words of a command line ask for.
 ghost use Rattle.std.specs.Prelude.{◌≡◌, All, Ok, Err, IfOk, IfErr};
-ghost use Rattle.option_values.specs.Values.{IsWord};
+ghost use Rattle.option_words.specs.Values.{IsWord};
 ghost use Rattle.ddrescuepart_words.specs.Command.{AreOptions, IsAsked, IsErrorOf, command_read, partition_by, told_by, with_operands};
 
-use option_values::command_error::{CommandError, unread};
-use option_values::given::is_given;
-use option_values::values::{number_by, within_range};
+use option_words::command_error::{CommandError, unread};
 use option_words::fault::UsageFault;
+use option_words::given::is_given;
 use option_words::reader::read_words;
 use option_words::reading::WordReading;
 use option_words::row::{Row, Takes};
 use option_words::table::OptionTable;
+use option_words::values::{number_by, within_range};
 use option_words::words::Words;
 use std::alloc::Global;
 

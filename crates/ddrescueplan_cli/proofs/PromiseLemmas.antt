@@ -10,7 +10,7 @@ use Rattle.option_words.specs.Words.{word}
 use Rattle.option_words.specs.declared.fault.UsageFault.{UsageFault}
 use Rattle.option_words.specs.declared.fault.UsageFault.TheVariants.{BadValue}
 use Rattle.option_words.specs.declared.reading.Item.{Item}
-use Rattle.option_values.specs.Values.{is_empty_text}
+use Rattle.option_words.specs.Values.{is_empty_text}
 use Rattle.ddrescue_words.specs.Asking.{is_too_large}
 use Rattle.work_rules.specs.Work.{Deeds}
 use Rattle.work_rules.specs.Verdicts.{IsOnce}

@@ -4,8 +4,8 @@ ghost use Rattle.arrayvec.specs.ArrayVec.{array_vec_len};
 ghost use Rattle.ddrescueplan_cli.specs.Answers.{is_silent, message, text_of_ending};
 
 use crate::ending::PlanEnding;
-use fault_texts::faults::{add_map_error, add_site_fault, add_usage};
-use fault_texts::message::{Message, add, begin, end};
+use console_texts::faults::{add_map_error, add_site_fault, add_usage};
+use console_texts::message::{Message, add, begin, end};
 use program_promise::answer::Answer;
 
 /// The program's name, which begins its messages.

@@ -8,7 +8,7 @@ ghost use Rattle.ddrescueplan_cli.specs.Ddrescueplan.{Ddrescueplan, PlanDone, Pl
 use crate::ending::PlanEnding;
 use crash_site::site::Site;
 use ddrescueplan_words::command::{Command, read_command};
-use option_values::command_error::CommandError;
+use option_words::command_error::CommandError;
 use option_words::words::Words;
 use program_promise::answer::say_ending;
 use rescue_console::console::Console;

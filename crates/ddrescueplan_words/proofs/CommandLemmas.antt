@@ -6,9 +6,9 @@ use Rattle.option_words.specs.declared.reading.Item.{Item}
 use Rattle.option_words.specs.declared.fault.UsageFault.{UsageFault}
 use Rattle.option_words.specs.declared.fault.UsageFault.TheVariants.{BadValue}
 use Rattle.option_words.specs.Reading.{IsReading}
-use Rattle.option_values.specs.Values.{is_empty_text, size_by}
-use Rattle.option_values.proofs.MeaningLemmas.{reading_asks as asked_only}
-use Rattle.option_values.proofs.ValueLemmas.{in_range}
+use Rattle.option_words.specs.Values.{is_empty_text, size_by}
+use Rattle.option_words.proofs.MeaningLemmas.{reading_asks as asked_only}
+use Rattle.option_words.proofs.ValueLemmas.{in_range}
 use Rattle.ddrescue_words.specs.declared.options.Options.{Options}
 use Rattle.ddrescue_words.specs.Options.{cluster_limit, cluster_of}
 use Rattle.ddrescue_words.specs.Asking.{AreInLimits as AreRescueLimits, is_too_large}

@@ -4,11 +4,11 @@ use Rattle.std.proofs.lemmas.Option.{same_Some}
 use Rattle.std.specs.Option.{option_map, option_and_then}
 use Rattle.option_words.specs.Rows.{is_letter}
 use Rattle.option_words.specs.declared.reading.Item.{Item}
-use Rattle.option_values.specs.Values.{OptionRow, default_sector, is_given, is_of, letter_meant, number_by, options_with, row_of, set_by, set_in_turn, size_by, value_of, with_item, with_sector, within_range, word_at}
-use Rattle.option_values.proofs.RowLemmas.{EachRow, letter_given, row_passes}
-use Rattle.option_values.proofs.TurnLemmas.{IsSector, sector_in_turn, turn_parts, default_is}
-use Rattle.option_values.proofs.ValueLemmas.{in_range, map_part, or_part, size_by_below, then_part}
-use Rattle.option_values.proofs.QuietLemmas.{or_false, or_true}
+use Rattle.option_words.specs.Values.{OptionRow, default_sector, is_given, is_of, letter_meant, number_by, options_with, row_of, set_by, set_in_turn, size_by, value_of, with_item, with_sector, within_range, word_at}
+use Rattle.option_words.proofs.RowLemmas.{EachRow, letter_given, row_passes}
+use Rattle.option_words.proofs.TurnLemmas.{IsSector, sector_in_turn, turn_parts, default_is}
+use Rattle.option_words.proofs.ValueLemmas.{in_range, map_part, or_part, size_by_below, then_part}
+use Rattle.option_words.proofs.QuietLemmas.{or_false, or_true}
 use Rattle.ddrescue_words.specs.declared.options.Options.{Options}
 use Rattle.ddrescue_words.specs.Options.{skips_of, option_rows as rescue_rows, no_options as no_rescue_options}
 use Rattle.ddrescue_words.proofs.SkipLemmas.{AreSkips, skips_of_are}

@@ -3,8 +3,8 @@ use Rattle.std.specs.Prelude.{ℕ, List, [], ◌∷◌, map, Option, Some, None,
 use Rattle.option_words.specs.declared.row.Takes.{Takes}
 use Rattle.option_words.specs.declared.row.Takes.TheVariants.{Never}
 use Rattle.option_words.specs.declared.reading.Item.{Item}
-use Rattle.option_values.specs.Values.{Meaning, OptionRow, meanings_of, row_of, set_by}
-use Rattle.option_values.specs.Values.{options_in as options_by}
+use Rattle.option_words.specs.Values.{Meaning, OptionRow, meanings_of, row_of, set_by}
+use Rattle.option_words.specs.Values.{options_in as options_by}
 use Rattle.ddrescue_words.specs.declared.options.Options.{Options}
 use Rattle.ddrescue_words.specs.Options.{option_rows as rescue_rows, no_options as no_rescue_options}
 use Rattle.ddrescueplan_words.specs.declared.options.PlanOptions.{PlanOptions}

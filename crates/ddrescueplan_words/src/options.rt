@@ -4,8 +4,8 @@ ghost use Rattle.ddrescueplan_words.specs.Options.{no_options, of_rescue, option
 ghost use Rattle.ddrescueplan_words.specs.Command.{AreOptions};
 
 use ddrescue_words::options::Options;
-use option_values::settings::Settings;
 use option_words::row::{Row, Takes};
+use option_words::settings::Settings;
 use option_words::table::OptionTable;
 
 /// The letter of the option that gives the size of a sector.

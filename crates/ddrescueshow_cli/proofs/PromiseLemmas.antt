@@ -8,8 +8,8 @@ use Rattle.save_resume.specs.Named.{map_mode}
 use Rattle.save_resume.proofs.AnswerLemmas.{not_there, refused_for_one}
 use Rattle.option_words.specs.declared.fault.UsageFault.{UsageFault}
 use Rattle.option_words.specs.declared.reading.Item.{Item}
-use Rattle.option_values.specs.Values.{empty_operand}
-use Rattle.option_values.specs.Grammar.{unless_empty}
+use Rattle.option_words.specs.Values.{empty_operand}
+use Rattle.option_words.specs.Grammar.{unless_empty}
 use Rattle.work_rules.specs.Work.{Deeds, Take, WorkStep, Works}
 use Rattle.work_rules.specs.Verdicts.{IsOnce}
 use Rattle.program_promise.specs.World.{WorldState}

@@ -3,7 +3,7 @@ use Rattle.std.specs.Prelude.{◌≡◌, ◌≢◌, ℕ, Bool, true, false, List
 use Rattle.fault_count.specs.Counts.{raised}
 use Rattle.rescue_console.specs.ConsoleState.{ConsoleState}
 use Rattle.rescue_console.specs.FeedState.{FeedState}
-use Rattle.fault_texts.specs.Texts.{message_of}
+use Rattle.console_texts.specs.Texts.{message_of}
 use Rattle.ddrescueshow_cli.specs.Names.{program_name}
 use Rattle.ddrescueshow_cli.specs.declared.follow.FollowEnding.{FollowEnding}
 use Rattle.ddrescueshow_cli.specs.declared.follow.FollowEnding.TheVariants.{Done, NotAlone, FeedFault, ConsoleFault, NoMemory}

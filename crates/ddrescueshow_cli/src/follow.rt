@@ -7,7 +7,7 @@ ghost use Rattle.ddrescueshow_cli.specs.PutLines.{Goes, PutsAll, first_stage};
 
 use crate::follower::Follower;
 use crate::message::PROGRAM;
-use fault_texts::message::{Message, add, begin, end};
+use console_texts::message::{Message, add, begin, end};
 use program_promise::answer::{Answer, say_ending};
 use rescue_console::console::Console;
 use rescue_console::feed::Feed;

@@ -20,7 +20,7 @@ use block_list::tiles::{NoMemory, Tiles};
 use crash_site::site::Site;
 use ddrescueshow_words::command::{Command, read_command};
 use ddrescueshow_words::options::ShowOptions;
-use option_values::command_error::CommandError;
+use option_words::command_error::CommandError;
 use option_words::words::Words;
 use program_promise::answer::say_ending;
 use rescue_console::console::{Channel, Console};

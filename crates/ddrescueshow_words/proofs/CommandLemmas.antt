@@ -4,9 +4,9 @@ use Rattle.option_words.specs.declared.row.Row.{Row}
 use Rattle.option_words.specs.declared.reading.Item.{Item}
 use Rattle.option_words.specs.declared.fault.UsageFault.{UsageFault}
 use Rattle.option_words.specs.Reading.{IsReading}
-use Rattle.option_values.specs.Values.{empty_operand}
-use Rattle.option_values.specs.Grammar.{unless_empty}
-use Rattle.option_values.proofs.MeaningLemmas.{reading_asks as asked_only}
+use Rattle.option_words.specs.Values.{empty_operand}
+use Rattle.option_words.specs.Grammar.{unless_empty}
+use Rattle.option_words.proofs.MeaningLemmas.{reading_asks as asked_only}
 use Rattle.ddrescueshow_words.specs.declared.options.ShowOptions.{ShowOptions}
 use Rattle.ddrescueshow_words.specs.Options.{options_in}
 use Rattle.ddrescueshow_words.specs.Command.{Command, AreInLimits, AreOptions, IsAsked, command_with, command_by, command_in, show_grammar}

@@ -6,9 +6,9 @@ use Rattle.option_words.specs.declared.reading.Item.{Item}
 use Rattle.option_words.specs.declared.reading.WordReading.{WordReading}
 use Rattle.option_words.specs.declared.fault.UsageFault.{UsageFault}
 use Rattle.option_words.specs.declared.fault.UsageFault.TheVariants.{BadValue, Operands}
-use Rattle.option_values.specs.declared.command_error.CommandError.{CommandError}
-use Rattle.option_values.specs.Values.{empty_operand, last_value}
-use Rattle.option_values.specs.Grammar.{Grammar, AreOptionsOf, AskFor, AreRefusedBy, AskSilence, IsErrorBy, unless_empty}
+use Rattle.option_words.specs.declared.command_error.CommandError.{CommandError}
+use Rattle.option_words.specs.Values.{empty_operand, last_value}
+use Rattle.option_words.specs.Grammar.{Grammar, AreOptionsOf, AskFor, AreRefusedBy, AskSilence, IsErrorBy, unless_empty}
 use Rattle.ddrescueshow_words.specs.declared.options.ShowOptions.{ShowOptions}
 use Rattle.ddrescueshow_words.specs.declared.command.Command.{Command as CommandCode}
 use Rattle.ddrescueshow_words.specs.Options.{domain_letter, option_meanings, options_in, quiet_letter}

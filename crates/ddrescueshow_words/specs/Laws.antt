@@ -1,6 +1,6 @@
 -- What the definitions mean.
 use Rattle.std.specs.Prelude.{ℕ, List}
-use Rattle.option_values.specs.Grammar.{HasOneMeaning as HasOneMeaningBy}
+use Rattle.option_words.specs.Grammar.{HasOneMeaning as HasOneMeaningBy}
 use Rattle.ddrescueshow_words.specs.Command.{show_grammar}
 
 -- Words ask for one thing at most, are refused for one fault at most, and never both.

@@ -3,8 +3,8 @@ use Rattle.std.specs.Prelude.{ℕ, Bool, true, false, List, [], ◌∷◌, ◌++
 use Rattle.std.specs.Str.{bytes_eq}
 use Rattle.option_words.specs.declared.row.Takes.TheVariants.{Never, Always}
 use Rattle.option_words.specs.declared.reading.Item.{Item}
-use Rattle.option_values.specs.Values.{Meaning, OptionRow, is_name, meanings_of, number_by, size_by, within_range}
-use Rattle.option_values.specs.Values.{options_in as options_by}
+use Rattle.option_words.specs.Values.{Meaning, OptionRow, is_name, meanings_of, number_by, size_by, within_range}
+use Rattle.option_words.specs.Values.{options_in as options_by}
 use Rattle.ddrescueshow_words.specs.declared.options.Coloring.{Coloring}
 use Rattle.ddrescueshow_words.specs.declared.options.Coloring.TheVariants.{Auto, Always as InAnyCase, Never as InNoCase}
 use Rattle.ddrescueshow_words.specs.declared.options.ShowOptions.{ShowOptions}

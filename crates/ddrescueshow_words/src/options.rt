@@ -1,14 +1,14 @@
 //! The options of `ddrescueshow`, and what they ask for.
 ghost use Rattle.std.specs.Prelude.{◌≡◌, ◌<◌, ◌≤◌, Some, option_map};
-ghost use Rattle.option_values.specs.Values.{row_of, set_by};
+ghost use Rattle.option_words.specs.Values.{row_of, set_by};
 ghost use Rattle.ddrescueshow_words.specs.Options.{color_row, coloring_by, count_by, lettered_rows, no_options, option_rows, rows_row, width_row};
 ghost use Rattle.ddrescueshow_words.specs.Command.{AreOptions};
 
-use option_values::given::letter_of;
-use option_values::settings::Settings;
-use option_values::values::{is_name, number_by, size_by, within_range};
+use option_words::given::letter_of;
 use option_words::row::{Row, Takes};
+use option_words::settings::Settings;
 use option_words::table::OptionTable;
+use option_words::values::{is_name, number_by, size_by, within_range};
 
 /// The letter of the option that gives the size of a sector.
 pub(crate) const SECTOR_SIZE: char = 'b';

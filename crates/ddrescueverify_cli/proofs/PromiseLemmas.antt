@@ -3,8 +3,8 @@ use Rattle.std.proofs.Common.{◌≡◌, ◌≢◌, ℕ, Bool, true, false, List
 use Rattle.faulty_source.proofs.Keeping.{keeps_self}
 use Rattle.option_words.specs.declared.fault.UsageFault.{UsageFault}
 use Rattle.option_words.specs.declared.fault.UsageFault.TheVariants.{Word, BadValue, Conflict, Modes, Operands, PlaceTooLarge}
-use Rattle.option_values.specs.Grammar.{unless_empty}
-use Rattle.option_values.specs.Values.{empty_operand}
+use Rattle.option_words.specs.Grammar.{unless_empty}
+use Rattle.option_words.specs.Values.{empty_operand}
 use Rattle.save_resume.proofs.FillLemmas.{keeps_self as site_keeps}
 use Rattle.work_rules.specs.Work.{Deeds, Works}
 use Rattle.work_rules.proofs.AnswerLemmas.{Stops, Broken, Refused, Starved, Stopped, Unopened as NotOpened, Went, came}

@@ -5,8 +5,8 @@ ghost use Rattle.ddrescueverify_cli.specs.Answers.{is_silent, map_error_text, me
 
 use crate::ending::{VerifyEnding, Which};
 use crate::plan::PROGRAM;
-use fault_texts::faults::{add_map_error, add_site_fault, add_usage};
-use fault_texts::message::{Message, add, begin, end};
+use console_texts::faults::{add_map_error, add_site_fault, add_usage};
+use console_texts::message::{Message, add, begin, end};
 use mapfile_text::read::MapError;
 use program_promise::answer::Answer;
 

@@ -6,7 +6,7 @@ ghost use Rattle.ddrescueverify_cli.specs.Reporting.{Reports, line_of_tally};
 ghost use Rattle.ddrescueverify_cli.specs.Work.{answer_of_tally};
 
 use crate::ending::VerifyEnding;
-use fault_texts::message::{Message, add, end};
+use console_texts::message::{Message, add, end};
 use itoa::Buffer;
 use rescue_console::console::{Channel, Console, ConsoleFault};
 use rescue_verify::tally::Tally;

@@ -24,7 +24,7 @@ use crash_site::site::{Site, SiteCall};
 use ddrescueverify_words::command::{Command, read_command};
 use ddrescueverify_words::options::VerifyOptions;
 use faulty_source::source::Source;
-use option_values::command_error::CommandError;
+use option_words::command_error::CommandError;
 use option_words::fault::UsageFault;
 use option_words::words::Words;
 use program_promise::answer::say_ending;

@@ -5,11 +5,11 @@ use Rattle.std.specs.Option.{option_map, option_and_then}
 use Rattle.std.proofs.Math.Bool.{or_assoc}
 use Rattle.option_words.specs.Rows.{is_letter}
 use Rattle.option_words.specs.declared.reading.Item.{Item}
-use Rattle.option_values.specs.Values.{OptionRow, default_sector, is_given, is_of, letter_meant, options_with, set_by, set_in_turn, size_by, value_of, with_item, with_sector, word_at}
-use Rattle.option_values.proofs.RowLemmas.{EachRow, letter_given, row_passes}
-use Rattle.option_values.proofs.TurnLemmas.{IsSector, fault_stays, sector_in_turn, turn_parts, default_is}
-use Rattle.option_values.proofs.ValueLemmas.{map_part, or_part, size_by_below}
-use Rattle.option_values.proofs.QuietLemmas.{or_false, or_true}
+use Rattle.option_words.specs.Values.{OptionRow, default_sector, is_given, is_of, letter_meant, options_with, set_by, set_in_turn, size_by, value_of, with_item, with_sector, word_at}
+use Rattle.option_words.proofs.RowLemmas.{EachRow, letter_given, row_passes}
+use Rattle.option_words.proofs.TurnLemmas.{IsSector, fault_stays, sector_in_turn, turn_parts, default_is}
+use Rattle.option_words.proofs.ValueLemmas.{map_part, or_part, size_by_below}
+use Rattle.option_words.proofs.QuietLemmas.{or_false, or_true}
 use Rattle.ddrescueverify_words.specs.declared.options.VerifyOptions.{VerifyOptions}
 use Rattle.ddrescueverify_words.specs.Options.{no_options, option_meanings, option_rows, options_in, quiet_letter, sector_letter}
 

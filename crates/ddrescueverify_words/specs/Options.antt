@@ -2,8 +2,8 @@
 use Rattle.std.specs.Prelude.{ℕ, Bool, true, false, List, [], ◌∷◌, Option, Some, None, Result, option_map, codes}
 use Rattle.option_words.specs.declared.row.Takes.TheVariants.{Never, Always}
 use Rattle.option_words.specs.declared.reading.Item.{Item}
-use Rattle.option_values.specs.Values.{Meaning, OptionRow, meanings_of, size_by}
-use Rattle.option_values.specs.Values.{options_in as options_by}
+use Rattle.option_words.specs.Values.{Meaning, OptionRow, meanings_of, size_by}
+use Rattle.option_words.specs.Values.{options_in as options_by}
 use Rattle.ddrescueverify_words.specs.declared.options.VerifyOptions.{VerifyOptions}
 
 -- an option without a value, and one with a value

@@ -1,18 +1,18 @@
 //! What the words of a command line ask for.
 ghost use Rattle.std.specs.Prelude.{◌≡◌, All, Ok, Err, IfOk, IfErr};
 ghost use Rattle.option_words.specs.Spots.{HasSpot};
-ghost use Rattle.option_values.specs.Values.{IsWord};
+ghost use Rattle.option_words.specs.Values.{IsWord};
 ghost use Rattle.ddrescueverify_words.specs.Options.{options_in};
 ghost use Rattle.ddrescueverify_words.specs.Command.{AreOptions, IsAsked, IsErrorOf, command_read, command_with, told_by};
 
 use crate::options::{QUIET, SECTOR_SIZE, VerifyOptions, option_table};
-use option_values::command_error::{CommandError, unread};
-use option_values::given::is_given;
-use option_values::operands::find_empty;
-use option_values::settings::{read_sector_in, read_settings};
+use option_words::command_error::{CommandError, unread};
 use option_words::fault::UsageFault;
+use option_words::given::is_given;
+use option_words::operands::find_empty;
 use option_words::reader::read_words;
 use option_words::reading::{Item, WordReading};
+use option_words::settings::{read_sector_in, read_settings};
 use option_words::table::OptionTable;
 use option_words::words::Words;
 use std::alloc::Global;

@@ -1,14 +1,14 @@
 //! The options of `ddrescueverify`, and what they ask for.
 ghost use Rattle.std.specs.Prelude.{◌≡◌, ◌<◌, ◌≤◌, option_map};
-ghost use Rattle.option_values.specs.Values.{row_of, set_by};
+ghost use Rattle.option_words.specs.Values.{row_of, set_by};
 ghost use Rattle.ddrescueverify_words.specs.Options.{no_options, option_rows};
 ghost use Rattle.ddrescueverify_words.specs.Command.{AreOptions};
 
-use option_values::given::letter_of;
-use option_values::settings::Settings;
-use option_values::values::size_by;
+use option_words::given::letter_of;
 use option_words::row::{Row, Takes};
+use option_words::settings::Settings;
 use option_words::table::OptionTable;
+use option_words::values::size_by;
 
 /// The letter of the option that gives the size of a sector.
 pub(crate) const SECTOR_SIZE: char = 'b';

@@ -1,4 +1,5 @@
 pub mod Forms
+pub mod Grammar
 pub mod Laws
 pub mod Meanings
 pub mod Reading
@@ -6,4 +7,6 @@ pub mod Rows
 pub mod Spots
 pub mod Tables
 pub mod Taken
+pub mod ValueLaws
+pub mod Values
 pub mod Words

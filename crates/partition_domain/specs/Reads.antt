@@ -2,7 +2,7 @@
 use Rattle.std.specs.Prelude.{◌≡◌, ⊤, ℕ, codes, ◌+◌, ◌*◌, ◌<◌, true, false, List, [], ◌∷◌, ◌++◌, length, map, Option, Some, None, is_some}
 use Rattle.std.specs.List.{list_all}
 use Rattle.fault_count.specs.Counts.{raised}
-use Rattle.fault_texts.specs.Texts.{numbered_text}
+use Rattle.console_texts.specs.Texts.{numbered_text}
 use Rattle.faulty_source.specs.Journal.{Reading}
 use Rattle.partition_domain.specs.declared.table.TableEntry.{TableEntry}
 use Rattle.partition_domain.specs.declared.stop.Refusal.{Refusal}

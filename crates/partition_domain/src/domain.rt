@@ -9,7 +9,7 @@ use crate::table::{Partition, SECTOR};
 use block_list::plain_tiles::PlainTiles;
 use block_list::status::Status;
 use block_list::tiles::{NoMemory, Tiles};
-use map_printing::put_map;
+use console_texts::printing::put_map;
 use mapfile_text::heading::Heading;
 use mapfile_text::state::{Current, MapState};
 use rescue_console::console::{Console, ConsoleFault};

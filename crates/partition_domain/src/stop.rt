@@ -3,7 +3,7 @@ ghost use Rattle.std.specs.Prelude.{◌≡◌, ◌≤◌, ◌++◌};
 ghost use Rattle.arrayvec.specs.ArrayVec.{array_vec_len};
 ghost use Rattle.partition_domain.specs.Reads.{said_of};
 
-use fault_texts::message::{Message, add, add_number};
+use console_texts::message::{Message, add, add_number};
 
 /// Why what was read of a disk gives no partition.
 #[derive(Clone, Copy, Debug, PartialEq, Eq)]

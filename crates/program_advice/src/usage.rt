@@ -4,7 +4,7 @@ ghost use Rattle.program_advice.specs.Lines.{IsOneLine};
 
 use crate::cause::Cause;
 use crate::line::{Line, line_of};
-use option_values::command_error::CommandError;
+use option_words::command_error::CommandError;
 use option_words::fault::{UsageFault, WordFault};
 use option_words::reader::read_words;
 use option_words::row::Row;

@@ -6,8 +6,8 @@ use Rattle.option_words.specs.declared.fault.WordFault.{WordFault}
 use Rattle.option_words.specs.declared.fault.UsageFault.{UsageFault}
 use Rattle.option_words.specs.Reading.{WordFaultAt}
 use Rattle.option_words.proofs.MemoryLemmas.{never_memory}
-use Rattle.option_values.specs.Grammar.{AskFor, AreRefusedBy, AskSilence, IsRefusalBy, Unread as UnreadWords, Wrong as WrongWords}
-use Rattle.option_values.proofs.MeaningLemmas.{asked_or_refused}
+use Rattle.option_words.specs.Grammar.{AskFor, AreRefusedBy, AskSilence, IsRefusalBy, Unread as UnreadWords, Wrong as WrongWords}
+use Rattle.option_words.proofs.MeaningLemmas.{asked_or_refused}
 use Rattle.rescue_console.specs.ConsoleState.{ChannelState, ConsoleState, TextGoesOn}
 use Rattle.work_rules.specs.Work.{Works}
 use Rattle.work_rules.proofs.VerdictLemmas.{one_verdict}

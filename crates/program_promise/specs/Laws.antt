@@ -1,7 +1,7 @@
 -- What a promise means, whatever the program.
 use Rattle.std.specs.Prelude.{◌≡◌, ◌≢◌, ℕ, ◌-◌, ◌^◌, ◌<◌, IsTrue, List}
 use Rattle.option_words.specs.declared.fault.UsageFault.{UsageFault}
-use Rattle.option_values.specs.Grammar.{AskFor, AreRefusedBy}
+use Rattle.option_words.specs.Grammar.{AskFor, AreRefusedBy}
 use Rattle.rescue_console.specs.ConsoleState.{TextGoesOn}
 use Rattle.work_rules.specs.Work.{Deeds, Works}
 use Rattle.work_rules.specs.Verdicts.{RefuseOnce}

@@ -2,8 +2,8 @@
 use Rattle.std.specs.Prelude.{ℕ, Bool, List}
 use Rattle.option_words.specs.Words.{command_line}
 use Rattle.option_words.specs.declared.fault.UsageFault.{UsageFault}
-use Rattle.option_values.specs.Grammar.{Grammar}
-use Rattle.fault_texts.specs.Texts.{message_of}
+use Rattle.option_words.specs.Grammar.{Grammar}
+use Rattle.console_texts.specs.Texts.{message_of}
 use Rattle.work_rules.specs.Work.{Deeds, Faults, WorkStep}
 use Rattle.program_promise.specs.World.{WorldState}
 use Rattle.program_promise.specs.Kinds.{Kind, is_silent_kind}

@@ -2,7 +2,7 @@
 -- files and streams their counts and what is open.
 use Rattle.std.specs.Prelude.{◌≡◌, ◌⊎◌, ⊤, ℕ, Bool, true, false, IsTrue, List}
 use Rattle.fault_count.specs.Plan.{with_call}
-use Rattle.option_values.specs.Grammar.{AskFor, AreRefusedBy, AskSilence}
+use Rattle.option_words.specs.Grammar.{AskFor, AreRefusedBy, AskSilence}
 use Rattle.rescue_console.specs.declared.console.Channel.TheVariants.{Err}
 use Rattle.rescue_console.specs.ConsoleState.{Puts, PutsPart}
 use Rattle.work_rules.specs.Work.{Deeds, Works}

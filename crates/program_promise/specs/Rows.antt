@@ -3,7 +3,7 @@
 use Rattle.std.specs.Prelude.{⊤, ℕ, List, [], codes}
 use Rattle.option_words.specs.declared.fault.UsageFault.{UsageFault}
 use Rattle.option_words.specs.declared.fault.UsageFault.TheVariants.{Word, BadValue, Conflict, Modes, Operands, PlaceTooLarge}
-use Rattle.fault_texts.specs.Texts.{usage_text}
+use Rattle.console_texts.specs.Texts.{usage_text}
 use Rattle.program_promise.specs.Kinds.{Failure, Kind, Asked, Brought, Wrong, Failed, Starved}
 
 pub record AnswerRow : Type 1 where

@@ -1,7 +1,7 @@
 -- What a program promises whose work says lines. These and the message of the answer are one chain of puts, which the
 -- first one that fails ends. So no answer speaks of a put.
 use Rattle.std.specs.Prelude.{◌≡◌, ℕ, Bool, false, not, List, [], ◌∷◌, ◌++◌, if◌then◌else◌}
-use Rattle.option_values.specs.Grammar.{AskFor, AskSilence}
+use Rattle.option_words.specs.Grammar.{AskFor, AskSilence}
 use Rattle.rescue_console.specs.declared.console.Channel.TheVariants.{Err}
 use Rattle.rescue_console.specs.ConsoleState.{ConsoleState}
 use Rattle.rescue_console.specs.Speaking.{SpokenPiece, Speaks, SpeaksOn, out_pieces}

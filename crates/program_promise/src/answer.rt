@@ -2,7 +2,7 @@
 ghost use Rattle.std.specs.Prelude.{◌≡◌, ℕ, List, Bool};
 ghost use Rattle.program_promise.specs.Saying.{SaysAs};
 
-use fault_texts::message::Message;
+use console_texts::message::Message;
 use rescue_console::console::{Channel, Console};
 
 /// An answer of a program.

@@ -5,8 +5,8 @@ use Rattle.option_words.specs.declared.row.Row.{Row}
 use Rattle.option_words.specs.Meanings.{Brought, meaning, one_item, one_operand}
 use Rattle.option_words.specs.Reading.{Bring}
 use Rattle.option_words.specs.Rows.{meaning_of_row}
-use Rattle.option_values.specs.Values.{Meaning, is_empty_text, empty_operand}
-use Rattle.option_values.specs.Grammar.{unless_empty}
+use Rattle.option_words.specs.Values.{Meaning, is_empty_text, empty_operand}
+use Rattle.option_words.specs.Grammar.{unless_empty}
 use Rattle.ddrescue_words.specs.Options.{option_meanings, no_options}
 use Rattle.ddrescue_words.specs.Command.{Command, Rescue as Rescues}
 use Rattle.ddrescue_words.specs.Asking.{Asks}

@@ -12,7 +12,7 @@ use Rattle.rescue_rules.specs.declared.stop.Stop.{Stop}
 use Rattle.rescue_rules.specs.declared.stop.Stop.TheVariants.{SourceLost as InputLost, Site, LimitMet as Limited, NoMemory as NoRoom}
 use Rattle.rescue_rules.specs.declared.stop.Limit.{Limit}
 use Rattle.rescue_rules.specs.declared.stop.Limit.TheVariants.{TooManyErrors, TooManyAreas, TimedOut}
-use Rattle.fault_texts.specs.Texts.{numbered_text, error_text, fault_text, message_of}
+use Rattle.console_texts.specs.Texts.{numbered_text, error_text, fault_text, message_of}
 use Rattle.program_promise.specs.Kinds.{Failure, AtOpen, AtRead, AtCall, AtCallAfterRead, is_silent_kind}
 use Rattle.program_promise.specs.Rows.{AnswerRow, asked_row, brought_row, failed_row, only_where, starved_row, usage_row}
 use Rattle.program_promise.specs.Causes.{changes_of}

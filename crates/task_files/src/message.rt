@@ -5,8 +5,8 @@ ghost use Rattle.task_files.specs.Answers.{which_text, map_error_text, after_tex
 
 use crate::checked::PROGRAM;
 use crate::ending::{Ending, Which};
-use fault_texts::faults::{add_map_error, add_site_fault, add_usage};
-use fault_texts::message::{Message, add, add_number, begin, end};
+use console_texts::faults::{add_map_error, add_site_fault, add_usage};
+use console_texts::message::{Message, add, add_number, begin, end};
 use mapfile_text::read::MapError;
 use program_promise::answer::Answer;
 use rescue_rules::stop::{Limit, Stop};

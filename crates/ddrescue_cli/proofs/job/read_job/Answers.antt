@@ -1,6 +1,6 @@
 use Rattle.std.proofs.Common.{subst}
-use Rattle.option_values.specs.declared.command_error.CommandError.{CommandError}
-use Rattle.option_values.specs.declared.command_error.CommandError.TheVariants.{Usage}
+use Rattle.option_words.specs.declared.command_error.CommandError.{CommandError}
+use Rattle.option_words.specs.declared.command_error.CommandError.TheVariants.{Usage}
 use Rattle.ddrescue_words.specs.Asking.{IsErrorOf}
 use Rattle.ddrescue_cli.proofs.MadeLemmas.{starved_said, refused_said}
 use Rattle.ddrescue_cli.proofs.job.read_job.Goals as goal

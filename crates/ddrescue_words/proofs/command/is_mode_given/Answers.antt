@@ -1,6 +1,6 @@
 -- Where fill mode isn't given, generate mode may be.
 use Rattle.std.proofs.Common.{◌≡◌, false, ◌||◌, ◌∙◌, sym, ap}
-use Rattle.option_values.specs.Values.{is_given}
+use Rattle.option_words.specs.Values.{is_given}
 use Rattle.ddrescue_words.specs.Options.{fill_letter, generate_letter, option_meanings}
 use Rattle.ddrescue_words.proofs.command.is_mode_given.Goals as goal
 

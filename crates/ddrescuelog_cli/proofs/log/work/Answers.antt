@@ -1,7 +1,7 @@
 -- By what the words ask for.
 use Rattle.std.proofs.Common.{subst}
-use Rattle.option_values.specs.declared.command_error.CommandError.{CommandError}
-use Rattle.option_values.specs.declared.command_error.CommandError.TheVariants.{Usage}
+use Rattle.option_words.specs.declared.command_error.CommandError.{CommandError}
+use Rattle.option_words.specs.declared.command_error.CommandError.TheVariants.{Usage}
 use Rattle.program_promise.proofs.PromiseLemmas.{refused, starved}
 use Rattle.ddrescuelog_words.specs.Command.{told_by, IsErrorOf}
 use Rattle.ddrescuelog_cli.specs.Ddrescuelog.{log_program}

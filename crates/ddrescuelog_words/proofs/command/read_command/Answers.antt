@@ -1,8 +1,8 @@
 -- The words ask for what their reading asks for.
 use Rattle.std.proofs.Common.{◌≡◌, ◌∙◌, map, ap}
 use Rattle.option_words.specs.Rows.{meaning_of_row}
-use Rattle.option_values.specs.Values.{is_given}
-use Rattle.option_values.proofs.MeaningLemmas.{operands_named, reading_refused, unread_is}
+use Rattle.option_words.specs.Values.{is_given}
+use Rattle.option_words.proofs.MeaningLemmas.{operands_named, reading_refused, unread_is}
 use Rattle.ddrescuelog_words.specs.Options.{option_meanings, quiet_letter}
 use Rattle.ddrescuelog_words.specs.Command.{log_grammar, told_by}
 use Rattle.ddrescuelog_words.proofs.CommandLemmas.{reading_asks}

@@ -1,8 +1,8 @@
 -- The words ask for what their reading asks for.
 use Rattle.std.proofs.Common.{◌≡◌, ◌∙◌, map, ap}
 use Rattle.option_words.specs.Rows.{meaning_of_row}
-use Rattle.option_values.specs.Values.{is_given}
-use Rattle.option_values.proofs.MeaningLemmas.{operands_named, reading_refused, unread_is}
+use Rattle.option_words.specs.Values.{is_given}
+use Rattle.option_words.proofs.MeaningLemmas.{operands_named, reading_refused, unread_is}
 use Rattle.ddrescuepart_words.specs.Command.{option_meanings, part_grammar, quiet_letter, told_by}
 use Rattle.ddrescuepart_words.proofs.CommandLemmas.{reading_asks}
 use Rattle.ddrescuepart_words.proofs.command.read_command.Goals as goal

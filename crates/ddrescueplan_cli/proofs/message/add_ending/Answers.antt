@@ -1,5 +1,5 @@
 use Rattle.std.proofs.Common.{ℕ, List, ◌++◌, codes, ap, ◌∙◌, append_assoc}
-use Rattle.fault_texts.specs.Texts.{error_text}
+use Rattle.console_texts.specs.Texts.{error_text}
 use Rattle.ddrescueplan_cli.proofs.message.add_ending.Goals as goal
 
 pub returns-in-MapRefused-clause-text : goal.returns-in-MapRefused-clause-text

@@ -1,4 +1,4 @@
-use Rattle.option_values.proofs.MeaningLemmas.{one_meaning}
+use Rattle.option_words.proofs.MeaningLemmas.{one_meaning}
 use Rattle.ddrescueplan_words.specs.Command.{plan_grammar}
 use Rattle.ddrescueplan_words.proofs.laws.words_have_one_meaning.Goals as goal
 

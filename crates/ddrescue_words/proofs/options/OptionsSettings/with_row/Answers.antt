@@ -1,6 +1,6 @@
 -- The row at a place is the one that has its letter, or that of a sample.
 use Rattle.std.proofs.Common.{rules, ◌∙◌, sym, ap, option_map}
-use Rattle.option_values.specs.Values.{set_by}
+use Rattle.option_words.specs.Values.{set_by}
 use Rattle.ddrescue_words.proofs.RowLemmas.{place_unlettered, row_lettered, row_of_sample}
 use Rattle.ddrescue_words.proofs.options.OptionsSettings.with_row.Goals as goal
 

@@ -1,8 +1,8 @@
 -- The row at a place is the one that has its letter.
 use Rattle.std.proofs.Common.{◌≡◌, ◌∙◌, sym, ap, refl, slice_get, option_map}
 use Rattle.std.specs.Option.{option_and_then}
-use Rattle.option_values.specs.Values.{row_of, set_by}
-use Rattle.option_values.proofs.RowLemmas.{letter_given, row_by_letter}
+use Rattle.option_words.specs.Values.{row_of, set_by}
+use Rattle.option_words.proofs.RowLemmas.{letter_given, row_by_letter}
 use Rattle.ddrescueverify_words.specs.Options.{option_rows}
 use Rattle.ddrescueverify_words.proofs.options.VerifyOptionsSettings.with_row.Goals as goal
 

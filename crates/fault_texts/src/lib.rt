@@ -1,5 +1,0 @@
-//! What the programs say of faults on the console.
-#![tactic(auto)]
-
-pub mod faults;
-pub mod message;
