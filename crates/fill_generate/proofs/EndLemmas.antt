@@ -20,9 +20,10 @@ use Rattle.rescue_rules.specs.Lines.{report_text, last_front, is_done}
 use Rattle.rescue_rules.specs.Deeds.{save_of, doing_calls}
 use Rattle.sweep_rules.specs.Sweep.{filler, generator, Sweeper, Sweep, Swept, IsSweptOut, after_pieces, due_save, sweep_end, deeds_of}
 use Rattle.sweep_rules.specs.SweepWork.{SweepEndsBy, IsSaved, IsUnsaved, IsCut as WorkIsCut, IsBroken as WorkIsBroken, sweep_report, sweep_calls, pieces_lines, lost_call}
+use Rattle.rescue_core.specs.Closing.{LastCalls, Saved as LastSaved, Unsaved as LastFailed}
 use Rattle.fill_generate.specs.Sweeping.{Around, BreaksAfter, EndsSweep, Saved, Unsaved, Cut, Broken, SweepTold, LookupTold, EndsAreTold, SweepStopsAt, IsStarved, IsCut, IsBroken}
 use Rattle.fill_generate.specs.SweepState.{SweepState, setting_of}
-use Rattle.fill_generate.specs.Steps.{SweepWent, WentOn, WentUpTo, SavesLast, LastSaved, LastFailed, ClosesFiles, PiecesEnd, IsLookedUp}
+use Rattle.fill_generate.specs.Steps.{SweepWent, WentOn, WentUpTo, ClosesFiles, PiecesEnd, IsLookedUp}
 use Rattle.fill_generate.proofs.TellLemmas.{between, makes_more, breaks_after, says_more}
 use Rattle.fill_generate.proofs.ImageLemmas.{all_given}
 
@@ -71,6 +72,10 @@ ends_are_told s w m es end site site' (Broken before last call split is breaks) 
     let b : After call calls site.calls (map Done made) site'.calls =
     after call calls site.calls (map Done made) site'.calls (breaks.broke tells) in
     (b.rest, b.is, WorkIsBroken before last call split is b.broke)
+
+-- a sweep's last calls
+abbrev SavesLast : Setting → Sweep → Option Stop → RunEnd → (site site' : SiteState) → Type 0
+SavesLast s m stop end site site' = LastCalls (closing_calls s (sweep_end (is_none stop) m)) stop end site site'
 
 -- the last calls of pieces that were left by no call that failed
 ends_last : (s : Setting) (w : Sweeper) (m : Sweep) (es : List Swept) (stop : Option Stop) (end : RunEnd) (d e f : SiteState)

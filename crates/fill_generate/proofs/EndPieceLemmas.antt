@@ -1,45 +1,45 @@
 -- What is due after a piece, and at the end of a sweep.
-use Rattle.std.proofs.Common.{◌≡◌, ℕ, ◌+◌, ◌/◌, ◌<◌, ◌^◌, nat_le, Bool, false, List, [], ◌∷◌, Option, Some, None, is_none, if◌then◌else◌, Result, Ok, Err, MatchOption, refl, sym, ap, subst, ◌∙◌}
-use Rattle.mapfile_text.specs.declared.state.MapState.{MapState}
-use Rattle.mapfile_text.specs.declared.state.Current.TheVariants.{Finished}
-use Rattle.crash_site.specs.Calls.{Call}
+use Rattle.std.proofs.Common.{◌≡◌, ℕ, ◌+◌, ◌/◌, ◌<◌, ◌^◌, nat_le, Bool, true, List, [], ◌∷◌, Option, Some, None, is_none, is_some, if◌then◌else◌, Ok, Err, refl, sym, ap, subst, ◌∙◌}
+use Rattle.std.proofs.lemmas.Bool.{cond-true}
+use Rattle.block_list.specs.declared.block.Range.{Range}
+use Rattle.block_list.specs.declared.status.Status.{Status}
+use Rattle.crash_site.specs.Calls.{Call, image_sync}
 use Rattle.crash_site.specs.SiteState.{SiteState}
 use Rattle.crash_site.specs.SiteChanges.{Makes, Breaks}
-use Rattle.save_resume.specs.declared.draft.SaveFault.{SaveFault}
-use Rattle.save_resume.specs.Saving.{save_calls, IsNameIn, drafting_after_fault, Saves}
+use Rattle.save_resume.specs.Saving.{save_calls, IsNameIn}
 use Rattle.crash_site.specs.declared.site.SiteCall.{SiteCall}
 use Rattle.rescue_console.specs.ClockState.{ClockState, Reads as ReadsClock}
 use Rattle.rescue_console.specs.ConsoleState.{ConsoleState}
-use Rattle.rescue_console.specs.Speaking.{SpeaksOn, out_pieces}
+use Rattle.rescue_console.specs.Speaking.{SpeaksOn, SpokenPiece, out_pieces}
+use Rattle.rescue_domain.specs.Parts.{covers}
 use Rattle.rescue_rules.specs.declared.stop.Stop.{Stop}
 use Rattle.rescue_rules.specs.declared.stop.Stop.TheVariants.{Site}
 use Rattle.rescue_rules.specs.declared.stop.RunEnd.{RunEnd}
-use Rattle.rescue_rules.specs.declared.stop.RunEnd.TheVariants.{SaveFailed}
+use Rattle.rescue_rules.specs.declared.report.Counts.{Counts}
+use Rattle.rescue_rules.specs.declared.tally.Tally.{Tally}
+use Rattle.rescue_rules.specs.Counts.{counts_of}
 use Rattle.rescue_rules.specs.Snapshots.{Snapshot, text_of}
 use Rattle.rescue_rules.specs.RunCalls.{closing_calls}
 use Rattle.rescue_rules.specs.Said.{is_line_due}
 use Rattle.rescue_rules.specs.Step.{save_interval}
-use Rattle.rescue_rules.specs.Lines.{phase_front, report_text}
-use Rattle.rescue_rules.specs.Work.{end_of}
+use Rattle.rescue_rules.specs.Lines.{phase_front, last_front, report_text, report_with, is_done}
+use Rattle.rescue_core.specs.declared.keeper.Keeper.{Keeper}
+use Rattle.rescue_core.specs.declared.settings.Settings.{Settings}
+use Rattle.rescue_core.specs.RunState.{names_in}
+use Rattle.rescue_core.specs.Keeping.{saves_of, last_calls}
+use Rattle.rescue_core.specs.Closing.{closing_with}
 use Rattle.sweep_rules.specs.Sweep.{Sweep, sweep_snapshot, sweep_end}
 use Rattle.sweep_rules.specs.SweepWork.{sweep_report}
 use Rattle.fill_generate.specs.declared.sweeping.Piece.{Piece}
 use Rattle.fill_generate.specs.Modes.{current_in}
-use Rattle.fill_generate.specs.SweepState.{SweepState, setting_of, standing, moved}
+use Rattle.fill_generate.specs.SweepState.{SweepState, setting_for, setting_of, sweep_at, standing, moved}
 use Rattle.fill_generate.specs.Sweeping.{Around}
-use Rattle.fill_generate.specs.Steps.{heard_as, line_after, save_after, StepsPastPiece, EndsPiece, SavesLast, LastSaved, LastFailed}
+use Rattle.fill_generate.specs.Steps.{heard_as, line_after, save_after, StepsPastPiece, EndsPiece}
 use Rattle.fill_generate.proofs.TellLemmas.{between}
-
--- the calls of a save that shows this
-abbrev pub showing : Sweep → MapState → Snapshot
-showing m shown = record { map = m.map; shown = shown; began = m.began; now = m.now }
-
-abbrev pub calls_showing : SweepState → MapState → List Call
-calls_showing r shown = save_calls r.names (text_of r.line (showing r.sweep shown))
 
 -- the line of a sweep, if it is due
 abbrev pub line_if : SweepState → Bool → List (List ℕ)
-line_if r due = if due then report_text (phase_front r.sweep.shown) (sweep_report (setting_of r) r.sweep) ∷ [] else []
+line_if r due = if due then report_text (phase_front r.sweep.tally.shown) (sweep_report (setting_of r) r.sweep) ∷ [] else []
 
 abbrev pub save_if : SweepState → Bool → List Call
 save_if r due = if due then save_calls r.names (text_of r.line (sweep_snapshot r.sweep)) else []
@@ -49,7 +49,7 @@ pub record After (piece : Piece) (written after : ℕ) (line : Bool) (r r1 r2 r3
   pub timed : ReadsClock (after ∷ []) o.clock o.clock'
   pub fit : after < 2 ^ 64
   pub moves : r1 ≡ standing r (moved (current_in r.mode) r.sweep piece.pos piece.len written after)
-  pub due : line ≡ is_line_due r.sweep.said (current_in r.mode) (after / 1000)
+  pub due : line ≡ is_line_due r.sweep.tally.said (current_in r.mode) (after / 1000)
   pub hears : r2 ≡ heard_as r1 r2.heard
   pub says : SpeaksOn (out_pieces (line_if r1 line)) r1.heard r2.heard o.console o.console'
   pub stays : r3 ≡ r2
@@ -79,55 +79,56 @@ passes piece written after line r r1 r2 r3 o b =
 
 -- the save that is due
 pub due_is : (piece : Piece) (written after : ℕ) (line save : Bool) (r r1 r2 r3 : SweepState) (o : Around)
-    → After piece written after line r r1 r2 r3 o → save ≡ nat_le (r.sweep.due_at + save_interval) after
+    → After piece written after line r r1 r2 r3 o → save ≡ nat_le (r.sweep.tally.due_at + save_interval) after
     → save_if r2 save ≡ save_after r r3 after
 due_is piece written after line save r r1 r2 r3 o b is =
     let m : Sweep = moved (current_in r.mode) r.sweep piece.pos piece.len written after in
-    let due : Bool = nat_le (r.sweep.due_at + save_interval) after in
+    let due : Bool = nat_le (r.sweep.tally.due_at + save_interval) after in
     let there : r2 ≡ heard_as (standing r m) r2.heard = after_is piece written after line r r1 r2 r3 o b in
     ap (save_if r2) is ∙ ap (λ (q : SweepState). save_if q due) there
     ∙ ap (λ (q : SweepState). save_after r q after) (sym there)
     ∙ ap (λ (q : SweepState). save_after r q after) (sym b.stays)
 
--- What is shown last.
-abbrev pub ShowsLast : Option Stop → (shown last : MapState) → Type 0
-ShowsLast stop shown last = MatchOption stop (last ≡ record shown { current = Finished; pass = 1 }) (λ _. last ≡ shown)
+-- the saves of a keeper that has a mapfile
+pub saves_named : (k : Keeper) (p : Snapshot) → is_some k.names ≡ true
+    → saves_of k p ≡ save_calls (names_in k.names) (text_of k.heading.line p)
+saves_named k p there = cond-true (is_some k.names) (save_calls (names_in k.names) (text_of k.heading.line p)) [] there
 
-pub shows_as : (stop : Option Stop) (q r : SweepState) (last : MapState) → q ≡ r → ShowsLast stop q.sweep.shown last
-    → ShowsLast stop r.sweep.shown last
-shows_as stop q r last is shows = subst (λ (p : SweepState). ShowsLast stop p.sweep.shown last) is shows
+end_is : (stop : Option Stop) (map : List Status) (cursor : ℕ) (t : Tally)
+    → closing_with stop map t ≡ sweep_end (is_none stop) (sweep_at map cursor t)
+end_is None map cursor t = refl
+end_is (Some stop) map cursor t = refl
 
-last_is : (stop : Option Stop) (m : Sweep) (last : MapState) → ShowsLast stop m.shown last
-    → showing m last ≡ sweep_end (is_none stop) m
-last_is None m last is = ap (showing m) is
-last_is (Some stop) m last is = ap (showing m) is
+-- and its last calls
+pub last_named : (stop : Option Stop) (settings : Settings) (domain : List Range) (map : List Status) (cursor : ℕ)
+    (k : Keeper) → is_some k.names ≡ true
+    → last_calls k (closing_with stop map k.tally)
+    ≡ closing_calls (setting_for settings domain (names_in k.names) k.heading.line)
+    (sweep_end (is_none stop) (sweep_at map cursor k.tally))
+last_named stop settings domain map cursor k there =
+    cond-true (is_some k.names) (save_calls (names_in k.names) (text_of k.heading.line (closing_with stop map k.tally)))
+    (image_sync ∷ []) there
+    ∙ ap (λ (p : Snapshot). save_calls (names_in k.names) (text_of k.heading.line p)) (end_is stop map cursor k.tally)
 
-pub saves_whole : {T : Type 0} (stop : Option Stop) (r : SweepState) (last : MapState) (end : RunEnd) (saved : T) (a c : SiteState)
-    → ShowsLast stop r.sweep.shown last → end ≡ end_of stop → Saves (calls_showing r last) false (Ok saved) a c
-    → SavesLast (setting_of r) r.sweep stop end a c
-saves_whole stop r last end saved a c shows is s =
-    LastSaved is
-    (subst (λ (p : Snapshot). Makes (closing_calls (setting_of r) p) a c) (last_is stop r.sweep last shows) s.made) s.draft
+-- what is said of a sweep after a piece, and at its end, with counts of its map
+abbrev pub said_with : Counts → Tally → List SpokenPiece
+said_with counts t = out_pieces (report_text (phase_front t.shown) (report_with counts t) ∷ [])
 
-pub saves_broken : {T : Type 0} (stop : Option Stop) (r : SweepState) (last : MapState) (fault : SaveFault) (a c : SiteState)
-    → a.is_drafting ≡ false → ShowsLast stop r.sweep.shown last → Saves {T = T} (calls_showing r last) false (Err fault) a c
-    → SavesLast (setting_of r) r.sweep stop (SaveFailed fault.call stop) a c
-saves_broken stop r last fault a c no_draft shows s =
-    LastFailed fault.call refl
-    (subst (λ (p : Snapshot). IsNameIn fault.call (closing_calls (setting_of r) p)) (last_is stop r.sweep last shows) s.named)
-    (subst (λ (p : Snapshot). Breaks fault.call (closing_calls (setting_of r) p) a c) (last_is stop r.sweep last shows) s.broke)
-    (s.draft_left ∙ ap (drafting_after_fault fault.call) no_draft)
+abbrev pub said_in : SweepState → List SpokenPiece
+said_in r = said_with (counts_of (covers r.domain) r.sweep.map) r.sweep.tally
 
-pub saves_as : {T : Type 0} (q r : SweepState) (shown : MapState) (result : Result T SaveFault) (a c : SiteState) → q ≡ r
-    → Saves (calls_showing q shown) false result a c → Saves (calls_showing r shown) false result a c
-saves_as q r shown result a c is s = subst (λ (p : SweepState). Saves (calls_showing p shown) false result a c) is s
+abbrev pub last_with : Counts → RunEnd → Tally → List SpokenPiece
+last_with counts end t = out_pieces (report_text (last_front (is_done end)) (report_with counts t) ∷ [])
+
+abbrev pub last_in : RunEnd → SweepState → List SpokenPiece
+last_in end r = last_with (counts_of (covers r.domain) r.sweep.map) end r.sweep.tally
 
 -- What was done after a piece, with the save that was due,
 pub ends_whole : {T : Type 0} (v : T) (piece : Piece) (written after : ℕ) (line save : Bool) (r r1 r2 r3 : SweepState) (a c : SiteState)
     (k l : ClockState) (x y : ConsoleState) → ReadsClock (after ∷ []) k l → after < 2 ^ 64
     → r1 ≡ standing r (moved (current_in r.mode) r.sweep piece.pos piece.len written after)
-    → line ≡ is_line_due r.sweep.said (current_in r.mode) (after / 1000)
-    → save ≡ nat_le (r.sweep.due_at + save_interval) after → r2 ≡ heard_as r1 r2.heard
+    → line ≡ is_line_due r.sweep.tally.said (current_in r.mode) (after / 1000)
+    → save ≡ nat_le (r.sweep.tally.due_at + save_interval) after → r2 ≡ heard_as r1 r2.heard
     → SpeaksOn (out_pieces (line_if r1 line)) r1.heard r2.heard x y → r3 ≡ r2 → Makes (save_if r2 save) a c
     → EndsPiece {T = T} (Ok v) piece written r r3 (between a c k l x y)
 ends_whole v piece written after line save r r1 r2 r3 a c k l x y timed fit moves due is hears says stays makes =
@@ -145,8 +146,8 @@ ends_whole v piece written after line save r r1 r2 r3 a c k l x y timed fit move
 pub ends_broken : {T : Type 0} (call : SiteCall) (piece : Piece) (written after : ℕ) (line save : Bool) (r r1 r2 r3 : SweepState)
     (a c : SiteState) (k l : ClockState) (x y : ConsoleState) → ReadsClock (after ∷ []) k l → after < 2 ^ 64
     → r1 ≡ standing r (moved (current_in r.mode) r.sweep piece.pos piece.len written after)
-    → line ≡ is_line_due r.sweep.said (current_in r.mode) (after / 1000)
-    → save ≡ nat_le (r.sweep.due_at + save_interval) after → r2 ≡ heard_as r1 r2.heard
+    → line ≡ is_line_due r.sweep.tally.said (current_in r.mode) (after / 1000)
+    → save ≡ nat_le (r.sweep.tally.due_at + save_interval) after → r2 ≡ heard_as r1 r2.heard
     → SpeaksOn (out_pieces (line_if r1 line)) r1.heard r2.heard x y → r3 ≡ r2 → IsNameIn call (save_if r2 save)
     → Breaks call (save_if r2 save) a c
     → EndsPiece {T = T} (Err (Site call)) piece written r r3 (between a c k l x y)

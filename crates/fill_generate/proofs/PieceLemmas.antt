@@ -51,8 +51,8 @@ stands_after w r r1 r2 piece got written after o of marked writes p =
 -- the line after it, if it is said in this phase
 abbrev lines_with : Setting → Sweeper → Sweep → Swept → Current → List (List ℕ)
 lines_with s w m e current =
-    if is_line_due m.said current (e.after / 1000)
-    then report_text (phase_front (after_piece w m e).shown) (sweep_report s (after_piece w m e)) ∷ []
+    if is_line_due m.tally.said current (e.after / 1000)
+    then report_text (phase_front (after_piece w m e).tally.shown) (sweep_report s (after_piece w m e)) ∷ []
     else []
 
 pub takes : (G : Swept → Type 0) (w : Sweeper) (r r1 r2 : SweepState) (piece : Piece) (got : List ℕ) (written after : ℕ) (o : Around)
@@ -96,7 +96,7 @@ save_is w r r1 r2 piece got written after o of marked writes p =
     ap (λ (q : SweepState). save_after q r2 after) marked
     ∙ ap (λ (q : SweepState). save_after (marked_with w r e) q after)
     (stands_after w r r1 r2 piece got written after o of marked writes p)
-    ∙ save_if (setting_of r) (nat_le (r.sweep.due_at + save_interval) after) (sweep_snapshot (after_piece w r.sweep e))
+    ∙ save_if (setting_of r) (nat_le (r.sweep.tally.due_at + save_interval) after) (sweep_snapshot (after_piece w r.sweep e))
 
 -- A piece was done, with its call and the save that was due,
 pub took : (G : Swept → Type 0) (w : Sweeper) (r r1 r2 : SweepState) (piece : Piece) (got : List ℕ) (written after : ℕ)

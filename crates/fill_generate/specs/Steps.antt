@@ -1,5 +1,5 @@
 -- The pieces of a sweep one after another, and one at which it stops.
-use Rattle.std.specs.Prelude.{◌≡◌, ℕ, ◌+◌, ◌/◌, ◌<◌, ◌≤◌, ◌^◌, nat_le, Bool, true, false, IsTrue, List, take, drop, [], ◌∷◌, ◌++◌, length, All, Option, Some, None, is_none, if◌then◌else◌, Result, OnOk, IfErr}
+use Rattle.std.specs.Prelude.{◌≡◌, ℕ, ◌+◌, ◌/◌, ◌<◌, ◌≤◌, ◌^◌, nat_le, Bool, true, false, IsTrue, List, take, drop, [], ◌∷◌, length, All, Option, Some, None, is_none, if◌then◌else◌, Result, OnOk, IfErr}
 use Rattle.crash_site.specs.declared.site.SiteCall.{SiteCall}
 use Rattle.crash_site.specs.declared.site.SiteCall.TheVariants.{ImageRead}
 use Rattle.crash_site.specs.Files.{bytes_of}
@@ -10,18 +10,16 @@ use Rattle.crash_site.specs.SiteChanges.{Keeps as SiteKeeps, Makes, Breaks}
 use Rattle.rescue_console.specs.ClockState.{Keeps as ClockKeeps, Reads as ReadsClock}
 use Rattle.rescue_console.specs.Speaking.{SpeaksOn, out_pieces}
 use Rattle.rescue_rules.specs.declared.stop.Stop.{Stop}
-use Rattle.rescue_rules.specs.declared.stop.Stop.TheVariants.{SourceLost, Site, LimitMet, NoMemory}
+use Rattle.rescue_rules.specs.declared.stop.Stop.TheVariants.{Site, NoMemory}
 use Rattle.rescue_rules.specs.declared.stop.RunEnd.{RunEnd}
-use Rattle.rescue_rules.specs.declared.stop.RunEnd.TheVariants.{Stopped, SaveFailed}
 use Rattle.rescue_rules.specs.Setting.{Setting, place}
 use Rattle.rescue_rules.specs.RunCalls.{closing_calls}
 use Rattle.rescue_rules.specs.Said.{is_line_due}
 use Rattle.rescue_rules.specs.Step.{save_interval}
 use Rattle.rescue_rules.specs.Snapshots.{text_of}
 use Rattle.rescue_rules.specs.Lines.{phase_front, report_text}
-use Rattle.save_resume.specs.Saving.{save_calls, IsNameIn, drafting_after_fault}
+use Rattle.save_resume.specs.Saving.{save_calls, IsNameIn}
 use Rattle.rescue_rules.specs.Laws.{AreTimes}
-use Rattle.rescue_rules.specs.Work.{end_of}
 use Rattle.rescue_rules.specs.Deeds.{Deed, save_of, deed_calls}
 use Rattle.sweep_rules.specs.Sweep.{Sweeper, Sweep, Swept, IsPiece, IsSweep, IsSweptOut, is_generated, after_piece, after_pieces, due_save, sweep_snapshot, sweep_end}
 use Rattle.sweep_rules.specs.SweepWork.{sweep_report, sweep_calls, piece_lines, pieces_lines, lost_call}
@@ -30,7 +28,7 @@ use Rattle.fill_generate.specs.SweepState.{SweepState, setting_of, standing, mov
 use Rattle.fill_generate.specs.Modes.{IsSweeperOf, current_in}
 use Rattle.fill_generate.specs.Sweeping.{Around, BreaksAfter, SweepStopsAt, times_after, IsApart}
 use Rattle.fill_generate.specs.Marking.{finished_at, piece_at}
-use Rattle.rescue_core.specs.Closing.{drafting_at_stop}
+use Rattle.rescue_core.specs.Closing.{drafting_at_stop, EndsBy}
 
 -- what a piece does on the files
 abbrev pub deed_of : Sweeper → Sweep → Swept → Deed
@@ -54,13 +52,13 @@ heard_as r heard = record r { heard = heard }
 -- the line after a piece, if one is due at this time, and the save
 abbrev pub line_after : (r r' : SweepState) → (after : ℕ) → List (List ℕ)
 line_after r r' after =
-    if is_line_due r.sweep.said (current_in r.mode) (after / 1000)
-    then report_text (phase_front r'.sweep.shown) (sweep_report (setting_of r) r'.sweep) ∷ []
+    if is_line_due r.sweep.tally.said (current_in r.mode) (after / 1000)
+    then report_text (phase_front r'.sweep.tally.shown) (sweep_report (setting_of r) r'.sweep) ∷ []
     else []
 
 abbrev pub save_after : (r r' : SweepState) → (after : ℕ) → List Call
 save_after r r' after =
-    if nat_le (r.sweep.due_at + save_interval) after
+    if nat_le (r.sweep.tally.due_at + save_interval) after
     then save_calls r.names (text_of r.line (sweep_snapshot r'.sweep)) else []
 
 -- a stop at one of these calls, which failed
@@ -133,23 +131,10 @@ pub record ObjectsStay (o : Around) : Type 0 where
   pub image : o.site'.is_open ≡ true
   pub clock : ClockKeeps o.clock o.clock'
 
--- the last calls of a sweep that came here returned, or one of them failed
-pub data SavesLast (s : Setting) (m : Sweep) (stop : Option Stop) (end : RunEnd) (site site' : SiteState)
-    : Type 0 where
-  LastSaved : end ≡ end_of stop → Makes (closing_calls s (sweep_end (is_none stop) m)) site site'
-      → site'.is_drafting ≡ false → SavesLast s m stop end site site'
-  LastFailed : (call : SiteCall) → end ≡ SaveFailed call stop
-      → IsNameIn call (closing_calls s (sweep_end (is_none stop) m))
-      → Breaks call (closing_calls s (sweep_end (is_none stop) m)) site site'
-      → site'.is_drafting ≡ drafting_after_fault call false → SavesLast s m stop end site site'
-
--- after a call on the files that failed no further one is made
+-- the end of a sweep saves its map; but after a call on its files that failed it makes no further one
 abbrev pub ClosesFiles : Setting → Sweep → Option Stop → RunEnd → (site site' : SiteState) → Type 0
-ClosesFiles s m None end site site' = SavesLast s m None end site site'
-ClosesFiles s m (Some SourceLost) end site site' = SavesLast s m (Some SourceLost) end site site'
-ClosesFiles s m (Some (Site call)) end site site' = (end ≡ Stopped (Site call)) × (site' ≡ site)
-ClosesFiles s m (Some (LimitMet limit)) end site site' = SavesLast s m (Some (LimitMet limit)) end site site'
-ClosesFiles s m (Some NoMemory) end site site' = SavesLast s m (Some NoMemory) end site site'
+ClosesFiles s m stop end site site' =
+    EndsBy (closing_calls s (sweep_end (is_none stop) m)) stop end site site'
 
 -- After a piece of which this many bytes were written, at this time: the reading of the clock, the state, and the line.
 pub record StepsPastPiece (piece : Piece) (written after : ℕ) (r r' : SweepState) (o : Around) : Type 0 where

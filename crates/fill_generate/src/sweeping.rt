@@ -16,8 +16,8 @@ ghost use Rattle.rescue_core.specs.RunState.{IsSound, Suits, HasPlaces};
 ghost use Rattle.sweep_rules.specs.Sweep.{Sweeper, sweep_over, sweep_from, sweep_snapshot, IsSweptOut};
 ghost use Rattle.sweep_rules.specs.SweepWork.{sweep_report};
 ghost use Rattle.fill_generate.specs.Modes.{current_in, IsSweeperOf};
-ghost use Rattle.fill_generate.specs.SweepState.{SweepState, setting_of, sweep_at, state_at, standing, moved, IsSweeping};
-ghost use Rattle.fill_generate.specs.Steps.{IsFound, ClosesFiles, SavesLast, EndsPiece, LooksUp, LooksNot};
+ghost use Rattle.fill_generate.specs.SweepState.{setting_of, standing, moved};
+ghost use Rattle.fill_generate.specs.Steps.{IsFound, ClosesFiles, EndsPiece, LooksUp, LooksNot};
 
 use crate::job::Job;
 use crate::mark::{mark_held, room_for};
@@ -25,21 +25,18 @@ use crate::mode::SweepMode;
 use crate::search::{first_taken, taken_to};
 use block_list::tiles::Tiles;
 use crash_site::site::{Site, SiteCall};
-use mapfile_text::heading::Heading;
 use mapfile_text::state::{Current, MapState};
 use rescue_console::clock::Clock;
 use rescue_console::console::Console;
-use rescue_core::closing::{Closed, end_saved, last_shown};
+use rescue_core::closing::Closed;
 use rescue_core::counts::counts_at_first;
-use rescue_core::due::{is_line_due, is_save_due};
-use rescue_core::line::{say_last, say_phase};
+use rescue_core::due::Due;
+use rescue_core::keeper::Keeper;
 use rescue_core::settings::Settings;
 use rescue_domain::domain::Domain;
-use rescue_rules::report::{Report, Said};
-use rescue_rules::stop::{RunEnd, Stop};
+use rescue_rules::stop::Stop;
+use rescue_rules::tally::Tally;
 use save_resume::draft::SaveFault;
-use save_resume::names::Names;
-use save_resume::save::save;
 use std::marker::Model;
 
 /// A piece of a map: a position, and how many bytes from there on.
@@ -49,54 +46,28 @@ pub(crate) struct Piece {
     pub len: usize,
 }
 
-/// What a sweep has come to. Times are in milliseconds since 1970.
-#[derive(Clone, Copy, Debug, PartialEq, Eq)]
-pub(crate) struct Tally {
-    pub cursor: u64,
-    /// How many bytes were written.
-    pub written: u64,
-    /// The start, the last piece and the last save that was due.
-    pub began: u64,
-    pub now: u64,
-    pub due_at: u64,
-    /// What a saved mapfile shows.
-    pub shown: MapState,
-    /// The line that was put last after a piece, if there was one.
-    pub said: Option<Said>,
-}
-
-/// What is due after a piece.
-#[derive(Clone, Copy, Debug, PartialEq, Eq)]
-pub(crate) struct Due {
-    pub line: bool,
-    pub save: bool,
-}
-
 /// A sweep between its pieces.
 #[derive(Drop)]
 pub(crate) struct Sweeping<T: Tiles> {
     settings: Settings,
     domain: Domain,
     pub tiles: T,
-    names: Names,
-    heading: Heading,
     mode: SweepMode,
-    tally: Tally,
-    heard: bool,
+    cursor: u64,
+    keeper: Keeper,
 }
 
 impl<T: Tiles> Model for Sweeping<T> {
-    ghost use Rattle.std.specs.Prelude.{◌≡◌};
+    ghost use Rattle.std.specs.Prelude.{◌≡◌, true, is_some};
     ghost use Rattle.mapfile_text.specs.declared.heading.Program.TheVariants.{Ddrescue};
     ghost use Rattle.fill_generate.specs.SweepState.{SweepState, state_at, IsSweeping};
 
     ghost Value = { SweepState };
 
-    ghost view = { λ r. state_at r.settings r.domain r.names r.heading.line (T.statuses r.tiles) r.mode r.tally
-        r.heard };
+    ghost view = { λ r. state_at r.settings r.domain (T.statuses r.tiles) r.mode r.cursor r.keeper };
 
-    ghost invariant = { λ r. IsSweeping (state_at r.settings r.domain r.names r.heading.line (T.statuses r.tiles) r.mode
-        r.tally r.heard) × (r.heading.program ≡ Ddrescue) };
+    ghost invariant = { λ r. IsSweeping (state_at r.settings r.domain (T.statuses r.tiles) r.mode r.cursor r.keeper)
+        × (r.keeper.heading.program ≡ Ddrescue) × (is_some r.keeper.names ≡ true) };
 }
 
 /// Where a sweep begins, which resumes from the position that a mapfile showed if that was of its kind.
@@ -111,65 +82,6 @@ fn first_cursor(loaded: Option<MapState>, current: Current) -> u64
             } else {
                 0
             }
-        }
-    }
-}
-
-impl Tally {
-    ghost use Rattle.std.specs.Prelude.{◌≡◌, ◌+◌, ◌<◌, ◌^◌, List};
-    ghost use Rattle.block_list.specs.declared.status.Status.{Status};
-    ghost use Rattle.sweep_rules.specs.Sweep.{Sweeper, sweep_over};
-    ghost use Rattle.fill_generate.specs.SweepState.{sweep_at, moved};
-
-    /// The tally of a sweep that begins at this moment, and may go on from a state that a mapfile showed.
-    fn first(loaded: Option<MapState>, current: Current, moment: u64) -> Tally
-        ensures { (w : Sweeper) (map : List Status) → w.current ≡ current
-            → sweep_at map result ≡ sweep_over w map loaded moment }
-    {
-        let nothing = MapState {
-            pos: 0,
-            current: Current::Copying,
-            pass: 1,
-        };
-        Tally {
-            cursor: first_cursor(loaded, current),
-            written: 0,
-            began: moment,
-            now: moment,
-            due_at: moment,
-            shown: loaded.unwrap_or(nothing),
-            said: None,
-        }
-    }
-
-    /// What a sweep has come to after a piece at this time, of which this many bytes were written.
-    fn with_piece(self, piece: Piece, current: Current, written: u64, after: u64) -> Tally
-        requires { piece.pos + piece.len < 2 ^ 63 }
-        ensures { (map : List Status)
-            → sweep_at map result ≡ moved current (sweep_at map self) piece.pos piece.len written after }
-    {
-        let cursor = piece.pos + piece.len as u64;
-        let second = after / 1000;
-        Tally {
-            cursor,
-            written: self.written.saturating_add(written),
-            began: self.began,
-            now: after,
-            due_at: if is_save_due(self.due_at, after) {
-                after
-            } else {
-                self.due_at
-            },
-            shown: MapState {
-                pos: cursor,
-                current,
-                pass: 1,
-            },
-            said: if is_line_due(self.said, current, second) {
-                Some(Said { current, second })
-            } else {
-                self.said
-            },
         }
     }
 }
@@ -205,11 +117,14 @@ impl<T: Tiles> Sweeping<T> {
             settings,
             domain,
             tiles,
-            names,
-            heading,
             mode,
-            tally: Tally::first(loaded, mode.current(), moment),
-            heard,
+            cursor: first_cursor(loaded, mode.current()),
+            keeper: Keeper {
+                names: Some(names),
+                heading,
+                tally: Tally::first(loaded, moment, 0),
+                heard,
+            },
         }
     }
 
@@ -219,7 +134,7 @@ impl<T: Tiles> Sweeping<T> {
         ensures none { IfNone result ((w : Sweeper) → IsSweeperOf self.now.mode w
             → IsSweptOut (setting_of self.now) w self.now.sweep) }
     {
-        let pos = first_taken(self.mode, &self.domain, &self.tiles, self.tally.cursor)?;
+        let pos = first_taken(self.mode, &self.domain, &self.tiles, self.cursor)?;
         let sector = self.settings.sector;
         let limit = (pos + self.settings.cluster) / sector * sector;
         let most = limit.min(self.tiles.end());
@@ -272,58 +187,30 @@ impl<T: Tiles> Sweeping<T> {
         requires { piece.pos + piece.len < 2 ^ 63 }
         ensures moved { self.new ≡ standing self.old
             (moved (current_in self.old.mode) self.old.sweep piece.pos piece.len written after) }
-        ensures line { result.line ≡ is_line_due self.old.sweep.said (current_in self.old.mode) (after / 1000) }
-        ensures save { result.save ≡ nat_le (self.old.sweep.due_at + save_interval) after }
+        ensures speaks { result.speaks
+            ≡ is_line_due self.old.sweep.tally.said (current_in self.old.mode) (after / 1000) }
+        ensures saves { result.saves ≡ nat_le (self.old.sweep.tally.due_at + save_interval) after }
     {
-        let current = self.mode.current();
-        let due = Due {
-            line: is_line_due(self.tally.said, current, after / 1000),
-            save: is_save_due(self.tally.due_at, after),
+        self.cursor = piece.pos + piece.len as u64;
+        let shown = MapState {
+            pos: self.cursor,
+            current: self.mode.current(),
+            pass: 1,
         };
-        self.tally = self.tally.with_piece(piece, current, written, after);
-        due
-    }
-
-    /// What a line tells.
-    fn report(&self) -> Report
-        ensures { result ≡ sweep_report (setting_of self.now) self.now.sweep }
-    {
-        Report {
-            shown: self.tally.shown,
-            counts: counts_at_first(&self.domain, &self.tiles),
-            errors: 0,
-            taken: self.tally.now.saturating_sub(self.tally.began),
-            written: self.tally.written,
-        }
+        self.keeper.pass_event(shown, written, after)
     }
 
     /// Says the line after a piece, if one is due and it is heard. A console that fails isn't told any further.
     fn say_due<C: Console>(&mut self, due: bool, console: &mut C)
         ensures stands { self.new ≡ record self.old { heard = self.new.heard } }
-        ensures says { SpeaksOn (out_pieces (if due then report_text (phase_front self.old.sweep.shown)
+        ensures says { SpeaksOn (out_pieces (if due then report_text (phase_front self.old.sweep.tally.shown)
             (sweep_report (setting_of self.old) self.old.sweep) ∷ [] else [])) self.old.heard self.new.heard
             (C.state console.old) (C.state console.new) }
     {
         if due {
-            self.heard = say_phase(console, self.heard, &self.report());
+            let counts = counts_at_first(&self.domain, &self.tiles);
+            self.keeper.say_phase(counts, console);
         }
-    }
-
-    /// Saves the map with what a mapfile then shows.
-    fn save_showing<D: Site>(&mut self, shown: MapState, site: &mut D) -> Result<(), SaveFault>
-        requires no_draft { (D.state site.old).is_drafting ≡ false }
-        ensures stands { self.new ≡ self.old }
-        ensures call { Saves (save_calls self.old.names (text_of self.old.line (record {
-          map = self.old.sweep.map;
-          shown = shown;
-          began = self.old.sweep.began;
-          now = self.old.sweep.now;
-        }))) false result (D.state site.old) (D.state site.new) }
-    {
-        self.heading
-            .set_times(self.tally.began / 1000, self.tally.now / 1000);
-        save(site, &self.names, shown, &self.tiles, &self.heading)?;
-        Ok(())
     }
 
     /// Saves the map if it is time for that.
@@ -334,7 +221,7 @@ impl<T: Tiles> Sweeping<T> {
             (sweep_snapshot self.old.sweep)) else []) false result (D.state site.old) (D.state site.new) }
     {
         if due {
-            self.save_showing(self.tally.shown, site)
+            self.keeper.save(&self.tiles, site)
         } else {
             Ok(())
         }
@@ -368,8 +255,8 @@ impl<T: Tiles> Sweeping<T> {
     {
         let after = clock.now_ms();
         let due = self.pass(piece, written, after);
-        self.say_due(due.line, console);
-        match self.save_due(due.save, site) {
+        self.say_due(due.speaks, console);
+        match self.save_due(due.saves, site) {
             Ok(()) => Ok(()),
             Err(fault) => Err(Stop::Site(fault.call)),
         }
@@ -391,56 +278,15 @@ impl<T: Tiles> Sweeping<T> {
         ensures site { SiteKeeps (D.state site.old) (D.state site.new) }
         ensures image { (D.state site.new).is_open ≡ (D.state site.old).is_open }
     {
-        let heard = self.heard;
-        let report = self.report();
-        let end = self.close_files(stop, site);
-        let heard = say_last(console, heard, end.is_done(), &report);
-        Closed { end, heard }
-    }
-
-    /// Makes the last calls on the files; after one that failed it makes no further one.
-    fn close_files<D: Site>(self, stop: Option<Stop>, site: &mut D) -> RunEnd
-        requires no_draft { MayClose stop (D.state site.old) }
-        ensures closes { ClosesFiles (setting_of self) self.sweep stop result (D.state site.old) (D.state site.new) }
-        ensures site { SiteKeeps (D.state site.old) (D.state site.new) }
-        ensures image { (D.state site.new).is_open ≡ (D.state site.old).is_open }
-    {
-        match stop {
-            None => self.save_last(None, site),
-            Some(stop) => self.close_stopped(stop, site),
-        }
-    }
-
-    fn close_stopped<D: Site>(self, stop: Stop, site: &mut D) -> RunEnd
-        requires no_draft { MayClose (Some stop) (D.state site.old) }
-        ensures closes { ClosesFiles (setting_of self) self.sweep (Some stop) result (D.state site.old)
-            (D.state site.new) }
-        ensures site { SiteKeeps (D.state site.old) (D.state site.new) }
-        ensures image { (D.state site.new).is_open ≡ (D.state site.old).is_open }
-    {
-        match stop {
-            Stop::SourceLost => self.save_last(Some(stop), site),
-            Stop::Site(_) => RunEnd::Stopped(stop),
-            Stop::LimitMet(_) => self.save_last(Some(stop), site),
-            Stop::NoMemory => self.save_last(Some(stop), site),
-        }
-    }
-
-    /// Saves the map at the sweep's end.
-    fn save_last<D: Site>(self, stop: Option<Stop>, site: &mut D) -> RunEnd
-        requires no_draft { (D.state site.old).is_drafting ≡ false }
-        ensures saves { SavesLast (setting_of self) self.sweep stop result (D.state site.old) (D.state site.new) }
-        ensures site { SiteKeeps (D.state site.old) (D.state site.new) }
-        ensures image { (D.state site.new).is_open ≡ (D.state site.old).is_open }
-    {
-        let mut last = self;
-        let shown = last_shown(last.tally.shown, stop);
-        match last.save_showing(shown, site) {
-            Ok(()) => end_saved(stop),
-            Err(fault) => RunEnd::SaveFailed {
-                call: fault.call,
-                earlier: stop,
-            },
-        }
+        let Sweeping {
+            settings: _,
+            domain,
+            tiles,
+            mode: _,
+            cursor: _,
+            keeper,
+        } = self;
+        let counts = counts_at_first(&domain, &tiles);
+        keeper.close(stop, counts, &tiles, site, console)
     }
 }

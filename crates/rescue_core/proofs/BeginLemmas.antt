@@ -1,5 +1,5 @@
 -- A run at its start, and at the start of its next pass.
-use Rattle.std.proofs.Common.{◌≡◌, ℕ, ◌<◌, min, Bool, true, false, ◌&&◌, nat_eq, List, ◌∷◌, ◌^◌, length, drop, Option, Some, None, refl, sym, ap, ◌∙◌, arith, ⊎_elim}
+use Rattle.std.proofs.Common.{◌≡◌, ℕ, ◌<◌, min, Bool, true, ◌&&◌, nat_eq, List, ◌∷◌, ◌^◌, length, drop, Option, Some, None, refl, sym, ap, ◌∙◌, arith, ⊎_elim}
 use Rattle.std.specs.List.{slice_get}
 use Rattle.std.proofs.Math.Bool.{and-true}
 use Rattle.std.proofs.Math.Path.{fun_ext}
@@ -18,10 +18,10 @@ use Rattle.rescue_rules.specs.Passes.{Pass, numbered, passes_from}
 use Rattle.rescue_rules.specs.Machine.{Machine, start_of, is_live}
 use Rattle.rescue_rules.specs.Beginning.{first_pass, first_cursor}
 use Rattle.rescue_domain.specs.Parts.{covers}
+use Rattle.rescue_core.specs.declared.keeper.Keeper.{Keeper}
 use Rattle.rescue_core.specs.declared.settings.Settings.{Settings}
 use Rattle.rescue_core.specs.declared.state.Progress.{Progress}
 use Rattle.rescue_rules.specs.declared.report.Counts.{Counts}
-use Rattle.rescue_rules.specs.declared.tally.Tally.{Tally}
 use Rattle.rescue_rules.specs.Counts.{counts_of}
 use Rattle.rescue_rules.proofs.FitLemmas.{first_few, first_there, start_there}
 use Rattle.rescue_rules.proofs.ReadyLemmas.{order_lead}
@@ -68,16 +68,17 @@ at_pass r phase pass passes cursor mode skip = record r {
   machine = record r.machine { passes = passes; cursor = cursor; mode = mode; skip = skip };
 }
 
-pub passed_is : (settings : Settings) (domain : List Range) (names : Option MapNames) (line : List ℕ) (map : List Status) (phase : Phase)
-    (progress : Progress) (tally : Tally) (heard : Bool) (phase' : Phase) (pass : ℕ) (progress' : Progress)
-    → slice_get (passes_from (setting_with settings domain names line) phase progress.pass) 1 ≡ Some (numbered phase' pass)
-    → progress'.pass ≡ pass → progress'.cursor ≡ start_of (setting_with settings domain names line) (numbered phase' pass) map
+pub passed_is : (settings : Settings) (domain : List Range) (map : List Status) (phase : Phase) (progress : Progress)
+    (keeper : Keeper) (phase' : Phase) (pass : ℕ) (progress' : Progress)
+    → let s : Setting = setting_with settings domain keeper.names keeper.heading.line in
+    slice_get (passes_from s phase progress.pass) 1 ≡ Some (numbered phase' pass)
+    → progress'.pass ≡ pass → progress'.cursor ≡ start_of s (numbered phase' pass) map
     → progress'.mode ≡ Lead → progress'.skip ≡ settings.skips.first
-    → run_at settings domain names line map phase' progress' tally heard
-    ≡ passed (run_at settings domain names line map phase progress tally heard) phase' pass
-passed_is settings domain names line map phase progress tally heard phase' pass progress' next is begins lead skip =
-    let s : Setting = setting_with settings domain names line in
-    let r : RunState = run_at settings domain names line map phase progress tally heard in
+    → run_at settings domain map phase' progress' keeper
+    ≡ passed (run_at settings domain map phase progress keeper) phase' pass
+passed_is settings domain map phase progress keeper phase' pass progress' next is begins lead skip =
+    let s : Setting = setting_with settings domain keeper.names keeper.heading.line in
+    let r : RunState = run_at settings domain map phase progress keeper in
     ap (λ (n : ℕ). at_pass r phase' n (passes_from s phase' n) progress'.cursor progress'.mode progress'.skip) is
     ∙ ap (λ (ps : List Pass). at_pass r phase' pass ps progress'.cursor progress'.mode progress'.skip)
     (next_passes s phase progress.pass (numbered phase' pass) next)
@@ -103,15 +104,15 @@ first_last s loaded state map pass cursor is least last begins =
     (eq-eqb (min state.pass 5) 5 (sym least ∙ last)))
     ∙ ap (λ (o : Option MapState). first_cursor s o map) (sym is)
 
-pub running_started : (settings : Settings) (domain : List Range) (names : Option MapNames) (line : List ℕ) (map : List Status)
-    (loaded : Option MapState) (progress : Progress) (tally : Tally) (heard : Bool) (room : ℕ) → IsSound settings
+pub running_started : (settings : Settings) (domain : List Range) (map : List Status) (loaded : Option MapState)
+    (progress : Progress) (keeper : Keeper) (room : ℕ) → IsSound settings
     → Suits settings (covers domain) (length map) → length map < 2 ^ 63 → progress.pass ≡ first_pass loaded
-    → progress.cursor ≡ first_cursor (setting_with settings domain names line) loaded map → progress.mode ≡ Lead
-    → progress.skip ≡ settings.skips.first → room ≡ settings.cluster
-    → IsRunning (run_at settings domain names line map Copying progress tally heard) room
-running_started settings domain names line map loaded progress tally heard room sound suits short pass cursor lead skip size =
-    let s : Setting = setting_with settings domain names line in
-    let m : Machine = (run_at settings domain names line map Copying progress tally heard).machine in
+    → progress.cursor ≡ first_cursor (setting_with settings domain keeper.names keeper.heading.line) loaded map
+    → progress.mode ≡ Lead → progress.skip ≡ settings.skips.first → room ≡ settings.cluster
+    → IsRunning (run_at settings domain map Copying progress keeper) room
+running_started settings domain map loaded progress keeper room sound suits short pass cursor lead skip size =
+    let s : Setting = setting_with settings domain keeper.names keeper.heading.line in
+    let m : Machine = (run_at settings domain map Copying progress keeper).machine in
     record {
       sound = sound;
       suits = suits;
@@ -130,11 +131,10 @@ running_started settings domain names line map loaded progress tally heard room 
 all_live : (s : Setting) (m : Machine) → m.tally.over ≡ None → is_live s m ≡ s.domain
 all_live s m none = fun_ext (λ x. ap (λ (o : Option ℕ). s.domain x && is_before o x) none ∙ and-true (s.domain x))
 
-pub counted_started : (settings : Settings) (domain : List Range) (names : Option MapNames) (line : List ℕ) (map : List Status)
-    (progress : Progress) (tally : Tally) (heard : Bool) (counts : Counts) → tally.over ≡ None
-    → counts ≡ counts_of (covers domain) map
-    → HasCounts (run_at settings domain names line map Copying progress tally heard) counts
-counted_started settings domain names line map progress tally heard counts none is =
-    let r : RunState = run_at settings domain names line map Copying progress tally heard in record {
+pub counted_started : (settings : Settings) (domain : List Range) (map : List Status) (progress : Progress)
+    (keeper : Keeper) (counts : Counts) → keeper.tally.over ≡ None → counts ≡ counts_of (covers domain) map
+    → HasCounts (run_at settings domain map Copying progress keeper) counts
+counted_started settings domain map progress keeper counts none is =
+    let r : RunState = run_at settings domain map Copying progress keeper in record {
       counts_are = is ∙ ap (λ (set : ℕ → Bool). counts_of set map) (sym (all_live (setting_in r) r.machine none));
     }

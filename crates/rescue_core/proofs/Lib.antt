@@ -3,17 +3,18 @@ pub mod ChangeLemmas
 pub mod CountsLemmas
 pub mod PassLemmas
 pub mod PrepareLemmas
-pub mod SaveLemmas
 pub mod StageLemmas
 pub mod TurnEndLemmas
 -- These are the crate's own.
 mod BeginLemmas
 mod ClosingLemmas
+mod KeeperLemmas
 mod LineLemmas
 mod ProgressLemmas
 mod RequestLemmas
 mod RoomLemmas
 mod RunningLemmas
+mod SaveLemmas
 mod TurnCallLemmas
 mod TurnLemmas
 mod TurnMarkLemmas

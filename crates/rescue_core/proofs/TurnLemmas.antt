@@ -20,6 +20,7 @@ use Rattle.rescue_rules.specs.Machine.{Machine, pass_of, has_taken, is_live, is_
 use Rattle.rescue_rules.specs.Step.{Event, map_after, step}
 use Rattle.rescue_rules.proofs.RoundLemmas.{ceiling_above}
 use Rattle.rescue_rules.proofs.StepLemmas.{Asks, request_asks, wanted_domain, asks_back}
+use Rattle.rescue_core.specs.declared.keeper.Keeper.{Keeper}
 use Rattle.rescue_core.specs.declared.settings.Settings.{Settings}
 use Rattle.rescue_core.specs.declared.state.Progress.{Progress}
 use Rattle.rescue_core.specs.RunState.{RunState, setting_in, HasPlaces, IsRunning, run_at}
@@ -110,16 +111,17 @@ wanted_in s m map phase n k pos x wanted pass =
     (and_parts (is_live s m pos) (has_taken m.passes (slice_get m.map pos)) wanted).1 pass)
 
 -- a run after an event, by its parts
-pub run_steps : (settings : Settings) (domain : List Range) (names : Option MapNames) (line : List ℕ) (map map' : List Status)
-    (phase : Phase) (progress progress' : Progress) (tally tally' : Tally) (heard : Bool) (e : Event)
-    → let r : RunState = run_at settings domain names line map phase progress tally heard in
+pub run_steps : (settings : Settings) (domain : List Range) (map map' : List Status) (phase : Phase)
+    (progress progress' : Progress) (keeper : Keeper) (tally' : Tally) (e : Event)
+    → let r : RunState = run_at settings domain map phase progress keeper in
     map' ≡ map_after (setting_in r) r.machine e.reading
     → progress' ≡ progress_of progress.pass (step (setting_in r) r.machine e)
     → tally' ≡ (step (setting_in r) r.machine e).tally
-    → run_at settings domain names line map' phase progress' tally' heard ≡ stepped r e heard
-run_steps settings domain names line map map' phase progress progress' tally tally' heard e map_is place_is tally_is =
-    let r : RunState = run_at settings domain names line map phase progress tally heard in
+    → run_at settings domain map' phase progress' (record keeper { tally = tally' }) ≡ stepped r e keeper.heard
+run_steps settings domain map map' phase progress progress' keeper tally' e map_is place_is tally_is =
+    let r : RunState = run_at settings domain map phase progress keeper in
     let n : Machine = step (setting_in r) r.machine e in
-    ap (λ (l : List Status). run_at settings domain names line l phase progress' tally' heard) map_is
-    ∙ ap (λ (p : Progress). run_at settings domain names line n.map phase p tally' heard) place_is
-    ∙ ap (λ (t : Tally). run_at settings domain names line n.map phase (progress_of progress.pass n) t heard) tally_is
+    let k : Tally → Keeper = λ t. record keeper { tally = t } in
+    ap (λ (l : List Status). run_at settings domain l phase progress' (k tally')) map_is
+    ∙ ap (λ (p : Progress). run_at settings domain n.map phase p (k tally')) place_is
+    ∙ ap (λ (t : Tally). run_at settings domain n.map phase (progress_of progress.pass n) (k t)) tally_is

@@ -1,11 +1,10 @@
 -- What a turn makes of a run, by what its parts say.
-use Rattle.std.proofs.Common.{◌≡◌, ℕ, ◌+◌, ◌/◌, Bool, ◌&&◌, Option, List, [], ◌∷◌, length, take, drop, ◌++◌, refl, sym, ap, subst, ◌∙◌, arith, length-append, length-drop, length-take-le}
+use Rattle.std.proofs.Common.{◌≡◌, ℕ, ◌+◌, ◌/◌, ◌&&◌, List, [], ◌∷◌, length, take, drop, ◌++◌, refl, sym, ap, subst, ◌∙◌, arith, length-append, length-drop, length-take-le}
 use Rattle.std.specs.List.{slice_get}
 use Rattle.block_list.specs.declared.block.Range.{Range}
 use Rattle.block_list.specs.declared.status.Status.{Status}
 use Rattle.faulty_source.specs.SourceState.{SourceState}
 use Rattle.crash_site.specs.SiteState.{SiteState}
-use Rattle.save_resume.specs.MapNames.{MapNames}
 use Rattle.rescue_console.specs.ClockState.{ClockState}
 use Rattle.rescue_domain.specs.Parts.{covers}
 use Rattle.transfer_token.specs.declared.token.Request.{Request}
@@ -23,6 +22,7 @@ use Rattle.rescue_rules.specs.MachineLaws.{StepsBy}
 use Rattle.rescue_rules.proofs.StepLemmas.{move_steps}
 use Rattle.rescue_core.specs.declared.gather.Gathered.{Gathered}
 use Rattle.rescue_core.specs.declared.running.Running.TheInside.{Inside}
+use Rattle.rescue_core.specs.declared.keeper.Keeper.{Keeper}
 use Rattle.rescue_core.specs.declared.settings.Settings.{Settings}
 use Rattle.rescue_core.specs.declared.state.Progress.{Progress}
 use Rattle.rescue_core.specs.declared.turn.Turn.{Turn}
@@ -40,33 +40,28 @@ use Rattle.rescue_core.proofs.StageLemmas.{running_sensible}
 pub record Parts : Type 0 where
   pub settings : Settings
   pub domain : List Range
-  pub names : Option MapNames
-  pub line : List ℕ
   pub map : List Status
   pub phase : Phase
   pub progress : Progress
-  pub tally : Tally
-  pub heard : Bool
+  pub keeper : Keeper
 
 abbrev pub parts_of : (T : Type 0) → (T → List Status) → Inside T → Parts
 parts_of T statuses r = record {
   settings = r.settings;
   domain = r.domain;
-  names = r.names;
-  line = r.heading.line;
   map = statuses r.tiles;
   phase = r.phase;
   progress = r.progress;
-  tally = r.tally;
-  heard = r.heard;
+  keeper = r.keeper;
 }
 
 abbrev pub run_of : Parts → RunState
-run_of p = run_at p.settings p.domain p.names p.line p.map p.phase p.progress p.tally p.heard
+run_of p = run_at p.settings p.domain p.map p.phase p.progress p.keeper
 
 -- the parts after the marks of a turn
 abbrev pub parts_after : Parts → List Status → Progress → Tally → Parts
-parts_after p map progress tally = record p { map = map; progress = progress; tally = tally }
+parts_after p map progress tally =
+    record p { map = map; progress = progress; keeper = record p.keeper { tally = tally } }
 
 -- a turn begins with this run, in which it has a request
 pub record Begins (p : Parts) (r : RunState) (room : ℕ) (request : Request) : Type 0 where
@@ -80,7 +75,7 @@ pub record Does (p : Parts) (request : Request) (got : Gathered) (map' : List St
     (counts counts' : Counts) (advanced : Advanced) : Type 0 where
   pub old : List Status
   pub old_is : old ≡ p.map
-  pub goes : GoesOnAfter p.settings p.domain p.phase request got old map' p.progress progress' p.tally tally' counts counts' advanced
+  pub goes : GoesOnAfter p.settings p.domain p.phase request got old map' p.progress progress' p.keeper.tally tally' counts counts' advanced
 
 pub begins_of : (T : Type 0) (statuses : T → List Status) (was : Inside T) (r : RunState) (request : Request)
     → run_of (parts_of T statuses was) ≡ r → IsRunning (run_of (parts_of T statuses was)) (length was.buf.items)
@@ -164,7 +159,7 @@ pub does_step : (p : Parts) (r : RunState) (room : ℕ) (request : Request) (got
     (site site' : SiteState) (clock clock' : ClockState) → Begins p r room request
     → (g : Gathers request p.settings got source source' site site' clock clock')
     → Does p request got map' progress' tally' counts counts' advanced
-    → run_of (parts_after p map' progress' tally') ≡ stepped (run_of p) g.event p.heard
+    → run_of (parts_after p map' progress' tally') ≡ stepped (run_of p) g.event p.keeper.heard
 does_step p r room request got map' progress' tally' counts counts' advanced source source' site site' clock clock' b g d =
     let before : RunState = run_of p in
     let e : Event = g.event in
@@ -190,7 +185,7 @@ does_step p r room request got map' progress' tally' counts counts' advanced sou
     ∙ ap (λ (q : Pass). record { pos = n.cursor; current = current_of q.phase; pass = q.number }) (sym b.running.pass) in
     let tally_is : tally' ≡ n.tally
     = d.goes.tallies before e refl turn g.after shown (d.goes.meets e.reading g.cut) in
-    run_steps p.settings p.domain p.names p.line p.map map' p.phase p.progress progress' p.tally tally' p.heard e map_is
+    run_steps p.settings p.domain p.map map' p.phase p.progress progress' p.keeper tally' e map_is
     place_is tally_is
 
 -- it stands as between any turns
@@ -204,7 +199,7 @@ does_running p r room request got map' progress' tally' counts counts' advanced 
     let e : Event = g.event in
     subst (λ (x : RunState). IsRunning x room)
     (sym (does_step p r room request got map' progress' tally' counts counts' advanced source source' site site' clock clock' b g d))
-    (running_steps before room e p.heard b.running
+    (running_steps before room e p.keeper.heard b.running
     (event_asks (setting_in before) before.machine e request.pos request.len g.is.pos g.is.asked
     (begins_asks p r room request b))
     (omega (arith, g.is.few, g.is.asked)))
@@ -219,7 +214,7 @@ pub does_counted : (p : Parts) (r : RunState) (room : ℕ) (request : Request) (
 does_counted p r room request got map' progress' tally' counts counts' advanced source source' site site' clock clock' b g d were =
     subst (λ (x : RunState). HasCounts x counts')
     (sym (does_step p r room request got map' progress' tally' counts counts' advanced source source' site site' clock clock' b g d))
-    (d.goes.recounts (run_of p) g.event p.heard were (record {
+    (d.goes.recounts (run_of p) g.event p.keeper.heard were (record {
       room = room;
       running = b.running;
       phase_is = refl;
@@ -241,7 +236,7 @@ pub does_advance : (p : Parts) (r : RunState) (room : ℕ) (request : Request) (
     → Advances request advanced r (run_of (parts_after p map' progress' tally')) source source' site site' clock clock'
 does_advance p r room request got map' progress' tally' counts counts' advanced source source' site site' clock clock' b g d =
     let later : RunState = run_of (parts_after p map' progress' tally') in
-    let is : later ≡ stepped (run_of p) g.event p.heard
+    let is : later ≡ stepped (run_of p) g.event p.keeper.heard
     = does_step p r room request got map' progress' tally' counts counts' advanced source source' site site' clock clock' b g d in
     subst (λ (x : RunState). Advances request advanced x later source source' site site' clock clock') b.is (record {
       event = g.event;
@@ -250,8 +245,8 @@ does_advance p r room request got map' progress' tally' counts counts' advanced 
       steps = is;
       writes = g.writes (run_of p) refl;
       speaks = d.goes.speaks
-          ∙ ap (λ (q : Pass). is_line_due p.tally.said (current_of q.phase) (got.after / 1000)) (sym b.running.pass)
-          ∙ ap (λ (n : ℕ). is_line_due p.tally.said (current_of (pass_of (run_of p).machine).phase) (n / 1000)) (sym g.after);
+          ∙ ap (λ (q : Pass). is_line_due p.keeper.tally.said (current_of q.phase) (got.after / 1000)) (sym b.running.pass)
+          ∙ ap (λ (n : ℕ). is_line_due p.keeper.tally.said (current_of (pass_of (run_of p).machine).phase) (n / 1000)) (sym g.after);
       saves = d.goes.saves (run_of p).machine g.event refl g.after;
     })
 

@@ -1,6 +1,8 @@
 -- What the end of a run does.
 use Rattle.std.specs.Prelude.{◌≡◌, ⊤, false, Bool, List, [], ◌∷◌, Option, Some, None}
+use Rattle.block_list.specs.declared.status.Status.{Status}
 use Rattle.crash_site.specs.declared.site.SiteCall.{SiteCall}
+use Rattle.crash_site.specs.Calls.{Call}
 use Rattle.crash_site.specs.SiteState.{SiteState}
 use Rattle.crash_site.specs.SiteChanges.{Makes, Breaks}
 use Rattle.save_resume.specs.Saving.{IsNameIn, drafting_after_fault}
@@ -8,7 +10,8 @@ use Rattle.rescue_rules.specs.declared.stop.Stop.{Stop}
 use Rattle.rescue_rules.specs.declared.stop.Stop.TheVariants.{SourceLost, Site, LimitMet, NoMemory}
 use Rattle.rescue_rules.specs.declared.stop.RunEnd.{RunEnd}
 use Rattle.rescue_rules.specs.declared.stop.RunEnd.TheVariants.{Stopped, SaveFailed}
-use Rattle.rescue_rules.specs.Snapshots.{Snapshot, snapshot_of, finished_snapshot}
+use Rattle.rescue_rules.specs.declared.tally.Tally.{Tally}
+use Rattle.rescue_rules.specs.Snapshots.{Snapshot, snapshot_with, finished_with}
 use Rattle.rescue_rules.specs.RunCalls.{closing_calls}
 use Rattle.rescue_rules.specs.Lines.{is_done, last_line}
 use Rattle.rescue_rules.specs.Work.{end_of}
@@ -22,28 +25,35 @@ drafting_at_stop (Site call) = drafting_after_fault call false
 drafting_at_stop (LimitMet limit) = false
 drafting_at_stop NoMemory = false
 
--- what is saved: a run without a stop is finished
+-- what is saved at the end of a run: one without a stop is finished
+abbrev pub closing_with : Option Stop → List Status → Tally → Snapshot
+closing_with None map t = finished_with map t
+closing_with (Some stop) map t = snapshot_with map t
+
 abbrev pub closing_snapshot : Option Stop → RunState → Snapshot
-closing_snapshot None r = finished_snapshot r.machine
-closing_snapshot (Some stop) r = snapshot_of r.machine
+closing_snapshot stop r = closing_with stop r.machine.map r.machine.tally
 
--- a run's last calls returned, a save or without a mapfile an image sync, or one of them failed
-pub data LastSave (stop : Option Stop) (r : RunState) (end : RunEnd) (site site' : SiteState) : Type 0 where
-  Saved : end ≡ end_of stop → Makes (closing_calls (setting_in r) (closing_snapshot stop r)) site site'
-      → site'.is_drafting ≡ false → LastSave stop r end site site'
-  Unsaved : (call : SiteCall) → end ≡ SaveFailed call stop
-      → IsNameIn call (closing_calls (setting_in r) (closing_snapshot stop r))
-      → Breaks call (closing_calls (setting_in r) (closing_snapshot stop r)) site site'
-      → site'.is_drafting ≡ drafting_after_fault call false → LastSave stop r end site site'
+-- these last calls returned, or one of them failed
+pub data LastCalls (calls : List Call) (stop : Option Stop) (end : RunEnd) (site site' : SiteState) : Type 0 where
+  Saved : end ≡ end_of stop → Makes calls site site' → site'.is_drafting ≡ false → LastCalls calls stop end site site'
+  Unsaved : (call : SiteCall) → end ≡ SaveFailed call stop → IsNameIn call calls → Breaks call calls site site'
+      → site'.is_drafting ≡ drafting_after_fault call false → LastCalls calls stop end site site'
 
--- The end of a run saves its map, or without a mapfile syncs its output; but after a call on its files that failed it
--- makes no further call.
+-- a run's last calls: a save, or without a mapfile an image sync
+abbrev pub LastSave : Option Stop → RunState → RunEnd → (site site' : SiteState) → Type 0
+LastSave stop r end site site' = LastCalls (closing_calls (setting_in r) (closing_snapshot stop r)) stop end site site'
+
+-- At the end these calls are made; but after a call on the files that failed no further one is.
+abbrev pub EndsBy : List Call → Option Stop → RunEnd → (site site' : SiteState) → Type 0
+EndsBy calls None end site site' = LastCalls calls None end site site'
+EndsBy calls (Some SourceLost) end site site' = LastCalls calls (Some SourceLost) end site site'
+EndsBy calls (Some (Site call)) end site site' = (end ≡ Stopped (Site call)) × (site' ≡ site)
+EndsBy calls (Some (LimitMet limit)) end site site' = LastCalls calls (Some (LimitMet limit)) end site site'
+EndsBy calls (Some NoMemory) end site site' = LastCalls calls (Some NoMemory) end site site'
+
+-- The end of a run saves its map, or without a mapfile syncs its output.
 abbrev pub Closes : Option Stop → RunState → RunEnd → (site site' : SiteState) → Type 0
-Closes None r end site site' = LastSave None r end site site'
-Closes (Some SourceLost) r end site site' = LastSave (Some SourceLost) r end site site'
-Closes (Some (Site call)) r end site site' = (end ≡ Stopped (Site call)) × (site' ≡ site)
-Closes (Some (LimitMet limit)) r end site site' = LastSave (Some (LimitMet limit)) r end site site'
-Closes (Some NoMemory) r end site site' = LastSave (Some NoMemory) r end site site'
+Closes stop r end site site' = EndsBy (closing_calls (setting_in r) (closing_snapshot stop r)) stop end site site'
 
 -- a run that stopped, and why
 pub record StoppedState : Type 0 where

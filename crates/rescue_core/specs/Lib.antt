@@ -1,5 +1,6 @@
 pub mod Across
 pub mod RunState
+pub mod Keeping
 pub mod Search
 pub mod Preparing
 pub mod Requesting

@@ -20,6 +20,7 @@ use Rattle.rescue_rules.specs.declared.report.Counts.{Counts}
 use Rattle.rescue_rules.specs.Counts.{counts_of}
 use Rattle.rescue_rules.specs.Beginning.{first_pass, shown_at_first, machine_of}
 use Rattle.rescue_domain.specs.Parts.{covers}
+use Rattle.rescue_core.specs.declared.keeper.Keeper.{Keeper}
 use Rattle.rescue_core.specs.declared.settings.Settings.{Settings}
 use Rattle.rescue_core.specs.declared.state.Progress.{Progress}
 
@@ -103,17 +104,16 @@ machine_at s map phase progress tally = record {
 }
 
 -- the run that these parts make
-abbrev pub run_at : Settings → List Range → Option MapNames → List ℕ → List Status → Phase → Progress → Tally → Bool
-    → RunState
-run_at settings domain names line map phase progress tally heard = record {
+abbrev pub run_at : Settings → List Range → List Status → Phase → Progress → Keeper → RunState
+run_at settings domain map phase progress keeper = record {
   settings = settings;
   domain = domain;
-  names = names;
-  line = line;
+  names = keeper.names;
+  line = keeper.heading.line;
   phase = phase;
   pass = progress.pass;
-  machine = machine_at (setting_with settings domain names line) map phase progress tally;
-  heard = heard;
+  machine = machine_at (setting_with settings domain keeper.names keeper.heading.line) map phase progress keeper.tally;
+  heard = keeper.heard;
 }
 
 -- no position that is left of the domain has this status

@@ -1,5 +1,5 @@
 -- What is known of a run by how far it has come.
-use Rattle.std.specs.Prelude.{◌≡◌, ⊤, true, false}
+use Rattle.std.specs.Prelude.{◌≡◌, ⊤, true}
 use Rattle.block_list.specs.declared.status.Status.TheVariants.{NonTried, NonTrimmed, NonScraped}
 use Rattle.rescue_rules.specs.Moves.{ready, no_pass_left}
 use Rattle.rescue_core.specs.RunState.{RunState, setting_in, IsGone}

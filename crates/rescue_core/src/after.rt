@@ -6,13 +6,14 @@ ghost use Rattle.rescue_core.specs.TurnParts.{IsBackOf, fetched_of};
 ghost use Rattle.rescue_core.specs.After.{GoesOnAfter};
 
 use crate::counts::count_after;
+use crate::due::Due;
 use crate::gather::Gathered;
 use crate::landing::Kept;
 use crate::mark::mark;
 use crate::progress::progress_after;
 use crate::settings::Settings;
 use crate::state::Progress;
-use crate::tally::{Due, shown_at, tally_after};
+use crate::tally::{shown_at, tally_after};
 use crate::turn::{Advanced, Turn};
 use crate::wanted::trims_on;
 use block_list::tiles::Tiles;

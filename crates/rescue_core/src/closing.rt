@@ -14,7 +14,7 @@ pub struct Closed {
 }
 
 /// What the last mapfile shows: a run without a stop is finished.
-pub fn last_shown(shown: MapState, stop: Option<Stop>) -> MapState
+pub(crate) fn last_shown(shown: MapState, stop: Option<Stop>) -> MapState
     ensures { MatchOption stop (result ≡ record shown { current = Finished; pass = 1 }) (λ _. result ≡ shown) }
 {
     match stop {
@@ -28,7 +28,7 @@ pub fn last_shown(shown: MapState, stop: Option<Stop>) -> MapState
 }
 
 /// How a run ends whose last calls returned.
-pub fn end_saved(stop: Option<Stop>) -> RunEnd
+pub(crate) fn end_saved(stop: Option<Stop>) -> RunEnd
     ensures { result ≡ end_of stop }
 {
     match stop {

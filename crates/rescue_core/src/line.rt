@@ -110,7 +110,7 @@ fn say<C: Console>(console: &mut C, line: &Line) -> bool
 // A line is due once in a second at most, so its text is no part of a turn's code.
 #[cold]
 #[inline(never)]
-pub fn say_phase<C: Console>(console: &mut C, heard: bool, report: &Report) -> bool
+pub(crate) fn say_phase<C: Console>(console: &mut C, heard: bool, report: &Report) -> bool
     ensures { SpeaksOn (out_pieces (report_text (phase_front report.now.shown) report.now ∷ [])) heard result
         (C.state console.old) (C.state console.new) }
 {
@@ -118,7 +118,12 @@ pub fn say_phase<C: Console>(console: &mut C, heard: bool, report: &Report) -> b
 }
 
 /// Says the last line of a run that is heard so far or not. Says whether it is heard still.
-pub fn say_last<C: Console>(console: &mut C, heard: bool, done: bool, report: &Report) -> bool
+pub(crate) fn say_last<C: Console>(
+    console: &mut C,
+    heard: bool,
+    done: bool,
+    report: &Report,
+) -> bool
     ensures { SpeaksOn (out_pieces (report_text (last_front done) report.now ∷ [])) heard result
         (C.state console.old) (C.state console.new) }
 {

@@ -1,5 +1,5 @@
 //! The state of a rescue under way, and its turns.
-ghost use Rattle.std.specs.Prelude.{◌≡◌, ℕ, ◌+◌, ◌<◌, ◌≤◌, ◌^◌, true, false, [], ◌∷◌, Some, None, is_some, length, slice_get, if◌then◌else◌, IfOk, IfErr, IfSome, IfNone, OnOk};
+ghost use Rattle.std.specs.Prelude.{◌≡◌, ℕ, ◌+◌, ◌<◌, ◌≤◌, ◌^◌, true, false, [], ◌∷◌, Some, is_some, length, slice_get, if◌then◌else◌, IfOk, IfErr, IfSome, IfNone, OnOk};
 ghost use Rattle.faulty_source.specs.SourceChanges.{Stays as SourceStays};
 ghost use Rattle.crash_site.specs.SiteChanges.{Keeps as SiteKeeps, Stays as SiteStays};
 ghost use Rattle.rescue_console.specs.ClockState.{Keeps as ClockKeeps};
@@ -16,16 +16,15 @@ ghost use Rattle.rescue_rules.specs.Lines.{phase_front, report_of, report_text};
 ghost use Rattle.rescue_core.specs.RunState.{names_in, setting_in, IsRunning, IsSound, Suits, HasPlaces, started, passed, run_showing};
 ghost use Rattle.rescue_core.specs.Turning.{Turned, Halted};
 ghost use Rattle.rescue_core.specs.TurnParts.{Advances};
-ghost use Rattle.rescue_core.specs.Closing.{Closes, MayClose, LastSave, drafting_at_stop, last_pieces};
+ghost use Rattle.rescue_core.specs.Closing.{Closes, MayClose, drafting_at_stop, last_pieces};
 
 use crate::after::go_on_by_kind;
-use crate::closing::{Closed, end_saved, last_shown};
+use crate::closing::Closed;
 use crate::counts::counts_at_first;
 use crate::gather::gather;
+use crate::keeper::Keeper;
 use crate::limit::limit_met;
-use crate::line::{say_last, say_phase};
 use crate::request::{leads_up, next_lead, next_request};
-use crate::save_now::{save_now, save_or_sync};
 use crate::settings::Settings;
 use crate::state::Progress;
 use crate::turn::{Advanced, Turn};
@@ -39,8 +38,8 @@ use rescue_console::console::Console;
 use rescue_domain::domain::Domain;
 use rescue_domain::live::Live;
 use rescue_rules::phase::Phase;
-use rescue_rules::report::{Counts, Report};
-use rescue_rules::stop::{Limit, RunEnd, Stop};
+use rescue_rules::report::Counts;
+use rescue_rules::stop::{Limit, Stop};
 use rescue_rules::tally::Tally;
 use save_resume::draft::SaveFault;
 use save_resume::names::Names;
@@ -57,13 +56,10 @@ pub(crate) struct Running<T: Tiles> {
     pub(crate) domain: Domain,
     pub(crate) tiles: T,
     buf: Vec<u8>,
-    names: Option<Names>,
-    heading: Heading,
     phase: Phase,
     pub(crate) progress: Progress,
-    tally: Tally,
     counts: Counts,
-    heard: bool,
+    keeper: Keeper,
 }
 
 impl<T: Tiles> Model for Running<T> {
@@ -73,13 +69,11 @@ impl<T: Tiles> Model for Running<T> {
 
     ghost Value = { RunState };
 
-    ghost view = { λ r. run_at r.settings r.domain r.names r.heading.line (T.statuses r.tiles) r.phase
-        r.progress r.tally r.heard };
+    ghost view = { λ r. run_at r.settings r.domain (T.statuses r.tiles) r.phase r.progress r.keeper };
 
-    ghost invariant = { λ r. IsRunning (run_at r.settings r.domain r.names r.heading.line (T.statuses r.tiles) r.phase
-        r.progress r.tally r.heard) (length r.buf.items) × (r.heading.program ≡ Ddrescue)
-        × HasCounts (run_at r.settings r.domain r.names r.heading.line (T.statuses r.tiles) r.phase r.progress r.tally
-        r.heard) r.counts };
+    ghost invariant = { λ r. IsRunning (run_at r.settings r.domain (T.statuses r.tiles) r.phase r.progress r.keeper)
+        (length r.buf.items) × (r.keeper.heading.program ≡ Ddrescue)
+        × HasCounts (run_at r.settings r.domain (T.statuses r.tiles) r.phase r.progress r.keeper) r.counts };
 }
 
 impl<T: Tiles> Running<T> {
@@ -113,13 +107,15 @@ impl<T: Tiles> Running<T> {
             domain,
             tiles,
             buf,
-            names,
-            heading,
             phase: Phase::Copying,
             progress,
-            tally,
             counts,
-            heard,
+            keeper: Keeper {
+                names,
+                heading,
+                tally,
+                heard,
+            },
         }
     }
 
@@ -135,7 +131,7 @@ impl<T: Tiles> Running<T> {
     {
         let live = Live {
             domain: &self.domain,
-            over: self.tally.over,
+            over: self.keeper.tally.over,
         };
         if leads_up(&self.settings, self.phase, &self.progress) {
             next_lead(&self.settings, live, &self.tiles, &self.progress)
@@ -166,7 +162,7 @@ impl<T: Tiles> Running<T> {
         requires pass { 0 < state.pass }
         ensures { self.new ≡ run_showing self.old state }
     {
-        self.tally.shown = state;
+        self.keeper.tally.shown = state;
     }
 
     /// One turn: room in the map, a reading of the clock, the read, another reading, the write of what was kept, and
@@ -272,7 +268,7 @@ impl<T: Tiles> Running<T> {
             &self.domain,
             &mut self.tiles,
             &mut self.progress,
-            &mut self.tally,
+            &mut self.keeper.tally,
             &mut self.counts,
             self.phase,
             request,
@@ -289,28 +285,9 @@ impl<T: Tiles> Running<T> {
             (D.state site.new) }
     {
         if due {
-            save_now(
-                site,
-                &self.names,
-                &mut self.heading,
-                &self.tiles,
-                self.tally,
-            )
+            self.keeper.save(&self.tiles, site)
         } else {
             Ok(())
-        }
-    }
-
-    /// What a line tells.
-    fn report(&self) -> Report
-        ensures { result ≡ report_of (setting_in self.now) self.now.machine }
-    {
-        Report {
-            shown: self.tally.shown,
-            counts: self.counts,
-            errors: self.tally.failed,
-            taken: self.tally.now.saturating_sub(self.tally.began),
-            written: self.tally.written,
         }
     }
 
@@ -318,7 +295,7 @@ impl<T: Tiles> Running<T> {
     fn limit(&self) -> Option<Limit>
         ensures { result ≡ limit_by (setting_in self.now) self.now.machine }
     {
-        limit_met(&self.settings, self.tally, self.counts)
+        limit_met(&self.settings, self.keeper.tally, self.counts)
     }
 
     /// Says the line after an event, if one is due. A console that fails isn't told any further.
@@ -329,7 +306,7 @@ impl<T: Tiles> Running<T> {
             (C.state console.old) (C.state console.new) }
     {
         if due {
-            self.heard = say_phase(console, self.heard, &self.report());
+            self.keeper.say_phase(self.counts, console);
         }
     }
 
@@ -347,68 +324,16 @@ impl<T: Tiles> Running<T> {
             (C.state console.new) }
         ensures site { SiteKeeps (D.state site.old) (D.state site.new) }
     {
-        let heard = self.heard;
-        let report = self.report();
-        let end = self.close_files(stop, site);
-        let heard = say_last(console, heard, end.is_done(), &report);
-        Closed { end, heard }
-    }
-
-    /// Makes the last calls on the files.
-    fn close_files<D: Site>(self, stop: Option<Stop>, site: &mut D) -> RunEnd
-        requires no_draft { MayClose stop (D.state site.old) }
-        ensures closes { Closes stop self result (D.state site.old) (D.state site.new) }
-        ensures site { SiteKeeps (D.state site.old) (D.state site.new) }
-    {
-        match stop {
-            None => self.save_last(None, site),
-            Some(stop) => self.close_stopped(stop, site),
-        }
-    }
-
-    /// Makes the last calls on the files of a run that stopped; after one that failed it makes no further one.
-    fn close_stopped<D: Site>(self, stop: Stop, site: &mut D) -> RunEnd
-        requires no_draft { MayClose (Some stop) (D.state site.old) }
-        ensures closes { Closes (Some stop) self result (D.state site.old) (D.state site.new) }
-        ensures site { SiteKeeps (D.state site.old) (D.state site.new) }
-    {
-        match stop {
-            Stop::SourceLost => self.save_last(Some(stop), site),
-            Stop::Site(_) => RunEnd::Stopped(stop),
-            Stop::LimitMet(_) => self.save_last(Some(stop), site),
-            Stop::NoMemory => self.save_last(Some(stop), site),
-        }
-    }
-
-    /// Makes the last save, of a run that ended or that anything but a failed call on the files stopped.
-    fn save_last<D: Site>(self, stop: Option<Stop>, site: &mut D) -> RunEnd
-        requires no_draft { (D.state site.old).is_drafting ≡ false }
-        ensures saves { LastSave stop self result (D.state site.old) (D.state site.new) }
-        ensures site { SiteKeeps (D.state site.old) (D.state site.new) }
-    {
         let Running {
             settings: _,
             domain: _,
             tiles,
             buf: _,
-            names,
-            mut heading,
             phase: _,
             progress: _,
-            tally,
-            counts: _,
-            heard: _,
+            counts,
+            keeper,
         } = self;
-        let tally = Tally {
-            shown: last_shown(tally.shown, stop),
-            ..tally
-        };
-        match save_or_sync(site, &names, &mut heading, &tiles, tally) {
-            Ok(()) => end_saved(stop),
-            Err(fault) => RunEnd::SaveFailed {
-                call: fault.call,
-                earlier: stop,
-            },
-        }
+        keeper.close(stop, counts, &tiles, site, console)
     }
 }

@@ -10,14 +10,13 @@ ghost use Rattle.rescue_core.specs.RunState.{RunState, setting_in};
 ghost use Rattle.rescue_core.specs.Turning.{turn_of};
 ghost use Rattle.rescue_core.specs.TurnParts.{IsReadOf, end_met};
 
-use crate::due::{is_line_due, is_save_due};
+use crate::due::{Due, pass_event};
 use crate::settings::Settings;
 use crate::state::Progress;
 use crate::turn::Turn;
 use faulty_source::source::Got;
 use mapfile_text::state::{Current, MapState};
 use rescue_rules::phase::Phase;
-use rescue_rules::report::Said;
 use rescue_rules::tally::Tally;
 use transfer_token::token::Request;
 
@@ -52,13 +51,6 @@ pub(crate) fn turn_after(
     }
 }
 
-/// What is due after a read.
-pub(crate) struct Due {
-    /// Whether a line is due, and whether it is time for a save.
-    pub speaks: bool,
-    pub saves: bool,
-}
-
 /// Counts a read that ended at this time, and keeps the input's end, if the read met it; tells what is due.
 #[inline(always)]
 pub(crate) fn tally_after(
@@ -75,30 +67,15 @@ pub(crate) fn tally_after(
     ensures saves { (m : Machine) (e : Event) → m.tally.due_at ≡ tally.old.due_at → e.after ≡ after
         → result.saves ≡ is_timely m e }
 {
-    let second = after / 1000;
-    let speaks = is_line_due(tally.said, shown.current, second);
-    let saves = is_save_due(tally.due_at, after);
     if turn.failed() {
         tally.failed = tally.failed.saturating_add(1);
     } else {
         tally.whole_at = after;
     }
-    tally.now = after;
-    tally.shown = shown;
-    tally.written = tally.written.saturating_add(turn.kept);
-    if saves {
-        tally.due_at = after;
-    }
-    if speaks {
-        tally.said = Some(Said {
-            current: shown.current,
-            second,
-        });
-    }
     if let Some(end) = end {
         tally.over = Some(earlier(tally.over, end));
     }
-    Due { speaks, saves }
+    pass_event(tally, shown, turn.kept, after)
 }
 
 /// The earlier of two ends, if there is another.

@@ -5,6 +5,7 @@ use Rattle.mapfile_text.specs.declared.state.MapState.{MapState}
 use Rattle.mapfile_text.specs.declared.state.Current.{Current}
 use Rattle.mapfile_text.specs.declared.state.Current.TheVariants.{Copying as NowCopying, Trimming as NowTrimming, Scraping as NowScraping, Retrying as NowRetrying, Filling as NowFilling, Generating as NowGenerating, Finished as NowFinished}
 use Rattle.rescue_rules.specs.declared.stop.TrimMode.TheVariants.{Lead}
+use Rattle.rescue_rules.specs.declared.tally.Tally.{Tally}
 use Rattle.rescue_rules.specs.Setting.{Setting}
 use Rattle.rescue_rules.specs.declared.phase.Phase.TheVariants.{Copying}
 use Rattle.rescue_rules.specs.Passes.{copying_passes, passes_from, numbered}
@@ -33,6 +34,21 @@ abbrev pub shown_at_first : Option MapState → MapState
 shown_at_first None = nothing_shown
 shown_at_first (Some state) = state
 
+-- what a run has come to as it begins at this time, with so many areas of its domain that have failed
+abbrev pub tally_at_first : (shown : MapState) → (time areas : ℕ) → Tally
+tally_at_first shown time areas = record {
+  failed = 0;
+  began = time;
+  now = time;
+  whole_at = time;
+  due_at = time;
+  shown = shown;
+  over = None;
+  written = 0;
+  said = None;
+  first_areas = areas;
+}
+
 -- a run over a map, at this time, that resumes from such a state if there is one; what a mapfile showed stands until
 -- the first event
 abbrev pub machine_of : Setting → List Status → (from : Option MapState) → (shown : MapState) → (time : ℕ) → Machine
@@ -42,18 +58,7 @@ machine_of s map from shown time = record {
   cursor = first_cursor s from map;
   mode = Lead;
   skip = s.skips.first;
-  tally = record {
-    failed = 0;
-    began = time;
-    now = time;
-    whole_at = time;
-    due_at = time;
-    shown = shown;
-    over = None;
-    written = 0;
-    said = None;
-    first_areas = (counts_of s.domain map).failed.areas;
-  };
+  tally = tally_at_first shown time (counts_of s.domain map).failed.areas;
 }
 
 -- a mapfile showed that its rescue was copying

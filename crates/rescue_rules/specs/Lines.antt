@@ -9,7 +9,9 @@ use Rattle.mapfile_text.specs.Printed.{shown_byte}
 use Rattle.crash_site.specs.declared.site.SiteCall.{SiteCall}
 use Rattle.crash_site.specs.declared.site.SiteCall.TheVariants.{ImageOpen, ImageRead, ImageWrite, ImageSync, MapRead, DraftBegin, DraftAppend, DraftSync, DraftPublish, MapSettle, MapRemove}
 use Rattle.block_list.specs.Areas.{count_below}
+use Rattle.rescue_rules.specs.declared.report.Counts.{Counts}
 use Rattle.rescue_rules.specs.declared.report.Report.{Report}
+use Rattle.rescue_rules.specs.declared.tally.Tally.{Tally}
 use Rattle.rescue_rules.specs.declared.stop.Stop.TheVariants.{SourceLost, Site, LimitMet, NoMemory}
 use Rattle.rescue_rules.specs.declared.stop.RunEnd.{RunEnd}
 use Rattle.rescue_rules.specs.declared.stop.RunEnd.TheVariants.{Done, Stopped, SaveFailed}
@@ -52,15 +54,14 @@ phase_front shown = phase_text shown.current ++ codes " pass " ++ decimal shown.
 abbrev pub last_front : (done : Bool) → List ℕ
 last_front done = if done then codes "finished" else codes "stopped"
 
+-- what a line tells, by counts of a map and by what a run has come to
+abbrev pub report_with : Counts → Tally → Report
+report_with counts t =
+    record { shown = t.shown; counts = counts; errors = t.failed; taken = t.now - t.began; written = t.written }
+
 -- what a line tells of a state: its counts are those of what is left of the domain
 abbrev pub report_of : Setting → Machine → Report
-report_of s m = record {
-  shown = m.tally.shown;
-  counts = counts_of (is_live s m) m.map;
-  errors = m.tally.failed;
-  taken = m.tally.now - m.tally.began;
-  written = m.tally.written;
-}
+report_of s m = report_with (counts_of (is_live s m) m.map) m.tally
 
 -- the line after a move, if one is due
 abbrev pub move_lines : Setting → Move → List (List ℕ)

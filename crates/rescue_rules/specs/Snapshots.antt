@@ -6,6 +6,7 @@ use Rattle.mapfile_text.specs.declared.state.Current.TheVariants.{Finished}
 use Rattle.mapfile_text.specs.declared.state.MapState.{MapState}
 use Rattle.mapfile_text.specs.HeadingLines.{HeadingLines}
 use Rattle.mapfile_text.specs.Printed.{printed}
+use Rattle.rescue_rules.specs.declared.tally.Tally.{Tally}
 use Rattle.rescue_rules.specs.Setting.{Setting}
 use Rattle.rescue_rules.specs.Machine.{Machine}
 use Rattle.rescue_rules.specs.Step.{Event, is_timely, limit_met}
@@ -26,9 +27,16 @@ heading_at line began now = record { program = Ddrescue; line = line; start_s = 
 abbrev pub text_of : List ℕ → Snapshot → List ℕ
 text_of line p = printed (heading_at line p.began p.now) p.shown p.map
 
+-- what a save shows of a map, with what a run has come to, and of a finished one, which says so
+abbrev pub snapshot_with : List Status → Tally → Snapshot
+snapshot_with map t = record { map = map; shown = t.shown; began = t.began; now = t.now }
+
+abbrev pub finished_with : List Status → Tally → Snapshot
+finished_with map t = record (snapshot_with map t) { shown = record t.shown { current = Finished; pass = 1 } }
+
 -- what a save shows of a state
 abbrev pub snapshot_of : Machine → Snapshot
-snapshot_of m = record { map = m.map; shown = m.tally.shown; began = m.tally.began; now = m.tally.now }
+snapshot_of m = snapshot_with m.map m.tally
 
 -- with a mapfile, a save is due after an event that comes long enough after the last due one, and meets no limit
 abbrev pub is_due : Setting → Move → Bool
@@ -36,7 +44,7 @@ is_due s v = s.has_mapfile && is_timely v.before v.event && is_none (limit_met s
 
 -- a finished run says so
 abbrev pub finished_snapshot : Machine → Snapshot
-finished_snapshot m = record (snapshot_of m) { shown = record m.tally.shown { current = Finished; pass = 1 } }
+finished_snapshot m = finished_with m.map m.tally
 
 -- what the run's end saves
 abbrev pub last_snapshot : Setting → Machine → Snapshot

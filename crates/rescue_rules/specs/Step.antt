@@ -6,12 +6,14 @@ use Rattle.run_options.specs.declared.limits.AreaLimit.TheVariants.{New, Total}
 use Rattle.block_list.specs.declared.status.Status.{Status}
 use Rattle.block_list.specs.declared.status.Status.TheVariants.{NonTrimmed, NonScraped, BadSector, Finished}
 use Rattle.block_list.specs.Map.{marked}
+use Rattle.mapfile_text.specs.declared.state.MapState.{MapState}
 use Rattle.fault_count.specs.Counts.{raised}
 use Rattle.faulty_source.specs.Journal.{Reading, is_whole, is_failed, kept}
 use Rattle.rescue_rules.specs.declared.stop.TrimMode.{TrimMode}
 use Rattle.rescue_rules.specs.declared.stop.TrimMode.TheVariants.{Lead, Tail}
 use Rattle.rescue_rules.specs.declared.stop.Limit.{Limit}
 use Rattle.rescue_rules.specs.declared.stop.Limit.TheVariants.{TooManyErrors, TooManyAreas, TimedOut}
+use Rattle.rescue_rules.specs.declared.tally.Tally.{Tally}
 use Rattle.rescue_rules.specs.Setting.{Setting}
 use Rattle.rescue_rules.specs.declared.phase.Phase.{Phase}
 use Rattle.rescue_rules.specs.declared.phase.Phase.TheVariants.{Copying, Trimming}
@@ -110,6 +112,21 @@ save_interval = 30000
 abbrev pub is_timely : Machine → Event → Bool
 is_timely m e = nat_le (m.tally.due_at + save_interval) e.after
 
+-- what a run has come to after an event, by what a mapfile then shows, how many bytes more were written, and the time
+abbrev pub tally_at : Tally → (shown : MapState) → (more after : ℕ) → Tally
+tally_at t shown more after = record t {
+  now = after;
+  due_at = if nat_le (t.due_at + save_interval) after then after else t.due_at;
+  shown = shown;
+  written = more_written t.written more;
+  said = said_after t.said shown.current (after / 1000);
+}
+
+-- what a mapfile shows of a state after an event
+abbrev pub shown_after : Setting → Machine → Event → MapState
+shown_after s m e =
+    record { pos = cursor_after s m e; current = current_of (pass_of m).phase; pass = (pass_of m).number }
+
 -- the state after an event
 abbrev pub step : Setting → Machine → Event → Machine
 step s m e =
@@ -121,15 +138,10 @@ step s m e =
           then mode_after m.mode (not (is_failed r)) (is_wanted s n (r.pos + r.asked)) r.pos (r.pos + r.asked)
           else Lead;
       skip = skip_after s m e;
-      tally = record m.tally {
+      tally = record (tally_at m.tally (shown_after s m e) (kept s.sector r) e.after) {
         failed = if is_failed r then raised m.tally.failed else m.tally.failed;
-        now = e.after;
         whole_at = if is_failed r then m.tally.whole_at else e.after;
-        due_at = if is_timely m e then e.after else m.tally.due_at;
-        shown = record { pos = cursor_after s m e; current = current_of (pass_of m).phase; pass = (pass_of m).number };
         over = over_after m r;
-        written = more_written m.tally.written (kept s.sector r);
-        said = said_after m.tally.said (current_of (pass_of m).phase) (e.after / 1000);
       };
     }
 

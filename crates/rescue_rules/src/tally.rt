@@ -1,8 +1,8 @@
-//! What a run has counted.
+//! What a run or a sweep has come to.
 use crate::report::Said;
 use mapfile_text::state::{Current, MapState};
 
-/// What a run has come to. Times are in milliseconds since 1970.
+/// What a run or a sweep has come to. A sweep reads no input. Times are in milliseconds since 1970.
 #[derive(Clone, Copy, Debug, PartialEq, Eq)]
 pub struct Tally {
     /// How many reads failed.
@@ -20,29 +20,18 @@ pub struct Tally {
     pub written: u64,
     /// The line that was put last after an event, if there was one.
     pub said: Option<Said>,
-    /// How many areas of the domain had failed at the start.
+    /// How many areas of the domain had failed at the start; none for a sweep, which has no limit.
     pub first_areas: u64,
 }
 
 impl Tally {
-    ghost use Rattle.std.specs.Prelude.{◌≡◌, None};
-    ghost use Rattle.rescue_rules.specs.Beginning.{shown_at_first};
+    ghost use Rattle.std.specs.Prelude.{◌≡◌};
+    ghost use Rattle.rescue_rules.specs.Beginning.{shown_at_first, tally_at_first};
 
     /// The tally of a run that begins at this moment, with `first_areas` areas that have failed. The run may go on with
     /// a state that a mapfile showed.
     pub fn first(loaded: Option<MapState>, moment: u64, first_areas: u64) -> Tally
-        ensures { result ≡ record {
-          failed = 0;
-          began = moment;
-          now = moment;
-          whole_at = moment;
-          due_at = moment;
-          shown = shown_at_first loaded;
-          over = None;
-          written = 0;
-          said = None;
-          first_areas = first_areas;
-        } }
+        ensures { result ≡ tally_at_first (shown_at_first loaded) moment first_areas }
     {
         let nothing = MapState {
             pos: 0,

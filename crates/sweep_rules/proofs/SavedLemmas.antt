@@ -34,9 +34,9 @@ pieces_timed times es h is =
 pub record IsTame (s : Setting) (m : Sweep) : Type 0 where
   pub long : s.end ≤ length m.map
   pub short : length m.map < 2 ^ 63
-  pub shown : IsPrintable m.shown
-  pub began : m.began < 2 ^ 64
-  pub now : m.now < 2 ^ 64
+  pub shown : IsPrintable m.tally.shown
+  pub began : m.tally.began < 2 ^ 64
+  pub now : m.tally.now < 2 ^ 64
 
 snapshot_readable : (s : Setting) (m : Sweep) → IsTame s m → IsReadable s.end (sweep_snapshot m)
 snapshot_readable s m h =

@@ -1,5 +1,5 @@
 -- Fill mode and generate mode: the map is swept once, upwards, piece by piece.
-use Rattle.std.specs.Prelude.{◌≡◌, ℕ, ◌+◌, ◌-◌, ◌/◌, min, max, Bool, true, false, not, ◌&&◌, ◌≤◌, ⊤, nat_eq, nat_le, nat_lt, List, [], ◌∷◌, length, take, slice_get, Option, Some, None, if◌then◌else◌}
+use Rattle.std.specs.Prelude.{◌≡◌, ℕ, ◌+◌, ◌-◌, min, max, Bool, true, false, not, ◌&&◌, ◌≤◌, ⊤, nat_eq, nat_le, nat_lt, List, [], ◌∷◌, length, take, slice_get, Option, Some, None, if◌then◌else◌}
 use Rattle.std.specs.List.{list_any, range_with_len}
 use Rattle.block_list.specs.declared.status.Status.{Status}
 use Rattle.block_list.specs.declared.status.Status.TheVariants.{NonTried, Finished}
@@ -8,19 +8,18 @@ use Rattle.block_list.specs.Status.{same}
 use Rattle.block_list.specs.Types.{has_type}
 use Rattle.mapfile_text.specs.declared.state.MapState.{MapState}
 use Rattle.mapfile_text.specs.declared.state.Current.{Current}
-use Rattle.mapfile_text.specs.declared.state.Current.TheVariants.{Filling, Generating, Finished as NowFinished}
+use Rattle.mapfile_text.specs.declared.state.Current.TheVariants.{Filling, Generating}
 use Rattle.mapfile_text.specs.Printed.{current_symbol}
 use Rattle.faulty_source.specs.Journal.{floor}
 use Rattle.crash_site.specs.Calls.{Call, image_read, image_write}
-use Rattle.rescue_rules.specs.declared.report.Said.{Said}
+use Rattle.rescue_rules.specs.declared.tally.Tally.{Tally}
 use Rattle.rescue_rules.specs.Setting.{Setting, place}
 use Rattle.rescue_rules.specs.Counts.{passing}
 use Rattle.rescue_rules.specs.Machine.{IsNextRange, cut_end, Search}
-use Rattle.rescue_rules.specs.Step.{save_interval}
+use Rattle.rescue_rules.specs.Step.{save_interval, tally_at}
 use Rattle.rescue_rules.specs.Preparation.{changed_from}
-use Rattle.rescue_rules.specs.Beginning.{shown_at_first}
-use Rattle.rescue_rules.specs.Snapshots.{Snapshot}
-use Rattle.rescue_rules.specs.Said.{said_after, more_written}
+use Rattle.rescue_rules.specs.Beginning.{shown_at_first, tally_at_first}
+use Rattle.rescue_rules.specs.Snapshots.{Snapshot, snapshot_with, finished_with}
 use Rattle.rescue_rules.specs.Deeds.{Deed}
 
 -- A piece that was done: where it begins, its length, the bytes that the output gave if it was read (none if it
@@ -91,16 +90,11 @@ generator s = record {
   starves = true;
 }
 
--- where a sweep stands (the fields that a rescue's state has, too, mean the same)
+-- where a sweep stands: its map, the position that it goes on from, and what it has come to
 pub record Sweep : Type 0 where
   pub map : List Status
   pub cursor : ℕ
-  pub written : ℕ
-  pub began : ℕ
-  pub now : ℕ
-  pub due_at : ℕ
-  pub shown : MapState
-  pub said : Option Said
+  pub tally : Tally
 
 -- A sweep resumes from the position that a mapfile showed if that was of such a sweep, and else begins at 0. What the
 -- mapfile showed stands until the first piece.
@@ -113,12 +107,7 @@ abbrev pub sweep_over : Sweeper → List Status → Option MapState → (time : 
 sweep_over w map state time = record {
   map = map;
   cursor = sweep_from w.current state;
-  written = 0;
-  began = time;
-  now = time;
-  due_at = time;
-  shown = shown_at_first state;
-  said = None;
+  tally = tally_at_first (shown_at_first state) time 0;
 }
 
 -- a sweep takes a position: one of the domain, with such a status
@@ -137,19 +126,14 @@ pub record IsPiece (s : Setting) (w : Sweeper) (m : Sweep) (p q : ℕ) : Type 0 
 
 -- a save is due after a piece that comes long enough after the last due one
 abbrev pub is_save_due : Sweep → Swept → Bool
-is_save_due m e = nat_le (m.due_at + save_interval) e.after
+is_save_due m e = nat_le (m.tally.due_at + save_interval) e.after
 
 -- the state after a piece
 abbrev pub after_piece : Sweeper → Sweep → Swept → Sweep
 after_piece w m e = record {
   map = w.marks m.map e;
   cursor = e.pos + e.len;
-  written = more_written m.written (w.writes e);
-  began = m.began;
-  now = e.after;
-  due_at = if is_save_due m e then e.after else m.due_at;
-  shown = record { pos = e.pos + e.len; current = w.current; pass = 1 };
-  said = said_after m.said w.current (e.after / 1000);
+  tally = tally_at m.tally (record { pos = e.pos + e.len; current = w.current; pass = 1 }) (w.writes e) e.after;
 }
 
 abbrev pub after_pieces : Sweeper → Sweep → List Swept → Sweep
@@ -167,12 +151,10 @@ IsSweptOut s w m = (x : ℕ) → m.cursor ≤ x → IsTaken s w m x → ⊥
 
 -- what a save shows of it, and at its end, where it is finished or not
 abbrev pub sweep_snapshot : Sweep → Snapshot
-sweep_snapshot m = record { map = m.map; shown = m.shown; began = m.began; now = m.now }
+sweep_snapshot m = snapshot_with m.map m.tally
 
 abbrev pub sweep_end : (done : Bool) → Sweep → Snapshot
-sweep_end done m =
-    if done then record (sweep_snapshot m) { shown = record m.shown { current = NowFinished; pass = 1 } }
-    else sweep_snapshot m
+sweep_end done m = if done then finished_with m.map m.tally else snapshot_with m.map m.tally
 
 -- the save that is due after a piece, if one is
 abbrev pub due_save : Sweeper → Sweep → Swept → Option Snapshot

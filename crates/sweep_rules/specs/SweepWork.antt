@@ -15,7 +15,7 @@ use Rattle.rescue_rules.specs.declared.report.Report.{Report}
 use Rattle.rescue_rules.specs.Setting.{Setting}
 use Rattle.rescue_rules.specs.Counts.{counts_of}
 use Rattle.rescue_rules.specs.Said.{is_line_due}
-use Rattle.rescue_rules.specs.Lines.{report_text, phase_front, last_front, is_done}
+use Rattle.rescue_rules.specs.Lines.{report_text, report_with, phase_front, last_front, is_done}
 use Rattle.rescue_rules.specs.RunCalls.{closing_calls}
 use Rattle.rescue_rules.specs.Events.{began_at}
 use Rattle.rescue_rules.specs.Work.{Gain, end_of}
@@ -62,21 +62,15 @@ pub data SweepEnds (s : Setting) (w : Sweeper) (m : Sweep) (es : List Swept) (ca
       (map Done (sweep_calls s w m before ++ w.call last ∷ [])) calls
       → SweepEnds s w m es calls end
 
--- what a line tells of a sweep, whose reads of the output don't fail
+-- what a line tells of a sweep
 abbrev pub sweep_report : Setting → Sweep → Report
-sweep_report s m = record {
-  shown = m.shown;
-  counts = counts_of s.domain m.map;
-  errors = 0;
-  taken = m.now - m.began;
-  written = m.written;
-}
+sweep_report s m = report_with (counts_of s.domain m.map) m.tally
 
 -- the line after a piece, if one is due
 abbrev pub piece_lines : Setting → Sweeper → Sweep → Swept → List (List ℕ)
 piece_lines s w m e =
-    if is_line_due m.said w.current (e.after / 1000)
-    then report_text (phase_front (after_piece w m e).shown) (sweep_report s (after_piece w m e)) ∷ []
+    if is_line_due m.tally.said w.current (e.after / 1000)
+    then report_text (phase_front (after_piece w m e).tally.shown) (sweep_report s (after_piece w m e)) ∷ []
     else []
 
 abbrev pub pieces_lines : Setting → Sweeper → Sweep → List Swept → List (List ℕ)

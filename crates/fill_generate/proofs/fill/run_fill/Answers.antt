@@ -106,7 +106,7 @@ returns-in-Err-clause-clock g c =
     p.objects.clock
 
 pub returns-in-Ok-clause-draft : goal.returns-in-Ok-clause-draft
-returns-in-Ok-clause-draft g c = left_whole _ _ _ _ _ c.close.ensures.closes
+returns-in-Ok-clause-draft g c = left_whole _ _ _ _ c.close.ensures.closes
 
 pub returns-in-Err-clause-draft : goal.returns-in-Err-clause-draft
 returns-in-Err-clause-draft g c =
@@ -115,4 +115,4 @@ returns-in-Err-clause-draft g c =
     let begun = c.begin-sweeping.ensures (filler s c.args.types c.args.buffer.now) (record { takes = λ status. refl; current = refl }) in
     let p = c.in-Err.ensures c.args.types
     (ap (λ (q : SweepState). q.mode) begun) in
-    left_stopped _ _ c.in-Err.stop _ _ _ p.draft_left c.close-in-Err.ensures.closes
+    left_stopped _ c.in-Err.stop _ _ _ p.draft_left c.close-in-Err.ensures.closes

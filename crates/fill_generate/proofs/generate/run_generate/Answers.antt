@@ -77,8 +77,8 @@ returns-in-Err-clause-clock g c =
     p.objects.clock
 
 pub returns-in-Ok-clause-draft : goal.returns-in-Ok-clause-draft
-returns-in-Ok-clause-draft g c = left_whole _ _ _ _ _ c.close.ensures.closes
+returns-in-Ok-clause-draft g c = left_whole _ _ _ _ c.close.ensures.closes
 
 pub returns-in-Err-clause-draft : goal.returns-in-Err-clause-draft
 returns-in-Err-clause-draft g c =
-    left_stopped _ _ c.in-Err.stop _ _ _ c.in-Err.ensures.draft_left c.close-in-Err.ensures.closes
+    left_stopped _ c.in-Err.stop _ _ _ c.in-Err.ensures.draft_left c.close-in-Err.ensures.closes

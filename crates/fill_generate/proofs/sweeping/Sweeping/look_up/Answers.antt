@@ -31,15 +31,16 @@ invariant_of-self-2 g c =
     let fits : c.in-Ok.read ≤ length c.image_read.new.buf =
     omega (arith, size, c.in-Ok.ensures.count, c.image_read.auto.buf) in
     let count = front_is c.in-Ok.read c.image_read.new.buf (drop p.len c.args.buffer.now) fits in
-    let r : SweepState = state_at i.settings i.domain i.names i.heading.line (g.T.Tiles.statuses i.tiles) i.mode i.tally i.heard in
+    let r : SweepState = state_at i.settings i.domain (g.T.Tiles.statuses i.tiles) i.mode i.cursor i.keeper in
     let got = take c.in-Ok.read (c.image_read.new.buf ++ drop p.len c.args.buffer.now) in
     let marks = c.mark_held.ensures (setting_of r) p.len refl (omega (arith, count, size, c.in-Ok.ensures.count)) in (
-      sweeps_on r (sweep_at (g.T.Tiles.statuses c.mark_held.new.tiles) i.tally)
+      sweeps_on r (sweep_at (g.T.Tiles.statuses c.mark_held.new.tiles) i.cursor i.keeper.tally)
           (ap length marks
           ∙ length_finished (is_generated (setting_of r) (piece_at p.pos p.len got)) (g.T.Tiles.statuses c.reserve.new.self)
           ∙ ap length c.reserve.ensures.statuses)
           c.self.invariant.0,
       c.self.invariant.1,
+      c.self.invariant.2,
     )
 
 pub returns-clause-looked : goal.returns-clause-looked
@@ -51,13 +52,13 @@ returns-clause-looked g c =
     let fits : c.in-Ok.read ≤ length c.image_read.new.buf =
     omega (arith, size, c.in-Ok.ensures.count, c.image_read.auto.buf) in
     let count = front_is c.in-Ok.read c.image_read.new.buf (drop p.len c.args.buffer.now) fits in
-    let r : SweepState = state_at i.settings i.domain i.names i.heading.line (g.T.Tiles.statuses i.tiles) i.mode i.tally i.heard in
+    let r : SweepState = state_at i.settings i.domain (g.T.Tiles.statuses i.tiles) i.mode i.cursor i.keeper in
     let got = take c.in-Ok.read (c.image_read.new.buf ++ drop p.len c.args.buffer.now) in
     let marks = c.mark_held.ensures (setting_of r) p.len refl (omega (arith, count, size, c.in-Ok.ensures.count)) in
     looks_up c.args.self.now _ p c.image_read.new.buf (drop p.len c.args.buffer.now) c.place_of-place.result
     (length (take p.len c.args.buffer.now)) c.in-Ok.read _ _ c.place_of-place.ensures size
     (omega (arith, size, c.in-Ok.ensures.count)) (omega (arith, size, c.image_read.auto.buf))
-    (ap (λ (map : List Status). state_at i.settings i.domain i.names i.heading.line map i.mode i.tally i.heard)
+    (ap (λ (map : List Status). state_at i.settings i.domain map i.mode i.cursor i.keeper)
     (marks ∙ ap (finished_at (is_generated (setting_of r) (piece_at p.pos p.len got))) c.reserve.ensures.statuses)
     ∙ ap (λ (q : SweepState). standing q (record q.sweep {
       map = finished_at (is_generated (setting_of q) (got_at p got)) q.sweep.map;

@@ -21,7 +21,7 @@ overflow_mul-limit g c =
 pub returns-clause-some : goal.returns-clause-some
 returns-clause-some g c =
     let i = c.self.inside in
-    let r : SweepState = state_at i.settings i.domain i.names i.heading.line (g.T.Tiles.statuses i.tiles) i.mode i.tally i.heard in
+    let r : SweepState = state_at i.settings i.domain (g.T.Tiles.statuses i.tiles) i.mode i.cursor i.keeper in
     subst (λ (q : SweepState). IsFound q (record { pos = c.in_ok-pos.pos; len = c.taken_to-end.result - c.in_ok-pos.pos })) c.self.view_is
     (found_is r c.in_ok-pos.pos _ _ c.taken_to-end.result c.self.invariant.0 c.in_ok-pos.ensures.first c.in_ok-pos.ensures.within
     (omega (arith, c.end.ensures.end, c.end.ensures.short)) refl (c.min-most.ensures ∙ ap (min _) c.end.ensures.end)

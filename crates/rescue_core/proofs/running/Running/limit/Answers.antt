@@ -6,5 +6,5 @@ use Rattle.rescue_core.proofs.running.Running.limit.Goals as goal
 pub returns : goal.returns
 returns g c =
     let i = c.self.inside in
-    let r : RunState = run_at i.settings i.domain i.names i.heading.line (g.T.Tiles.statuses i.tiles) i.phase i.progress i.tally i.heard in
+    let r : RunState = run_at i.settings i.domain (g.T.Tiles.statuses i.tiles) i.phase i.progress i.keeper in
     c.limit_met.ensures r refl refl c.self.invariant.2 ∙ ap (λ (q : RunState). limit_met (setting_in q) q.machine) c.self.view_is

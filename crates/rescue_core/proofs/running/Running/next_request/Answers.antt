@@ -21,14 +21,14 @@ up_in settings domain names line phase pass is up =
 pub next_lead-requires : goal.next_lead-requires
 next_lead-requires g c =
     let i = c.self.inside in
-    let r : RunState = run_at i.settings i.domain i.names i.heading.line (g.T.Tiles.statuses i.tiles) i.phase i.progress i.tally i.heard in
+    let r : RunState = run_at i.settings i.domain (g.T.Tiles.statuses i.tiles) i.phase i.progress i.keeper in
     let phase = c.leads_up.ensures.phase c.if-leads_up.true in
     let up = c.leads_up.ensures.up c.if-leads_up.true in
     record {
       sound = c.self.invariant.0.sound;
       mode = c.leads_up.ensures.mode c.if-leads_up.true;
       up = λ names line. up_in i.settings i.domain names line i.phase i.progress.pass phase (up i.domain names line);
-      clear = led_clear r phase (up i.domain i.names i.heading.line) (c.leads_up.ensures.mode c.if-leads_up.true)
+      clear = led_clear r phase (up i.domain i.keeper.names i.keeper.heading.line) (c.leads_up.ensures.mode c.if-leads_up.true)
           c.self.invariant.0.led;
       short = c.self.invariant.0.short;
     }
@@ -37,8 +37,8 @@ pub returns-else-leads_up-clause-some : goal.returns-else-leads_up-clause-some
 returns-else-leads_up-clause-some g c =
     let i = c.self.inside in
     let map = g.T.Tiles.statuses i.tiles in
-    let r : RunState = run_at i.settings i.domain i.names i.heading.line map i.phase i.progress i.tally i.heard in
+    let r : RunState = run_at i.settings i.domain map i.phase i.progress i.keeper in
     subst (λ (q : RunState). IfSome c.next_request.result (λ asked. IsRequest (setting_in q) q.machine asked.pos (asked.pos + asked.len)))
     c.self.view_is
-    (IfSome_then c.next_request.result c.next_request.ensures.some (λ asked is. is i.names i.heading.line r.machine
-    (stands (setting_in r) map i.phase i.progress i.tally c.self.invariant.0.pass)))
+    (IfSome_then c.next_request.result c.next_request.ensures.some (λ asked is. is i.keeper.names i.keeper.heading.line r.machine
+    (stands (setting_in r) map i.phase i.progress i.keeper.tally c.self.invariant.0.pass)))

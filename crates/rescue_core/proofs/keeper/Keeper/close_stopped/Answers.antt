@@ -1,4 +1,4 @@
-use Rattle.rescue_core.proofs.running.Running.close_stopped.Goals as goal
+use Rattle.rescue_core.proofs.keeper.Keeper.close_stopped.Goals as goal
 
 pub returns-in-SourceLost-clause-closes : goal.returns-in-SourceLost-clause-closes
 returns-in-SourceLost-clause-closes g c = rw c.in-SourceLost.is (rw c.in-SourceLost.is at c.save_last.ensures.saves)
