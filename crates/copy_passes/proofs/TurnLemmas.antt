@@ -35,7 +35,7 @@ use Rattle.rescue_rules.proofs.ReadyLemmas.{ready_here}
 use Rattle.rescue_rules.proofs.SearchLemmas.{request_seen}
 use Rattle.rescue_domain.specs.Parts.{covers}
 use Rattle.rescue_core.specs.declared.turn.Turn.{Turn}
-use Rattle.rescue_core.specs.Across.{Across}
+use Rattle.rescue_core.specs.Across.{Across, across}
 use Rattle.rescue_core.specs.RunState.{RunState, setting_in, passed, HasPlaces}
 use Rattle.rescue_core.specs.Turning.{IsEvent, move_by, Turned, Halted, stepped, move_pieces}
 use Rattle.rescue_core.specs.Closing.{drafting_at_stop}
@@ -44,19 +44,6 @@ use Rattle.copy_passes.specs.Turns.{IsAlike, moved_to, Went, WentUpTo, ObjectsSt
 use Rattle.copy_passes.specs.Copying.{MayCopy}
 use Rattle.copy_passes.proofs.AlikeLemmas.{alike_by, alike_on, next_pass_is_alike, RunMore, run_more}
 use Rattle.copy_passes.proofs.CopyingLemmas.{ahead_of, CopyStep, copy_steps, two_of, copying_passed}
-
--- what the objects tell, named apart
-abbrev pub between : (a b : SourceState) (d e : SiteState) (k l : ClockState) (x y : ConsoleState) → Across
-between a b d e k l x y = record {
-  source = a;
-  source' = b;
-  site = d;
-  site' = e;
-  clock = k;
-  clock' = l;
-  console = x;
-  console' = y;
-}
 
 clock_self : (a : ClockState) → ClockKeeps a a
 clock_self a = record { planned = refl; plan = refl }
@@ -91,7 +78,7 @@ says_more front back h h1 h2 x y z f g =
 
 -- no turn
 went_none : (r : RunState) (a : SourceState) (d : SiteState) (k : ClockState) (x : ConsoleState)
-    → Went r r (between a a d d k k x x)
+    → Went r r (across a a d d k k x x)
 went_none r a d k x = record {
   events = [];
   run = record { each = All-nil (IsMove (setting_in r)) };
@@ -177,8 +164,8 @@ setting_stands r q stands = ap setting_in stands
 
 -- turns after turns
 pub went_on : (r r1 r2 : RunState) (a b c : SourceState) (d e f : SiteState) (k l n : ClockState) (x y z : ConsoleState)
-    → Went r r1 (between a b d e k l x y) → SourceStays a b → e.tells ≡ d.tells → Went r1 r2 (between b c e f l n y z)
-    → Went r r2 (between a c d f k n x z)
+    → Went r r1 (across a b d e k l x y) → SourceStays a b → e.tells ≡ d.tells → Went r1 r2 (across b c e f l n y z)
+    → Went r r2 (across a c d f k n x z)
 went_on r r1 r2 a b c d e f k l n x y z w stays tells_site v =
     let s : Setting = setting_in r in
     let same : setting_in r1 ≡ s = setting_stands r r1 w.stands in
@@ -217,8 +204,8 @@ went_on r r1 r2 a b c d e f k l n x y z w stays tells_site v =
 
 -- a turn that stopped after turns after turns
 pub went_up_to_on : (stop : Stop) (r r1 r2 : RunState) (a b c : SourceState) (d e f : SiteState) (k l n : ClockState)
-    (x y z : ConsoleState) → Went r r1 (between a b d e k l x y) → SourceStays a b → e.tells ≡ d.tells
-    → WentUpTo stop r1 r2 (between b c e f l n y z) → WentUpTo stop r r2 (between a c d f k n x z)
+    (x y z : ConsoleState) → Went r r1 (across a b d e k l x y) → SourceStays a b → e.tells ≡ d.tells
+    → WentUpTo stop r1 r2 (across b c e f l n y z) → WentUpTo stop r r2 (across a c d f k n x z)
 went_up_to_on stop r r1 r2 a b c d e f k l n x y z w stays tells_site u = record {
   between = u.between;
   source_between = u.source_between;
@@ -237,7 +224,7 @@ went_up_to_on stop r r1 r2 a b c d e f k l n x y z w stays tells_site u = record
 }
 
 pub objects_stay : (a b c : SourceState) (d e f : SiteState) (k l n : ClockState) (x y z : ConsoleState)
-    → ObjectsStay (between a b d e k l x y) → ObjectsStay (between b c e f l n y z) → ObjectsStay (between a c d f k n x z)
+    → ObjectsStay (across a b d e k l x y) → ObjectsStay (across b c e f l n y z) → ObjectsStay (across a c d f k n x z)
 objects_stay a b c d e f k l n x y z i j = record {
   source = stays_more a b c i.source j.source;
   site = keeps_more d e f i.site j.site;
@@ -248,7 +235,7 @@ objects_stay a b c d e f k l n x y z i j = record {
 -- A run begins,
 pub begins : (r : RunState) (a : SourceState) (d : SiteState) (k : ClockState) (x : ConsoleState)
     → HasPlaces r.settings (covers r.domain) → a.is_open ≡ true → d.is_open ≡ true → d.is_drafting ≡ false
-    → WentByTurns r r (between a a d d k k x x)
+    → WentByTurns r r (across a a d d k k x x)
 begins r a d k x places input image no_draft = record {
   places = places;
   went = went_none r a d k x;
@@ -259,7 +246,7 @@ begins r a d k x places input image no_draft = record {
 
 -- goes on by what goes on from there,
 pub goes_on : (r r1 r2 : RunState) (a b c : SourceState) (d e f : SiteState) (k l n : ClockState) (x y z : ConsoleState)
-    → WentByTurns r r1 (between a b d e k l x y) → WentByTurns r1 r2 (between b c e f l n y z) → WentByTurns r r2 (between a c d f k n x z)
+    → WentByTurns r r1 (across a b d e k l x y) → WentByTurns r1 r2 (across b c e f l n y z) → WentByTurns r r2 (across a c d f k n x z)
 goes_on r r1 r2 a b c d e f k l n x y z i j = record {
   places = j.places;
   went = went_on r r1 r2 a b c d e f k l n x y z i.went i.objects.source i.objects.site.tells j.went;
@@ -270,15 +257,15 @@ goes_on r r1 r2 a b c d e f k l n x y z i j = record {
 
 -- by a turn,
 pub goes_on_by_turn : (r r1 r2 : RunState) (request : Request) (turn : Turn) (a b c : SourceState) (d e f : SiteState)
-    (k l n : ClockState) (x y z : ConsoleState) → WentByTurns r r1 (between a b d e k l x y)
+    (k l n : ClockState) (x y z : ConsoleState) → WentByTurns r r1 (across a b d e k l x y)
     → limit_met (setting_in r1) r1.machine ≡ None
     → IsRequest (setting_in r1) r1.machine request.pos (request.pos + request.len)
-    → Turned request turn r1 r2 (between b c e f l n y z) → f.is_drafting ≡ false → ObjectsStay (between b c e f l n y z)
-    → WentByTurns r r2 (between a c d f k n x z)
+    → Turned request turn r1 r2 (across b c e f l n y z) → f.is_drafting ≡ false → ObjectsStay (across b c e f l n y z)
+    → WentByTurns r r2 (across a c d f k n x z)
 goes_on_by_turn r r1 r2 request turn a b c d e f k l n x y z i within asks t no_draft objects =
     goes_on r r1 r2 a b c d e f k l n x y z i (record {
       places = subst (λ (q : RunState). HasPlaces q.settings (covers q.domain)) (sym t.steps) i.places;
-      went = went_one r1 r2 request turn (between b c e f l n y z) within asks t;
+      went = went_one r1 r2 request turn (across b c e f l n y z) within asks t;
       input = objects.source.input ∙ i.input;
       no_draft = no_draft;
       objects = objects;
@@ -317,11 +304,11 @@ goes_on_by_pass r r1 r2 o phase number first i spent are is =
 
 -- A turn stops.
 pub halts : (stop : Stop) (r r1 r2 : RunState) (request : Request) (a b c : SourceState) (d e f : SiteState)
-    (k l n : ClockState) (x y z : ConsoleState) → WentByTurns r r1 (between a b d e k l x y)
+    (k l n : ClockState) (x y z : ConsoleState) → WentByTurns r r1 (across a b d e k l x y)
     → limit_met (setting_in r1) r1.machine ≡ None
     → IsRequest (setting_in r1) r1.machine request.pos (request.pos + request.len)
-    → Halted request stop r1 r2 (between b c e f l n y z) → f.is_drafting ≡ drafting_at_stop stop
-    → WentUpTo stop r r2 (between a c d f k n x z)
+    → Halted request stop r1 r2 (across b c e f l n y z) → f.is_drafting ≡ drafting_at_stop stop
+    → WentUpTo stop r r2 (across a c d f k n x z)
 halts stop r r1 r2 request a b c d e f k l n x y z i within asks h draft = record {
   between = r1;
   source_between = b;

@@ -3,6 +3,7 @@ ghost use Rattle.std.specs.Prelude.{◌≡◌, true, false, IfOk, OnOk};
 ghost use Rattle.rescue_domain.specs.Parts.{covers};
 ghost use Rattle.rescue_rules.specs.Passes.{copying_passes};
 ghost use Rattle.rescue_rules.specs.Machine.{has_request};
+ghost use Rattle.rescue_core.specs.Across.{across};
 ghost use Rattle.rescue_core.specs.RunState.{setting_in, HasPlaces};
 ghost use Rattle.copy_passes.specs.Turns.{TurnsEnd, PhaseEnds};
 ghost use Rattle.copy_passes.specs.Copying.{MayCopy};
@@ -29,16 +30,9 @@ fn run_pass<S: Source, D: Site, K: Clock, C: Console, T: Tiles>(
     requires input { (S.state source.old).is_open ≡ true }
     requires image { (D.state site.old).is_open ≡ true }
     requires no_draft { (D.state site.old).is_drafting ≡ false }
-    ensures ends { TurnsEnd result rescue.old rescue.new (record {
-      source = S.state source.old;
-      source' = S.state source.new;
-      site = D.state site.old;
-      site' = D.state site.new;
-      clock = K.state clock.old;
-      clock' = K.state clock.new;
-      console = C.state console.old;
-      console' = C.state console.new;
-    }) }
+    ensures ends { TurnsEnd result rescue.old rescue.new (across (S.state source.old) (S.state source.new)
+        (D.state site.old) (D.state site.new) (K.state clock.old) (K.state clock.new) (C.state console.old)
+        (C.state console.new)) }
     ensures copying { OnOk result (MayCopy rescue.new) }
     ensures pass { OnOk result (rescue.new.pass ≡ rescue.old.pass) }
     ensures spent { OnOk result (has_request (setting_in rescue.new) rescue.new.machine ≡ false) }
@@ -62,16 +56,9 @@ fn run_passes<S: Source, D: Site, K: Clock, C: Console, T: Tiles>(
     requires input { (S.state source.old).is_open ≡ true }
     requires image { (D.state site.old).is_open ≡ true }
     requires no_draft { (D.state site.old).is_drafting ≡ false }
-    ensures ends { TurnsEnd result rescue.old rescue.new (record {
-      source = S.state source.old;
-      source' = S.state source.new;
-      site = D.state site.old;
-      site' = D.state site.new;
-      clock = K.state clock.old;
-      clock' = K.state clock.new;
-      console = C.state console.old;
-      console' = C.state console.new;
-    }) }
+    ensures ends { TurnsEnd result rescue.old rescue.new (across (S.state source.old) (S.state source.new)
+        (D.state site.old) (D.state site.new) (K.state clock.old) (K.state clock.new) (C.state console.old)
+        (C.state console.new)) }
     ensures copying { OnOk result (MayCopy rescue.new) }
     ensures pass { OnOk result (rescue.new.pass ≡ copying_passes) }
     ensures spent { OnOk result (has_request (setting_in rescue.new) rescue.new.machine ≡ false) }
@@ -100,16 +87,8 @@ pub fn run_copying<S: Source, D: Site, K: Clock, C: Console, T: Tiles>(
     requires input { (S.state source.old).is_open ≡ true }
     requires image { (D.state site.old).is_open ≡ true }
     requires no_draft { (D.state site.old).is_drafting ≡ false }
-    ensures ends { PhaseEnds rescue result (record {
-      source = S.state source.old;
-      source' = S.state source.new;
-      site = D.state site.old;
-      site' = D.state site.new;
-      clock = K.state clock.old;
-      clock' = K.state clock.new;
-      console = C.state console.old;
-      console' = C.state console.new;
-    }) }
+    ensures ends { PhaseEnds rescue result (across (S.state source.old) (S.state source.new) (D.state site.old)
+        (D.state site.new) (K.state clock.old) (K.state clock.new) (C.state console.old) (C.state console.new)) }
     ensures copying { IfOk result (λ r. MayCopy r) }
     ensures pass { IfOk result (λ r. r.pass ≡ copying_passes) }
     ensures spent { IfOk result (λ r. has_request (setting_in r) r.machine ≡ false) }

@@ -21,10 +21,10 @@ use Rattle.rescue_rules.specs.Deeds.{save_of, doing_calls}
 use Rattle.sweep_rules.specs.Sweep.{filler, generator, Sweeper, Sweep, Swept, IsSweptOut, after_pieces, due_save, sweep_end, deeds_of}
 use Rattle.sweep_rules.specs.SweepWork.{SweepEndsBy, IsSaved, IsUnsaved, IsCut as WorkIsCut, IsBroken as WorkIsBroken, sweep_report, sweep_calls, pieces_lines, lost_call}
 use Rattle.rescue_core.specs.Closing.{LastCalls, Saved as LastSaved, Unsaved as LastFailed}
-use Rattle.fill_generate.specs.Sweeping.{Around, BreaksAfter, EndsSweep, Saved, Unsaved, Cut, Broken, SweepTold, LookupTold, EndsAreTold, SweepStopsAt, IsStarved, IsCut, IsBroken}
+use Rattle.fill_generate.specs.Sweeping.{Around, around, BreaksAfter, EndsSweep, Saved, Unsaved, Cut, Broken, SweepTold, LookupTold, EndsAreTold, SweepStopsAt, IsStarved, IsCut, IsBroken}
 use Rattle.fill_generate.specs.SweepState.{SweepState, setting_of}
 use Rattle.fill_generate.specs.Steps.{SweepWent, WentOn, WentUpTo, ClosesFiles, PiecesEnd, IsLookedUp}
-use Rattle.fill_generate.proofs.TellLemmas.{between, makes_more, breaks_after, says_more}
+use Rattle.fill_generate.proofs.TellLemmas.{makes_more, breaks_after, says_more}
 use Rattle.fill_generate.proofs.ImageLemmas.{all_given}
 
 -- what broke off after a record broke off without it
@@ -99,9 +99,9 @@ abbrev pub last_of : Setting → Sweep → RunEnd → List (List ℕ)
 last_of s m end = report_text (last_front (is_done end)) (sweep_report s m) ∷ []
 
 told_by : (G : Swept → Type 0) (s : Setting) (w : Sweeper) (m m1 : Sweep) (h h1 h2 : Bool) (end : RunEnd) (es : List Swept)
-    (d e f : SiteState) (k l : ClockState) (x y z : ConsoleState) → SweepWent G s w m m1 h h1 es (between d e k l x y)
+    (d e f : SiteState) (k l : ClockState) (x y z : ConsoleState) → SweepWent G s w m m1 h h1 es (around d e k l x y)
     → EndsSweep s w m es end d f → SpeaksOn (out_pieces (last_of s m1 end)) h1 h2 y z
-    → ToldWith G s w m h h2 end (between d f k l x z)
+    → ToldWith G s w m h h2 end (around d f k l x z)
 told_by G s w m m1 h h1 h2 end es d e f k l x y z g ends says = record {
   told = record {
     events = es;
@@ -118,8 +118,8 @@ told_by G s w m m1 h h1 h2 end es d e f k l x y z g ends says = record {
 -- no piece was left
 pub told_whole : (G : Swept → Type 0) (s : Setting) (w : Sweeper) (m m1 : Sweep) (h h1 h2 : Bool) (end : RunEnd)
     (d e f : SiteState) (k l : ClockState) (x y z : ConsoleState) → e.tells ≡ d.tells
-    → WentOn G s w m m1 h h1 (between d e k l x y) → IsSweptOut s w m1 → ClosesFiles s m1 None end e f
-    → SpeaksOn (out_pieces (last_of s m1 end)) h1 h2 y z → ToldWith G s w m h h2 end (between d f k l x z)
+    → WentOn G s w m m1 h h1 (around d e k l x y) → IsSweptOut s w m1 → ClosesFiles s m1 None end e f
+    → SpeaksOn (out_pieces (last_of s m1 end)) h1 h2 y z → ToldWith G s w m h h2 end (around d f k l x z)
 told_whole G s w m m1 h h1 h2 end d e f k l x y z tells g out closes says =
     told_by G s w m m1 h h1 h2 end g.events d e f k l x y z g.went
     (ends_last s w m g.events None end d e f tells g.made (subst (λ (q : Sweep). IsSweptOut s w q) g.went.state out)
@@ -146,18 +146,18 @@ ends_stopped s w m m1 es stop end d e f tells state (IsBroken before last call s
 -- it stopped
 pub told_stopped : (G : Swept → Type 0) (s : Setting) (w : Sweeper) (m m1 : Sweep) (h h1 h2 : Bool) (stop : Stop) (end : RunEnd)
     (d e f : SiteState) (k l : ClockState) (x y z : ConsoleState) → e.tells ≡ d.tells
-    → WentUpTo G s w m m1 h h1 stop (between d e k l x y) → ClosesFiles s m1 (Some stop) end e f
-    → SpeaksOn (out_pieces (last_of s m1 end)) h1 h2 y z → ToldWith G s w m h h2 end (between d f k l x z)
+    → WentUpTo G s w m m1 h h1 stop (around d e k l x y) → ClosesFiles s m1 (Some stop) end e f
+    → SpeaksOn (out_pieces (last_of s m1 end)) h1 h2 y z → ToldWith G s w m h h2 end (around d f k l x z)
 told_stopped G s w m m1 h h1 h2 stop end d e f k l x y z tells g closes says =
     told_by G s w m m1 h h1 h2 end g.events d e f k l x y z g.went
     (ends_stopped s w m m1 g.events stop end d e f tells g.went.state g.stops closes) says
 
 -- A sweep from its beginning to its end: no piece was left,
 pub run_whole : {T : Type 0} (G : Swept → Type 0) (w : Sweeper) (r r1 : SweepState) (v : T) (h2 : Bool) (end : RunEnd)
-    (d e f : SiteState) (k l : ClockState) (x y z : ConsoleState) → PiecesEnd {T = T} G (Ok v) w r r1 (between d e k l x y)
+    (d e f : SiteState) (k l : ClockState) (x y z : ConsoleState) → PiecesEnd {T = T} G (Ok v) w r r1 (around d e k l x y)
     → ClosesFiles (setting_of r1) r1.sweep None end e f
     → SpeaksOn (out_pieces (last_of (setting_of r1) r1.sweep end)) r1.heard h2 y z
-    → ToldWith G (setting_of r) w r.sweep r.heard h2 end (between d f k l x z)
+    → ToldWith G (setting_of r) w r.sweep r.heard h2 end (around d f k l x z)
 run_whole G w r r1 v h2 end d e f k l x y z p closes says =
     let same : setting_of r1 ≡ setting_of r = ap setting_of p.stands in
     told_whole G (setting_of r) w r.sweep r1.sweep r.heard r1.heard h2 end d e f k l x y z p.objects.site.tells p.went p.out
@@ -166,10 +166,10 @@ run_whole G w r r1 v h2 end d e f k l x y z p closes says =
 
 -- or it stopped
 pub run_stopped : {T : Type 0} (G : Swept → Type 0) (w : Sweeper) (r r1 : SweepState) (stop : Stop) (h2 : Bool) (end : RunEnd)
-    (d e f : SiteState) (k l : ClockState) (x y z : ConsoleState) → PiecesEnd {T = T} G (Err stop) w r r1 (between d e k l x y)
+    (d e f : SiteState) (k l : ClockState) (x y z : ConsoleState) → PiecesEnd {T = T} G (Err stop) w r r1 (around d e k l x y)
     → ClosesFiles (setting_of r1) r1.sweep (Some stop) end e f
     → SpeaksOn (out_pieces (last_of (setting_of r1) r1.sweep end)) r1.heard h2 y z
-    → ToldWith G (setting_of r) w r.sweep r.heard h2 end (between d f k l x z)
+    → ToldWith G (setting_of r) w r.sweep r.heard h2 end (around d f k l x z)
 run_stopped G w r r1 stop h2 end d e f k l x y z p closes says =
     let same : setting_of r1 ≡ setting_of r = ap setting_of p.stands in
     told_stopped G (setting_of r) w r.sweep r1.sweep r.heard r1.heard h2 stop end d e f k l x y z p.objects.site.tells p.halted
@@ -185,46 +185,46 @@ looked_so s w m h h' end o t =
 -- the same of the two modes, by the state that they begin with
 pub fill_whole : {T : Type 0} (types : TypeSet) (buffer : List ℕ) (q r r1 : SweepState) (v : T) (h2 : Bool) (end : RunEnd)
     (d e f : SiteState) (k l : ClockState) (x y z : ConsoleState) → r ≡ q
-    → PiecesEnd {T = T} (λ e. ⊤) (Ok v) (filler (setting_of r) types buffer) r r1 (between d e k l x y)
+    → PiecesEnd {T = T} (λ e. ⊤) (Ok v) (filler (setting_of r) types buffer) r r1 (around d e k l x y)
     → ClosesFiles (setting_of r1) r1.sweep None end e f
     → SpeaksOn (out_pieces (last_of (setting_of r1) r1.sweep end)) r1.heard h2 y z
-    → SweepTold (setting_of q) (filler (setting_of q) types buffer) q.sweep q.heard h2 end (between d f k l x z)
+    → SweepTold (setting_of q) (filler (setting_of q) types buffer) q.sweep q.heard h2 end (around d f k l x z)
 fill_whole types buffer q r r1 v h2 end d e f k l x y z same p closes says =
     (subst (λ (t : SweepState). ToldWith (λ e. ⊤) (setting_of t) (filler (setting_of t) types buffer) t.sweep t.heard h2 end
-    (between d f k l x z)) same
+    (around d f k l x z)) same
     (run_whole (λ e. ⊤) (filler (setting_of r) types buffer) r r1 v h2 end d e f k l x y z p closes says)).told
 
 pub looked_whole : {T : Type 0} (q r r1 : SweepState) (v : T) (h2 : Bool) (end : RunEnd)
     (d e f : SiteState) (k l : ClockState) (x y z : ConsoleState) → r ≡ q
-    → PiecesEnd {T = T} (IsLookedUp (setting_of r) d) (Ok v) (generator (setting_of r)) r r1 (between d e k l x y)
+    → PiecesEnd {T = T} (IsLookedUp (setting_of r) d) (Ok v) (generator (setting_of r)) r r1 (around d e k l x y)
     → ClosesFiles (setting_of r1) r1.sweep None end e f
     → SpeaksOn (out_pieces (last_of (setting_of r1) r1.sweep end)) r1.heard h2 y z
-    → LookupTold (setting_of q) (generator (setting_of q)) q.sweep q.heard h2 end (between d f k l x z)
+    → LookupTold (setting_of q) (generator (setting_of q)) q.sweep q.heard h2 end (around d f k l x z)
 looked_whole q r r1 v h2 end d e f k l x y z same p closes says =
-    looked_so (setting_of q) (generator (setting_of q)) q.sweep q.heard h2 end (between d f k l x z)
+    looked_so (setting_of q) (generator (setting_of q)) q.sweep q.heard h2 end (around d f k l x z)
     (subst (λ (t : SweepState). ToldWith (IsLookedUp (setting_of t) d) (setting_of t) (generator (setting_of t)) t.sweep t.heard h2 end
-    (between d f k l x z)) same
+    (around d f k l x z)) same
     (run_whole (IsLookedUp (setting_of r) d) (generator (setting_of r)) r r1 v h2 end d e f k l x y z p closes says))
 
 pub fill_stopped : {T : Type 0} (types : TypeSet) (buffer : List ℕ) (q r r1 : SweepState) (stop : Stop) (h2 : Bool) (end : RunEnd)
     (d e f : SiteState) (k l : ClockState) (x y z : ConsoleState) → r ≡ q
-    → PiecesEnd {T = T} (λ e. ⊤) (Err stop) (filler (setting_of r) types buffer) r r1 (between d e k l x y)
+    → PiecesEnd {T = T} (λ e. ⊤) (Err stop) (filler (setting_of r) types buffer) r r1 (around d e k l x y)
     → ClosesFiles (setting_of r1) r1.sweep (Some stop) end e f
     → SpeaksOn (out_pieces (last_of (setting_of r1) r1.sweep end)) r1.heard h2 y z
-    → SweepTold (setting_of q) (filler (setting_of q) types buffer) q.sweep q.heard h2 end (between d f k l x z)
+    → SweepTold (setting_of q) (filler (setting_of q) types buffer) q.sweep q.heard h2 end (around d f k l x z)
 fill_stopped types buffer q r r1 stop h2 end d e f k l x y z same p closes says =
     (subst (λ (t : SweepState). ToldWith (λ e. ⊤) (setting_of t) (filler (setting_of t) types buffer) t.sweep t.heard h2 end
-    (between d f k l x z)) same
+    (around d f k l x z)) same
     (run_stopped (λ e. ⊤) (filler (setting_of r) types buffer) r r1 stop h2 end d e f k l x y z p closes says)).told
 
 pub looked_stopped : {T : Type 0} (q r r1 : SweepState) (stop : Stop) (h2 : Bool) (end : RunEnd)
     (d e f : SiteState) (k l : ClockState) (x y z : ConsoleState) → r ≡ q
-    → PiecesEnd {T = T} (IsLookedUp (setting_of r) d) (Err stop) (generator (setting_of r)) r r1 (between d e k l x y)
+    → PiecesEnd {T = T} (IsLookedUp (setting_of r) d) (Err stop) (generator (setting_of r)) r r1 (around d e k l x y)
     → ClosesFiles (setting_of r1) r1.sweep (Some stop) end e f
     → SpeaksOn (out_pieces (last_of (setting_of r1) r1.sweep end)) r1.heard h2 y z
-    → LookupTold (setting_of q) (generator (setting_of q)) q.sweep q.heard h2 end (between d f k l x z)
+    → LookupTold (setting_of q) (generator (setting_of q)) q.sweep q.heard h2 end (around d f k l x z)
 looked_stopped q r r1 stop h2 end d e f k l x y z same p closes says =
-    looked_so (setting_of q) (generator (setting_of q)) q.sweep q.heard h2 end (between d f k l x z)
+    looked_so (setting_of q) (generator (setting_of q)) q.sweep q.heard h2 end (around d f k l x z)
     (subst (λ (t : SweepState). ToldWith (IsLookedUp (setting_of t) d) (setting_of t) (generator (setting_of t)) t.sweep t.heard h2 end
-    (between d f k l x z)) same
+    (around d f k l x z)) same
     (run_stopped (IsLookedUp (setting_of r) d) (generator (setting_of r)) r r1 stop h2 end d e f k l x y z p closes says))

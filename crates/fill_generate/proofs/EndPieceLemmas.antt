@@ -33,9 +33,8 @@ use Rattle.sweep_rules.specs.SweepWork.{sweep_report}
 use Rattle.fill_generate.specs.declared.sweeping.Piece.{Piece}
 use Rattle.fill_generate.specs.Modes.{current_in}
 use Rattle.fill_generate.specs.SweepState.{SweepState, setting_for, setting_of, sweep_at, standing, moved}
-use Rattle.fill_generate.specs.Sweeping.{Around}
+use Rattle.fill_generate.specs.Sweeping.{Around, around}
 use Rattle.fill_generate.specs.Steps.{heard_as, line_after, save_after, StepsPastPiece, EndsPiece}
-use Rattle.fill_generate.proofs.TellLemmas.{between}
 
 -- the line of a sweep, if it is due
 abbrev pub line_if : SweepState → Bool → List (List ℕ)
@@ -130,15 +129,15 @@ pub ends_whole : {T : Type 0} (v : T) (piece : Piece) (written after : ℕ) (lin
     → line ≡ is_line_due r.sweep.tally.said (current_in r.mode) (after / 1000)
     → save ≡ nat_le (r.sweep.tally.due_at + save_interval) after → r2 ≡ heard_as r1 r2.heard
     → SpeaksOn (out_pieces (line_if r1 line)) r1.heard r2.heard x y → r3 ≡ r2 → Makes (save_if r2 save) a c
-    → EndsPiece {T = T} (Ok v) piece written r r3 (between a c k l x y)
+    → EndsPiece {T = T} (Ok v) piece written r r3 (around a c k l x y)
 ends_whole v piece written after line save r r1 r2 r3 a c k l x y timed fit moves due is hears says stays makes =
-    let b : After piece written after line r r1 r2 r3 (between a c k l x y) =
+    let b : After piece written after line r r1 r2 r3 (around a c k l x y) =
     record { timed = timed; fit = fit; moves = moves; due = due; hears = hears; says = says; stays = stays } in
     record {
       after = after;
-      passes = passes piece written after line r r1 r2 r3 (between a c k l x y) b;
+      passes = passes piece written after line r r1 r2 r3 (around a c k l x y) b;
       made = subst (λ (cs : List Call). Makes cs a c)
-          (due_is piece written after line save r r1 r2 r3 (between a c k l x y) b is) makes;
+          (due_is piece written after line save r r1 r2 r3 (around a c k l x y) b is) makes;
       broke = tt;
     }
 
@@ -150,15 +149,15 @@ pub ends_broken : {T : Type 0} (call : SiteCall) (piece : Piece) (written after 
     → save ≡ nat_le (r.sweep.tally.due_at + save_interval) after → r2 ≡ heard_as r1 r2.heard
     → SpeaksOn (out_pieces (line_if r1 line)) r1.heard r2.heard x y → r3 ≡ r2 → IsNameIn call (save_if r2 save)
     → Breaks call (save_if r2 save) a c
-    → EndsPiece {T = T} (Err (Site call)) piece written r r3 (between a c k l x y)
+    → EndsPiece {T = T} (Err (Site call)) piece written r r3 (around a c k l x y)
 ends_broken call piece written after line save r r1 r2 r3 a c k l x y timed fit moves due is hears says stays named breaks =
-    let b : After piece written after line r r1 r2 r3 (between a c k l x y) =
+    let b : After piece written after line r r1 r2 r3 (around a c k l x y) =
     record { timed = timed; fit = fit; moves = moves; due = due; hears = hears; says = says; stays = stays } in
     let saves : save_if r2 save ≡ save_after r r3 after =
-    due_is piece written after line save r r1 r2 r3 (between a c k l x y) b is in
+    due_is piece written after line save r r1 r2 r3 (around a c k l x y) b is in
     record {
       after = after;
-      passes = passes piece written after line r r1 r2 r3 (between a c k l x y) b;
+      passes = passes piece written after line r r1 r2 r3 (around a c k l x y) b;
       made = tt;
       broke = record {
         call = call;

@@ -17,9 +17,9 @@ use Rattle.rescue_rules.specs.Laws.{AreTimes}
 use Rattle.rescue_rules.specs.Deeds.{Deed, save_of, deed_calls}
 use Rattle.sweep_rules.specs.Sweep.{Sweeper, Sweep, Swept, IsPiece, IsSweep, after_piece, after_pieces, due_save, deeds_of}
 use Rattle.sweep_rules.specs.SweepWork.{sweep_calls, piece_lines, pieces_lines, lost_call}
-use Rattle.fill_generate.specs.Sweeping.{BreaksAfter, times_after, IsStarved, IsCut, IsBroken}
+use Rattle.fill_generate.specs.Sweeping.{around, BreaksAfter, times_after, IsStarved, IsCut, IsBroken}
 use Rattle.fill_generate.specs.Steps.{deed_of, DoesPiece, DidPiece, Halted, Starved, Uncalled, Unsaved, SweepWent, WentOn, WentUpTo}
-use Rattle.fill_generate.proofs.TellLemmas.{between, timed_none, timed_more, makes_none, makes_more, breaks_after, breaks_more, says_none, says_more}
+use Rattle.fill_generate.proofs.TellLemmas.{timed_none, timed_more, makes_none, makes_more, breaks_after, breaks_more, says_none, says_more}
 
 pub swept_more : (w : Sweeper) (m : Sweep) (es : List Swept) (e : Swept)
     → after_pieces w m (es ++ e ∷ []) ≡ after_piece w (after_pieces w m es) e
@@ -52,7 +52,7 @@ lines_more s w m (d ∷ es) e =
 
 -- no piece
 went_none : (G : Swept → Type 0) (s : Setting) (w : Sweeper) (m : Sweep) (h : Bool) (d : SiteState) (k : ClockState) (x : ConsoleState)
-    → SweepWent G s w m m h h [] (between d d k k x x)
+    → SweepWent G s w m m h h [] (around d d k k x x)
 went_none G s w m h d k x = record {
   run = tt;
   given = All-nil G;
@@ -65,8 +65,8 @@ went_none G s w m h d k x = record {
 -- one more
 went_more : (G : Swept → Type 0) (s : Setting) (w : Sweeper) (m m1 m2 : Sweep) (h h1 h2 : Bool) (es : List Swept) (e : Swept)
     (d e1 f : SiteState) (k l n : ClockState) (x y z : ConsoleState)
-    → SweepWent G s w m m1 h h1 es (between d e1 k l x y) → DoesPiece G s w m1 m2 h1 h2 e (between e1 f l n y z)
-    → SweepWent G s w m m2 h h2 (es ++ e ∷ []) (between d f k n x z)
+    → SweepWent G s w m m1 h h1 es (around d e1 k l x y) → DoesPiece G s w m1 m2 h1 h2 e (around e1 f l n y z)
+    → SweepWent G s w m m2 h h2 (es ++ e ∷ []) (around d f k n x z)
 went_more G s w m m1 m2 h h1 h2 es e d e1 f k l n x y z g t =
     let small : ℕ → Type 0 = λ n. n < 2 ^ 64 in
     let time : Swept → ℕ = λ e. e.after in
@@ -86,8 +86,8 @@ went_more G s w m m1 m2 h h1 h2 es e d e1 f k l n x y z g t =
 
 -- nothing done after them
 went_still : (G : Swept → Type 0) (s : Setting) (w : Sweeper) (m m1 m2 : Sweep) (h h1 h2 : Bool) (es : List Swept)
-    (d e f : SiteState) (k l n : ClockState) (x y z : ConsoleState) → SweepWent G s w m m1 h h1 es (between d e k l x y)
-    → m2 ≡ m1 → h2 ≡ h1 → n ≡ l → z ≡ y → SweepWent G s w m m2 h h2 es (between d f k n x z)
+    (d e f : SiteState) (k l n : ClockState) (x y z : ConsoleState) → SweepWent G s w m m1 h h1 es (around d e k l x y)
+    → m2 ≡ m1 → h2 ≡ h1 → n ≡ l → z ≡ y → SweepWent G s w m m2 h h2 es (around d f k n x z)
 went_still G s w m m1 m2 h h1 h2 es d e f k l n x y z g state heard clock console = record {
   run = g.run;
   given = g.given;
@@ -99,13 +99,13 @@ went_still G s w m m1 m2 h h1 h2 es d e f k l n x y z g state heard clock consol
 }
 
 pub begins : (G : Swept → Type 0) (s : Setting) (w : Sweeper) (m : Sweep) (h : Bool) (d : SiteState) (k : ClockState) (x : ConsoleState)
-    → WentOn G s w m m h h (between d d k k x x)
+    → WentOn G s w m m h h (around d d k k x x)
 begins G s w m h d k x = record { events = []; went = went_none G s w m h d k x; made = makes_none d }
 
 pub goes_on : (G : Swept → Type 0) (s : Setting) (w : Sweeper) (m m1 m2 : Sweep) (h h1 h2 : Bool)
     (d e f : SiteState) (k l n : ClockState) (x y z : ConsoleState) → e.tells ≡ d.tells
-    → WentOn G s w m m1 h h1 (between d e k l x y) → DidPiece G s w m1 m2 h1 h2 (between e f l n y z)
-    → WentOn G s w m m2 h h2 (between d f k n x z)
+    → WentOn G s w m m1 h h1 (around d e k l x y) → DidPiece G s w m1 m2 h1 h2 (around e f l n y z)
+    → WentOn G s w m m2 h h2 (around d f k n x z)
 goes_on G s w m m1 m2 h h1 h2 d e f k l n x y z tells g t =
     let calls : Makes (deed_calls s (deed_of w (after_pieces w m g.events) t.event)) e f =
     subst (λ (q : Sweep). Makes (deed_calls s (deed_of w q t.event)) e f) g.went.state t.calls in
@@ -119,8 +119,8 @@ goes_on G s w m m1 m2 h h1 h2 d e f k l n x y z tells g t =
 
 pub halts : (G : Swept → Type 0) (s : Setting) (w : Sweeper) (m m1 m2 : Sweep) (h h1 h2 : Bool) (stop : Stop) (p q : ℕ)
     (d e f : SiteState) (k l n : ClockState) (x y z : ConsoleState) → e.tells ≡ d.tells → IsPiece s w m1 p q
-    → WentOn G s w m m1 h h1 (between d e k l x y) → Halted G s w m1 m2 h1 h2 stop (between e f l n y z)
-    → WentUpTo G s w m m2 h h2 stop (between d f k n x z)
+    → WentOn G s w m m1 h h1 (around d e k l x y) → Halted G s w m1 m2 h1 h2 stop (around e f l n y z)
+    → WentUpTo G s w m m2 h h2 stop (around d f k n x z)
 halts G s w m m1 m2 h h1 h2 stop p q d e f k l n x y z tells piece g
     (Starved is starves state heard site clock console) = record {
       events = g.events;

@@ -15,9 +15,9 @@ use Rattle.fill_generate.specs.declared.mode.SweepMode.TheVariants.{Generate}
 use Rattle.fill_generate.specs.declared.sweeping.Piece.{Piece}
 use Rattle.fill_generate.specs.Modes.{IsSweeperOf, current_in}
 use Rattle.fill_generate.specs.SweepState.{SweepState, setting_of, standing, moved}
-use Rattle.fill_generate.specs.Sweeping.{Around}
+use Rattle.fill_generate.specs.Sweeping.{Around, around}
 use Rattle.fill_generate.specs.Steps.{IsFound, EndsPiece, PieceEnds, ObjectsStay, LooksUp, LooksNot, NoRoom, NoRead, Halted, Starved, IsLookedUp, gone_to, heard_as}
-use Rattle.fill_generate.proofs.TellLemmas.{between, clock_self}
+use Rattle.fill_generate.proofs.TellLemmas.{clock_self}
 use Rattle.fill_generate.proofs.PieceLemmas.{done_at, marked_with, took, unsaved, uncalled, lost_read, generates_is}
 
 -- after a piece the same sweep is elsewhere
@@ -46,9 +46,9 @@ pub piece_ends : {T : Type 0} (G : Swept → Type 0) (w : Sweeper) (r r1 r2 : Sw
     (result : Result T Stop) (a b c : SiteState) (k l : ClockState) (x y : ConsoleState) → b.tells ≡ a.tells → IsSweeperOf r.mode w
     → IsFound r piece → ((t : ℕ) → w.gives (done_at piece got t) ≡ true) → ((t : ℕ) → G (done_at piece got t))
     → ((t : ℕ) → r1 ≡ marked_with w r (done_at piece got t)) → ((t : ℕ) → w.writes (done_at piece got t) ≡ written)
-    → ((t : ℕ) → Makes (w.call (done_at piece got t) ∷ []) a b) → EndsPiece result piece written r1 r2 (between b c k l x y)
+    → ((t : ℕ) → Makes (w.call (done_at piece got t) ∷ []) a b) → EndsPiece result piece written r1 r2 (around b c k l x y)
     → OnOk result (c.is_drafting ≡ false) → IfErr result (λ stop. c.is_drafting ≡ drafting_at_stop stop)
-    → ObjectsStay (between a c k l x y) → PieceEnds G result w piece r r2 (between a c k l x y)
+    → ObjectsStay (around a c k l x y) → PieceEnds G result w piece r r2 (around a c k l x y)
 piece_ends G w r r1 r2 piece got written (Ok v) a b c k l x y tells of found gives given marked writes call ends no_draft left objects = record {
   stands = gone_after w r r1 r2 (done_at piece got ends.after)
       (moved (current_in r1.mode) r1.sweep piece.pos piece.len written ends.after) r2.heard (marked ends.after)
@@ -77,9 +77,9 @@ piece_ends G w r r1 r2 piece got written (Err stop) a b c k l x y tells of found
 -- It was looked up,
 pub looks : {T : Type 0} (r r1 r2 : SweepState) (piece : Piece) (result : Result T Stop) (a b c : SiteState) (k l : ClockState)
     (x y : ConsoleState) → r.mode ≡ Generate → IsFound r piece → LooksUp piece r r1 a b → SiteStays a b → SiteKeeps b c
-    → c.is_open ≡ b.is_open → a.is_open ≡ true → ClockKeeps k l → EndsPiece result piece 0 r1 r2 (between b c k l x y)
+    → c.is_open ≡ b.is_open → a.is_open ≡ true → ClockKeeps k l → EndsPiece result piece 0 r1 r2 (around b c k l x y)
     → OnOk result (c.is_drafting ≡ false) → IfErr result (λ stop. c.is_drafting ≡ drafting_at_stop stop)
-    → PieceEnds (IsLookedUp (setting_of r) a) result (generator (setting_of r)) piece r r2 (between a c k l x y)
+    → PieceEnds (IsLookedUp (setting_of r) a) result (generator (setting_of r)) piece r r2 (around a c k l x y)
 looks r r1 r2 piece result a b c k l x y mode found looked stays keeps same opened clock ends no_draft left =
     let s : Setting = setting_of r in
     piece_ends (IsLookedUp s a) (generator s) r r1 r2 piece looked.got 0 result a b c k l x y stays.keeps.tells
@@ -90,7 +90,7 @@ looks r r1 r2 piece result a b c k l x y mode found looked stays keeps same open
 -- or wasn't.
 looks_nowhere : (G : Swept → Type 0) (r r1 : SweepState) (piece : Piece) (stop : Stop) (a c : SiteState) (k : ClockState)
     (x : ConsoleState) → r.mode ≡ Generate → IsFound r piece → r1 ≡ r → LooksNot stop piece r a c
-    → Halted G (setting_of r) (generator (setting_of r)) r.sweep r1.sweep r.heard r1.heard stop (between a c k k x x)
+    → Halted G (setting_of r) (generator (setting_of r)) r.sweep r1.sweep r.heard r1.heard stop (around a c k k x x)
 looks_nowhere G r r1 piece stop a c k x mode found stands (NoRoom is same) =
     Starved is refl (ap (λ (q : SweepState). q.sweep) stands) (ap (λ (q : SweepState). q.heard) stands) same refl refl
 looks_nowhere G r r1 piece stop a c k x mode found stands (NoRead is breaks) =
@@ -106,9 +106,9 @@ left_then r piece stop a c (NoRead is breaks) no_draft = no_draft ∙ ap draftin
 pub looks_not : {T : Type 0} (G : Swept → Type 0) (r r1 : SweepState) (piece : Piece) (stop : Stop) (result : Result T Stop)
     (a c : SiteState) (k : ClockState) (x : ConsoleState) → r.mode ≡ Generate → IsFound r piece → r1 ≡ r
     → LooksNot stop piece r a c → SiteStays a c → a.is_drafting ≡ false → a.is_open ≡ true → result ≡ Err stop
-    → PieceEnds G result (generator (setting_of r)) piece r r1 (between a c k k x x)
+    → PieceEnds G result (generator (setting_of r)) piece r r1 (around a c k k x x)
 looks_not {T} G r r1 piece stop result a c k x mode found stands not stays no_draft opened is =
-    subst (λ (t : Result T Stop). PieceEnds G t (generator (setting_of r)) piece r r1 (between a c k k x x)) (sym is) (record {
+    subst (λ (t : Result T Stop). PieceEnds G t (generator (setting_of r)) piece r r1 (around a c k k x x)) (sym is) (record {
       stands = stands ∙ ap (λ (q : SweepState). gone_to r q) (sym stands);
       took = tt;
       passed = tt;

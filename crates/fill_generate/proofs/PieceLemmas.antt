@@ -25,9 +25,9 @@ use Rattle.fill_generate.specs.declared.sweeping.Piece.{Piece}
 use Rattle.fill_generate.specs.declared.mode.SweepMode.TheVariants.{Fill, Generate}
 use Rattle.fill_generate.specs.Modes.{IsSweeperOf, current_in}
 use Rattle.fill_generate.specs.SweepState.{SweepState, setting_of, standing, moved}
-use Rattle.fill_generate.specs.Sweeping.{Around}
+use Rattle.fill_generate.specs.Sweeping.{Around, around}
 use Rattle.fill_generate.specs.Steps.{IsFound, heard_as, line_after, save_after, DoesPiece, DidPiece, StepsPastPiece, BreaksSave, Halted, Uncalled, Unsaved}
-use Rattle.fill_generate.proofs.TellLemmas.{between, makes_more, breaks_after}
+use Rattle.fill_generate.proofs.TellLemmas.{makes_more, breaks_after}
 
 -- a piece that was done, with what the output gave for it, at this time
 abbrev pub done_at : Piece → (got : List ℕ) → (after : ℕ) → Swept
@@ -103,20 +103,20 @@ pub took : (G : Swept → Type 0) (w : Sweeper) (r r1 r2 : SweepState) (piece : 
     (a b c : SiteState) (k l : ClockState) (x y : ConsoleState) → b.tells ≡ a.tells
     → IsSweeperOf r.mode w → IsFound r piece → w.gives (done_at piece got after) ≡ true → G (done_at piece got after)
     → r1 ≡ marked_with w r (done_at piece got after) → w.writes (done_at piece got after) ≡ written
-    → Makes (w.call (done_at piece got after) ∷ []) a b → StepsPastPiece piece written after r1 r2 (between b c k l x y)
+    → Makes (w.call (done_at piece got after) ∷ []) a b → StepsPastPiece piece written after r1 r2 (around b c k l x y)
     → Makes (save_after r1 r2 after) b c
-    → DidPiece G (setting_of r) w r.sweep r2.sweep r.heard r2.heard (between a c k l x y)
+    → DidPiece G (setting_of r) w r.sweep r2.sweep r.heard r2.heard (around a c k l x y)
 took G w r r1 r2 piece got written after a b c k l x y tells of found gives given marked writes call p saves =
     let e : Swept = done_at piece got after in
     let s : Setting = setting_of r in
-    let t : DoesPiece G s w r.sweep r2.sweep r.heard r2.heard e (between b c k l x y) =
-    takes G w r r1 r2 piece got written after (between b c k l x y) of found gives given marked writes p in
+    let t : DoesPiece G s w r.sweep r2.sweep r.heard r2.heard e (around b c k l x y) =
+    takes G w r r1 r2 piece got written after (around b c k l x y) of found gives given marked writes p in
     record {
       event = e;
       takes = record { asks = t.asks; gives = t.gives; given = t.given; steps = t.steps; timed = t.timed; fit = t.fit; says = t.says };
       calls = makes_more (w.call e ∷ []) (save_of s (due_save w r.sweep e)) a b c tells call
           (subst (λ (cs : List Call). Makes cs b c)
-          (save_is w r r1 r2 piece got written after (between b c k l x y) of marked writes p) saves);
+          (save_is w r r1 r2 piece got written after (around b c k l x y) of marked writes p) saves);
     }
 
 -- or with a save that broke off
@@ -124,16 +124,16 @@ pub unsaved : (G : Swept → Type 0) (w : Sweeper) (r r1 r2 : SweepState) (piece
     (stop : Stop) (a b c : SiteState) (k l : ClockState) (x y : ConsoleState) → b.tells ≡ a.tells
     → IsSweeperOf r.mode w → IsFound r piece → w.gives (done_at piece got after) ≡ true → G (done_at piece got after)
     → r1 ≡ marked_with w r (done_at piece got after) → w.writes (done_at piece got after) ≡ written
-    → Makes (w.call (done_at piece got after) ∷ []) a b → StepsPastPiece piece written after r1 r2 (between b c k l x y)
+    → Makes (w.call (done_at piece got after) ∷ []) a b → StepsPastPiece piece written after r1 r2 (around b c k l x y)
     → BreaksSave stop (save_after r1 r2 after) b c
-    → Halted G (setting_of r) w r.sweep r2.sweep r.heard r2.heard stop (between a c k l x y)
+    → Halted G (setting_of r) w r.sweep r2.sweep r.heard r2.heard stop (around a c k l x y)
 unsaved G w r r1 r2 piece got written after stop a b c k l x y tells of found gives given marked writes call p broke =
     let e : Swept = done_at piece got after in
     let s : Setting = setting_of r in
-    let t : DoesPiece G s w r.sweep r2.sweep r.heard r2.heard e (between b c k l x y) =
-    takes G w r r1 r2 piece got written after (between b c k l x y) of found gives given marked writes p in
+    let t : DoesPiece G s w r.sweep r2.sweep r.heard r2.heard e (around b c k l x y) =
+    takes G w r r1 r2 piece got written after (around b c k l x y) of found gives given marked writes p in
     let saves : save_after r1 r2 after ≡ save_of s (due_save w r.sweep e) =
-    save_is w r r1 r2 piece got written after (between b c k l x y) of marked writes p in
+    save_is w r r1 r2 piece got written after (around b c k l x y) of marked writes p in
     Unsaved e
     (record { asks = t.asks; gives = t.gives; given = t.given; steps = t.steps; timed = t.timed; fit = t.fit; says = t.says })
     broke.call broke.is
@@ -149,7 +149,7 @@ pub uncalled : (G : Swept → Type 0) (w : Sweeper) (r r2 : SweepState) (piece :
     (k : ClockState) (x : ConsoleState) → IsSweeperOf r.mode w → IsFound r piece
     → lost_call w piece.pos (piece.pos + piece.len) ≡ call → stop ≡ Site (call_name call) → r2 ≡ r
     → Breaks (call_name call) (call ∷ []) a c
-    → Halted G (setting_of r) w r.sweep r2.sweep r.heard r2.heard stop (between a c k k x x)
+    → Halted G (setting_of r) w r.sweep r2.sweep r.heard r2.heard stop (around a c k k x x)
 uncalled G w r r2 piece stop call a c k x of found lost is stands broke =
     Uncalled piece.pos (piece.pos + piece.len) (found.next w of)
     (is ∙ ap (λ (d : Call). Site (call_name d)) (sym lost))

@@ -12,9 +12,9 @@ use Rattle.fill_generate.specs.declared.mode.SweepMode.TheVariants.{Fill, Genera
 use Rattle.fill_generate.specs.declared.sweeping.Piece.{Piece}
 use Rattle.fill_generate.specs.Modes.{IsSweeperOf}
 use Rattle.fill_generate.specs.SweepState.{SweepState, setting_of}
-use Rattle.fill_generate.specs.Sweeping.{Around}
+use Rattle.fill_generate.specs.Sweeping.{Around, around}
 use Rattle.fill_generate.specs.Steps.{IsFound, DoesPiece, DidPiece, Halted, Starved, Uncalled, Unsaved, WentOn, PieceEnds, PiecesEnd, ObjectsStay, IsLookedUp, gone_to}
-use Rattle.fill_generate.proofs.TellLemmas.{between, objects_stay}
+use Rattle.fill_generate.proofs.TellLemmas.{objects_stay}
 use Rattle.fill_generate.proofs.LoopLemmas.{goes_on, halts}
 use Rattle.fill_generate.proofs.ImageLemmas.{looked_before}
 
@@ -45,10 +45,10 @@ found_since r r1 piece stands found = subst (λ (q : SweepState). IsFound q piec
 
 -- one more piece
 pub pieces_more : {T : Type 0} (G : Swept → Type 0) (w : Sweeper) (r r1 r2 : SweepState) (piece : Piece) (v : T)
-    (d e f : SiteState) (k l n : ClockState) (x y z : ConsoleState) → r1 ≡ gone_to r r1 → ObjectsStay (between d e k l x y)
-    → WentOn G (setting_of r) w r.sweep r1.sweep r.heard r1.heard (between d e k l x y)
-    → PieceEnds {T = T} G (Ok v) w piece (gone_to r r1) r2 (between e f l n y z)
-    → WentOn G (setting_of r) w r.sweep r2.sweep r.heard r2.heard (between d f k n x z)
+    (d e f : SiteState) (k l n : ClockState) (x y z : ConsoleState) → r1 ≡ gone_to r r1 → ObjectsStay (around d e k l x y)
+    → WentOn G (setting_of r) w r.sweep r1.sweep r.heard r1.heard (around d e k l x y)
+    → PieceEnds {T = T} G (Ok v) w piece (gone_to r r1) r2 (around e f l n y z)
+    → WentOn G (setting_of r) w r.sweep r2.sweep r.heard r2.heard (around d f k n x z)
 pieces_more G w r r1 r2 piece v d e f k l n x y z stands objects went ends =
     goes_on G (setting_of r) w r.sweep r1.sweep r2.sweep r.heard r1.heard r2.heard d e f k l n x y z objects.site.tells went
     ends.took
@@ -56,12 +56,12 @@ pieces_more G w r r1 r2 piece v d e f k l n x y z stands objects went ends =
 -- a piece at which it stopped
 pub pieces_halt : {T U : Type 0} (G : Swept → Type 0) (w : Sweeper) (r r1 r2 : SweepState) (piece : Piece) (stop : Stop)
     (result : Result T Stop) (d e f : SiteState) (k l n : ClockState) (x y z : ConsoleState)
-    → r1 ≡ gone_to r r1 → ObjectsStay (between d e k l x y)
-    → WentOn G (setting_of r) w r.sweep r1.sweep r.heard r1.heard (between d e k l x y) → IsSweeperOf r.mode w
-    → IsFound (gone_to r r1) piece → PieceEnds {T = U} G (Err stop) w piece (gone_to r r1) r2 (between e f l n y z)
-    → result ≡ Err stop → PiecesEnd G result w r r2 (between d f k n x z)
+    → r1 ≡ gone_to r r1 → ObjectsStay (around d e k l x y)
+    → WentOn G (setting_of r) w r.sweep r1.sweep r.heard r1.heard (around d e k l x y) → IsSweeperOf r.mode w
+    → IsFound (gone_to r r1) piece → PieceEnds {T = U} G (Err stop) w piece (gone_to r r1) r2 (around e f l n y z)
+    → result ≡ Err stop → PiecesEnd G result w r r2 (around d f k n x z)
 pieces_halt {T} G w r r1 r2 piece stop result d e f k l n x y z stands objects went of found ends is =
-    subst (λ (t : Result T Stop). PiecesEnd G t w r r2 (between d f k n x z)) (sym is) (record {
+    subst (λ (t : Result T Stop). PiecesEnd G t w r r2 (around d f k n x z)) (sym is) (record {
       stands = ends.stands;
       went = tt;
       out = tt;
@@ -76,8 +76,8 @@ pieces_halt {T} G w r r1 r2 piece stop result d e f k l n x y z stands objects w
 pub pieces_out : {T : Type 0} (G : Swept → Type 0) (w : Sweeper) (r r1 : SweepState) (v : T) (d e : SiteState) (k l : ClockState)
     (x y : ConsoleState) → r1 ≡ gone_to r r1 → IsSweeperOf r.mode w
     → ((u : Sweeper) → IsSweeperOf r1.mode u → IsSweptOut (setting_of r1) u r1.sweep)
-    → WentOn G (setting_of r) w r.sweep r1.sweep r.heard r1.heard (between d e k l x y) → e.is_drafting ≡ false
-    → ObjectsStay (between d e k l x y) → PiecesEnd {T = T} G (Ok v) w r r1 (between d e k l x y)
+    → WentOn G (setting_of r) w r.sweep r1.sweep r.heard r1.heard (around d e k l x y) → e.is_drafting ≡ false
+    → ObjectsStay (around d e k l x y) → PiecesEnd {T = T} G (Ok v) w r r1 (around d e k l x y)
 pieces_out G w r r1 v d e k l x y stands of none went no_draft objects = record {
   stands = stands;
   went = went;
@@ -144,9 +144,9 @@ fills_since types buffer G result piece r r1 r2 o stands p =
 
 -- and what it looked up is what the output held at the beginning
 pub looks_since : {T : Type 0} (result : Result T Stop) (piece : Piece) (r r1 r2 : SweepState) (d e : SiteState) (k l : ClockState)
-    (x y : ConsoleState) (o : Around) → r1 ≡ gone_to r r1 → ObjectsStay (between d e k l x y)
+    (x y : ConsoleState) (o : Around) → r1 ≡ gone_to r r1 → ObjectsStay (around d e k l x y)
     → WentOn (IsLookedUp (setting_of r) d) (setting_of r) (generator (setting_of r)) r.sweep r1.sweep r.heard r1.heard
-    (between d e k l x y)
+    (around d e k l x y)
     → PieceEnds (IsLookedUp (setting_of r1) e) result (generator (setting_of r1)) piece r1 r2 o
     → PieceEnds (IsLookedUp (setting_of r) d) result (generator (setting_of r)) piece (gone_to r r1) r2 o
 looks_since result piece r r1 r2 d e k l x y o stands objects went p =

@@ -14,12 +14,8 @@ use Rattle.rescue_console.specs.ClockState.{ClockState, Keeps as ClockKeeps, Rea
 use Rattle.rescue_console.specs.ConsoleState.{ConsoleState}
 use Rattle.rescue_console.specs.Speaking.{SpokenPiece as Said, SpeaksOn, out_pieces}
 use Rattle.rescue_console.proofs.SpeakingLemmas.{speeches_join}
-use Rattle.fill_generate.specs.Sweeping.{Around, BreaksAfter}
+use Rattle.fill_generate.specs.Sweeping.{Around, around, BreaksAfter}
 use Rattle.fill_generate.specs.Steps.{ObjectsStay}
-
--- what the objects tell, named apart
-abbrev pub between : (d e : SiteState) (k l : ClockState) (x y : ConsoleState) → Around
-between d e k l x y = record { site = d; site' = e; clock = k; clock' = l; console = x; console' = y }
 
 pub clock_self : (a : ClockState) → ClockKeeps a a
 clock_self a = record { planned = refl; plan = refl }
@@ -78,11 +74,11 @@ says_more front back h h1 h2 x y z f g =
     subst (λ (ps : List Said). SpeaksOn ps h h2 x z) (sym (map-append out_piece front back))
     (speeches_join (out_pieces front) (out_pieces back) h h1 h2 x y z f g)
 
-pub objects_self : (d : SiteState) (k : ClockState) (x : ConsoleState) → d.is_open ≡ true → ObjectsStay (between d d k k x x)
+pub objects_self : (d : SiteState) (k : ClockState) (x : ConsoleState) → d.is_open ≡ true → ObjectsStay (around d d k k x x)
 objects_self d k x image = record { site = keeps_self d; image = image; clock = clock_self k }
 
-pub objects_stay : (d e f : SiteState) (k l n : ClockState) (x y z : ConsoleState) → ObjectsStay (between d e k l x y)
-    → ObjectsStay (between e f l n y z) → ObjectsStay (between d f k n x z)
+pub objects_stay : (d e f : SiteState) (k l n : ClockState) (x y z : ConsoleState) → ObjectsStay (around d e k l x y)
+    → ObjectsStay (around e f l n y z) → ObjectsStay (around d f k n x z)
 objects_stay d e f k l n x y z i j = record {
   site = keeps_more d e f i.site j.site;
   image = j.image;

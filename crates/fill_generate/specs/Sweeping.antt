@@ -36,6 +36,17 @@ pub record Around : Type 0 where
   pub console : ConsoleState
   pub console' : ConsoleState
 
+-- the record of these
+abbrev pub around : SiteState → SiteState → ClockState → ClockState → ConsoleState → ConsoleState → Around
+around site site' clock clock' console console' = record {
+  site = site;
+  site' = site';
+  clock = clock;
+  clock' = clock';
+  console = console;
+  console' = console';
+}
+
 -- after these calls, which all returned, one of others failed, which has this name
 pub record BreaksAfter (at : SiteCall) (made calls : List Call) (old new : SiteState) : Type 0 where
   pub named : IsNameIn at calls

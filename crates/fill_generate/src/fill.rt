@@ -9,7 +9,7 @@ ghost use Rattle.sweep_rules.specs.Sweep.{filler, sweep_over};
 ghost use Rattle.fill_generate.specs.declared.mode.SweepMode.TheVariants.{Fill};
 ghost use Rattle.fill_generate.specs.SweepState.{setting_for, setting_of};
 ghost use Rattle.fill_generate.specs.Steps.{IsFound, PieceEnds, PiecesEnd, ObjectsStay, gone_to};
-ghost use Rattle.fill_generate.specs.Sweeping.{SweepTold, drafting_after};
+ghost use Rattle.fill_generate.specs.Sweeping.{SweepTold, drafting_after, around};
 
 use crate::job::Job;
 use crate::mode::SweepMode;
@@ -44,14 +44,8 @@ pub fn run_fill<D: Site, K: Clock, C: Console, T: Tiles>(
     ensures sweeps { let s = setting_for job.settings job.domain job.names job.heading.line in
         let w = filler s types buffer.now in
         SweepTold s w (sweep_over w (T.statuses job.tiles) job.loaded job.moment) job.heard result.heard result.end
-        (record {
-          site = D.state site.old;
-          site' = D.state site.new;
-          clock = K.state clock.old;
-          clock' = K.state clock.new;
-          console = C.state console.old;
-          console' = C.state console.new;
-        }) }
+        (around (D.state site.old) (D.state site.new) (K.state clock.old) (K.state clock.new) (C.state console.old)
+        (C.state console.new)) }
     ensures site { SiteKeeps (D.state site.old) (D.state site.new) }
     ensures image { (D.state site.new).is_open ≡ true }
     ensures draft { (D.state site.new).is_drafting ≡ drafting_after result.end }
@@ -77,14 +71,8 @@ fn fill_pieces<D: Site, K: Clock, C: Console, T: Tiles>(
     requires no_draft { (D.state site.old).is_drafting ≡ false }
     ensures { (types : TypeSet) → sweeping.old.mode ≡ Fill types
         → PiecesEnd (λ e. ⊤) result (filler (setting_of sweeping.old) types buffer.now) sweeping.old sweeping.new
-        (record {
-          site = D.state site.old;
-          site' = D.state site.new;
-          clock = K.state clock.old;
-          clock' = K.state clock.new;
-          console = C.state console.old;
-          console' = C.state console.new;
-        }) }
+        (around (D.state site.old) (D.state site.new) (K.state clock.old) (K.state clock.new) (C.state console.old)
+        (C.state console.new)) }
 {
     'pieces: while let Some(piece) = sweeping.next_piece() {
         fill_piece(sweeping, piece, buffer, site, clock, console)?;
@@ -107,25 +95,13 @@ fn fill_piece<D: Site, K: Clock, C: Console, T: Tiles>(
     requires no_draft { (D.state site.old).is_drafting ≡ false }
     ensures ends { (types : TypeSet) → sweeping.old.mode ≡ Fill types
         → PieceEnds (λ e. ⊤) result (filler (setting_of sweeping.old) types buffer.now) piece sweeping.old sweeping.new
-        (record {
-          site = D.state site.old;
-          site' = D.state site.new;
-          clock = K.state clock.old;
-          clock' = K.state clock.new;
-          console = C.state console.old;
-          console' = C.state console.new;
-        }) }
+        (around (D.state site.old) (D.state site.new) (K.state clock.old) (K.state clock.new) (C.state console.old)
+        (C.state console.new)) }
     ensures stands { sweeping.new ≡ gone_to sweeping.old sweeping.new }
     ensures passed { OnOk result (sweeping.new.sweep.cursor ≡ piece.pos + piece.len) }
     ensures draft { OnOk result ((D.state site.new).is_drafting ≡ false) }
-    ensures objects { ObjectsStay (record {
-      site = D.state site.old;
-      site' = D.state site.new;
-      clock = K.state clock.old;
-      clock' = K.state clock.new;
-      console = C.state console.old;
-      console' = C.state console.new;
-    }) }
+    ensures objects { ObjectsStay (around (D.state site.old) (D.state site.new) (K.state clock.old) (K.state clock.new)
+        (C.state console.old) (C.state console.new)) }
 {
     let place = sweeping.place_of(piece);
     match site.image_write(place, &buffer[..piece.len]) {

@@ -9,7 +9,7 @@ ghost use Rattle.sweep_rules.specs.Sweep.{generator, sweep_over};
 ghost use Rattle.fill_generate.specs.declared.mode.SweepMode.TheVariants.{Generate};
 ghost use Rattle.fill_generate.specs.SweepState.{setting_for, setting_of};
 ghost use Rattle.fill_generate.specs.Steps.{IsFound, PieceEnds, PiecesEnd, IsLookedUp};
-ghost use Rattle.fill_generate.specs.Sweeping.{LookupTold, drafting_after};
+ghost use Rattle.fill_generate.specs.Sweeping.{LookupTold, drafting_after, around};
 
 use crate::job::Job;
 use crate::mode::SweepMode;
@@ -42,14 +42,8 @@ pub fn run_generate<D: Site, K: Clock, C: Console, T: Tiles>(
     ensures sweeps { let s = setting_for job.settings job.domain job.names job.heading.line in
         let w = generator s in
         LookupTold s w (sweep_over w (T.statuses job.tiles) job.loaded job.moment) job.heard result.heard result.end
-        (record {
-          site = D.state site.old;
-          site' = D.state site.new;
-          clock = K.state clock.old;
-          clock' = K.state clock.new;
-          console = C.state console.old;
-          console' = C.state console.new;
-        }) }
+        (around (D.state site.old) (D.state site.new) (K.state clock.old) (K.state clock.new) (C.state console.old)
+        (C.state console.new)) }
     ensures site { SiteKeeps (D.state site.old) (D.state site.new) }
     ensures image { (D.state site.new).is_open ≡ true }
     ensures draft { (D.state site.new).is_drafting ≡ drafting_after result.end }
@@ -75,14 +69,8 @@ fn generate_pieces<D: Site, K: Clock, C: Console, T: Tiles>(
     requires image { (D.state site.old).is_open ≡ true }
     requires no_draft { (D.state site.old).is_drafting ≡ false }
     ensures { PiecesEnd (IsLookedUp (setting_of sweeping.old) (D.state site.old)) result
-        (generator (setting_of sweeping.old)) sweeping.old sweeping.new (record {
-          site = D.state site.old;
-          site' = D.state site.new;
-          clock = K.state clock.old;
-          clock' = K.state clock.new;
-          console = C.state console.old;
-          console' = C.state console.new;
-        }) }
+        (generator (setting_of sweeping.old)) sweeping.old sweeping.new (around (D.state site.old) (D.state site.new)
+        (K.state clock.old) (K.state clock.new) (C.state console.old) (C.state console.new)) }
 {
     'pieces: while let Some(piece) = sweeping.next_piece() {
         generate_piece(sweeping, piece, buffer, site, clock, console)?;
@@ -105,14 +93,8 @@ fn generate_piece<D: Site, K: Clock, C: Console, T: Tiles>(
     requires image { (D.state site.old).is_open ≡ true }
     requires no_draft { (D.state site.old).is_drafting ≡ false }
     ensures ends { PieceEnds (IsLookedUp (setting_of sweeping.old) (D.state site.old)) result
-        (generator (setting_of sweeping.old)) piece sweeping.old sweeping.new (record {
-          site = D.state site.old;
-          site' = D.state site.new;
-          clock = K.state clock.old;
-          clock' = K.state clock.new;
-          console = C.state console.old;
-          console' = C.state console.new;
-        }) }
+        (generator (setting_of sweeping.old)) piece sweeping.old sweeping.new (around (D.state site.old)
+        (D.state site.new) (K.state clock.old) (K.state clock.new) (C.state console.old) (C.state console.new)) }
     ensures room { length buffer.new ≡ length buffer.old }
 {
     sweeping.look_up(piece, buffer, site)?;

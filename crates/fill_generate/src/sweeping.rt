@@ -15,6 +15,7 @@ ghost use Rattle.rescue_core.specs.Closing.{MayClose, drafting_at_stop};
 ghost use Rattle.rescue_core.specs.RunState.{IsSound, Suits, HasPlaces};
 ghost use Rattle.sweep_rules.specs.Sweep.{Sweeper, sweep_over, sweep_from, sweep_snapshot, IsSweptOut};
 ghost use Rattle.sweep_rules.specs.SweepWork.{sweep_report};
+ghost use Rattle.fill_generate.specs.Sweeping.{around};
 ghost use Rattle.fill_generate.specs.Modes.{current_in, IsSweeperOf};
 ghost use Rattle.fill_generate.specs.SweepState.{setting_of, standing, moved};
 ghost use Rattle.fill_generate.specs.Steps.{IsFound, ClosesFiles, EndsPiece, LooksUp, LooksNot};
@@ -239,14 +240,8 @@ impl<T: Tiles> Sweeping<T> {
     ) -> Result<(), Stop>
         requires short { piece.pos + piece.len < 2 ^ 63 }
         requires no_draft { (D.state site.old).is_drafting ≡ false }
-        ensures ends { EndsPiece result piece written self.old self.new (record {
-          site = D.state site.old;
-          site' = D.state site.new;
-          clock = K.state clock.old;
-          clock' = K.state clock.new;
-          console = C.state console.old;
-          console' = C.state console.new;
-        }) }
+        ensures ends { EndsPiece result piece written self.old self.new (around (D.state site.old) (D.state site.new)
+            (K.state clock.old) (K.state clock.new) (C.state console.old) (C.state console.new)) }
         ensures draft { OnOk result ((D.state site.new).is_drafting ≡ false) }
         ensures draft_left { IfErr result (λ stop. (D.state site.new).is_drafting ≡ drafting_at_stop stop) }
         ensures site { SiteKeeps (D.state site.old) (D.state site.new) }

@@ -5,6 +5,7 @@ ghost use Rattle.crash_site.specs.SiteChanges.{Stays as SiteStays};
 ghost use Rattle.rescue_console.specs.ClockState.{Keeps as ClockKeeps};
 ghost use Rattle.rescue_console.specs.ConsoleState.{ConsoleState};
 ghost use Rattle.transfer_token.specs.Tokens.{Spans};
+ghost use Rattle.rescue_core.specs.Across.{across};
 ghost use Rattle.rescue_core.specs.RunState.{RunState, IsSound};
 ghost use Rattle.rescue_core.specs.Turning.{Halted};
 ghost use Rattle.rescue_core.specs.Closing.{drafting_at_stop};
@@ -52,16 +53,8 @@ pub(crate) fn gather<S: Source, D: Site, K: Clock>(
         (D.state site.old) (D.state site.new) (K.state clock.old) (K.state clock.new)) }
     ensures parts { IfOk result (λ got. Spans request (fetched_of got.kept)) }
     ensures halted { IfErr result (λ stop. (r : RunState) (console : ConsoleState) → r.settings ≡ settings.now
-        → Halted request stop r r (record {
-          source = S.state source.old;
-          source' = S.state source.new;
-          site = D.state site.old;
-          site' = D.state site.new;
-          clock = K.state clock.old;
-          clock' = K.state clock.new;
-          console = console;
-          console' = console;
-        })) }
+        → Halted request stop r r (across (S.state source.old) (S.state source.new) (D.state site.old)
+        (D.state site.new) (K.state clock.old) (K.state clock.new) console console)) }
     ensures draft { IfErr result (λ stop. drafting_at_stop stop ≡ false) }
     ensures same { length buf.new ≡ length buf.old }
     ensures source { SourceStays (S.state source.old) (S.state source.new) }

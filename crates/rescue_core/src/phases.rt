@@ -8,6 +8,7 @@ ghost use Rattle.block_list.specs.declared.status.Status.TheVariants.{NonTried, 
 ghost use Rattle.rescue_rules.specs.Passes.{numbered};
 ghost use Rattle.rescue_rules.specs.Machine.{IsRequest, has_request};
 ghost use Rattle.rescue_rules.specs.Moves.{ready, no_pass_left};
+ghost use Rattle.rescue_core.specs.Across.{across};
 ghost use Rattle.rescue_core.specs.RunState.{RunState, setting_in, IsSound, Suits, HasPlaces, started, passed, run_showing, IsGone};
 ghost use Rattle.rescue_domain.specs.Parts.{covers};
 ghost use Rattle.rescue_core.specs.Turning.{Turned, Halted};
@@ -280,26 +281,12 @@ impl<P: Stage, T: Tiles> Rescue<P, T> {
         requires input { (S.state source.old).is_open ≡ true }
         requires image { (D.state site.old).is_open ≡ true }
         requires no_draft { (D.state site.old).is_drafting ≡ false }
-        ensures turned { IfOk result (λ turn. Turned request turn self.old self.new (record {
-          source = S.state source.old;
-          source' = S.state source.new;
-          site = D.state site.old;
-          site' = D.state site.new;
-          clock = K.state clock.old;
-          clock' = K.state clock.new;
-          console = C.state console.old;
-          console' = C.state console.new;
-        })) }
-        ensures halted { IfErr result (λ stop. Halted request stop self.old self.new (record {
-          source = S.state source.old;
-          source' = S.state source.new;
-          site = D.state site.old;
-          site' = D.state site.new;
-          clock = K.state clock.old;
-          clock' = K.state clock.new;
-          console = C.state console.old;
-          console' = C.state console.new;
-        })) }
+        ensures turned { IfOk result (λ turn. Turned request turn self.old self.new (across (S.state source.old)
+            (S.state source.new) (D.state site.old) (D.state site.new) (K.state clock.old) (K.state clock.new)
+            (C.state console.old) (C.state console.new))) }
+        ensures halted { IfErr result (λ stop. Halted request stop self.old self.new (across (S.state source.old)
+            (S.state source.new) (D.state site.old) (D.state site.new) (K.state clock.old) (K.state clock.new)
+            (C.state console.old) (C.state console.new))) }
         ensures draft { OnOk result ((D.state site.new).is_drafting ≡ false) }
         ensures draft_left { IfErr result (λ stop. (D.state site.new).is_drafting ≡ drafting_at_stop stop) }
         ensures image { (D.state site.new).is_open ≡ true }

@@ -13,6 +13,7 @@ ghost use Rattle.rescue_rules.specs.Machine.{IsRequest, has_request};
 ghost use Rattle.rescue_rules.specs.Step.{limit_met as limit_by};
 ghost use Rattle.rescue_rules.specs.Snapshots.{text_of, snapshot_of};
 ghost use Rattle.rescue_rules.specs.Lines.{phase_front, report_of, report_text};
+ghost use Rattle.rescue_core.specs.Across.{across};
 ghost use Rattle.rescue_core.specs.RunState.{names_in, setting_in, IsRunning, IsSound, Suits, HasPlaces, started, passed, run_showing};
 ghost use Rattle.rescue_core.specs.Turning.{Turned, Halted};
 ghost use Rattle.rescue_core.specs.TurnParts.{Advances};
@@ -184,26 +185,12 @@ impl<T: Tiles> Running<T> {
         requires input { (S.state source.old).is_open ≡ true }
         requires image { (D.state site.old).is_open ≡ true }
         requires no_draft { (D.state site.old).is_drafting ≡ false }
-        ensures turned { IfOk result (λ turn. Turned request turn self.old self.new (record {
-          source = S.state source.old;
-          source' = S.state source.new;
-          site = D.state site.old;
-          site' = D.state site.new;
-          clock = K.state clock.old;
-          clock' = K.state clock.new;
-          console = C.state console.old;
-          console' = C.state console.new;
-        })) }
-        ensures halted { IfErr result (λ stop. Halted request stop self.old self.new (record {
-          source = S.state source.old;
-          source' = S.state source.new;
-          site = D.state site.old;
-          site' = D.state site.new;
-          clock = K.state clock.old;
-          clock' = K.state clock.new;
-          console = C.state console.old;
-          console' = C.state console.new;
-        })) }
+        ensures turned { IfOk result (λ turn. Turned request turn self.old self.new (across (S.state source.old)
+            (S.state source.new) (D.state site.old) (D.state site.new) (K.state clock.old) (K.state clock.new)
+            (C.state console.old) (C.state console.new))) }
+        ensures halted { IfErr result (λ stop. Halted request stop self.old self.new (across (S.state source.old)
+            (S.state source.new) (D.state site.old) (D.state site.new) (K.state clock.old) (K.state clock.new)
+            (C.state console.old) (C.state console.new))) }
         ensures draft { OnOk result ((D.state site.new).is_drafting ≡ false) }
         ensures draft_left { IfErr result (λ stop. (D.state site.new).is_drafting ≡ drafting_at_stop stop) }
         ensures image { (D.state site.new).is_open ≡ true }
@@ -243,16 +230,8 @@ impl<T: Tiles> Running<T> {
         ensures advanced { IfOk result (λ got. Advances request got self.old self.new (S.state source.old)
             (S.state source.new) (D.state site.old) (D.state site.new) (K.state clock.old) (K.state clock.new)) }
         ensures halted { IfErr result (λ stop. (console : ConsoleState) → Halted request stop self.old self.new
-            (record {
-              source = S.state source.old;
-              source' = S.state source.new;
-              site = D.state site.old;
-              site' = D.state site.new;
-              clock = K.state clock.old;
-              clock' = K.state clock.new;
-              console = console;
-              console' = console;
-            })) }
+            (across (S.state source.old) (S.state source.new) (D.state site.old) (D.state site.new) (K.state clock.old)
+            (K.state clock.new) console console)) }
         ensures draft { IfErr result (λ stop. drafting_at_stop stop ≡ false) }
         ensures source { SourceStays (S.state source.old) (S.state source.new) }
         ensures site { SiteStays (D.state site.old) (D.state site.new) }

@@ -18,9 +18,9 @@ use Rattle.save_resume.specs.MapNames.{MapNames, names_of}
 use Rattle.rescue_console.specs.ClockState.{ClockState}
 use Rattle.rescue_console.specs.ConsoleState.{ConsoleState}
 use Rattle.option_words.specs.declared.fault.UsageFault.TheVariants.{PlaceTooLarge}
+use Rattle.rescue_core.specs.Across.{across}
 use Rattle.rescue_core.proofs.TurnEndLemmas.{says_none}
 use Rattle.faulty_source.specs.Journal.{IsFrom}
-use Rattle.copy_passes.proofs.TurnLemmas.{between as across}
 use Rattle.work_rules.specs.Work.{Opened as IsOpened, Unopened, Deeds, Look, Works}
 use Rattle.work_rules.specs.Parts.{only_calls, WentThrough}
 use Rattle.work_rules.specs.Holds.{after_entries, after_open}

@@ -33,7 +33,7 @@ use Rattle.task_files.specs.Maps.{Found, IsNamedMap, file_of, found_in, mapfile_
 use Rattle.task_files.specs.Work.{Rescues, rescue_faults, map_rows, opened_rows}
 use Rattle.task_files.specs.Steps.{statuses_in, HasTiles, ReadsMap, IsOnlyMaps, maps_of, DidAfterMaps, Worked}
 use Rattle.task_files.proofs.OpenedLemmas.{none_seen}
-use Rattle.copy_passes.proofs.TurnLemmas.{between as across}
+use Rattle.rescue_core.specs.Across.{across}
 use Rattle.rescue_core.proofs.TurnEndLemmas.{says_none}
 use Rattle.task_files.proofs.MapsLemmas.{MapsOf, maps_for}
 use Rattle.work_rules.proofs.FrontLemmas.{IsMapRead, load_reads, reads_stand, broke_in_both, made_both}

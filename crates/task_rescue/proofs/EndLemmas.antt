@@ -1,5 +1,5 @@
 -- How a run ends: its last save, or the turn that it stopped in.
-use Rattle.copy_passes.proofs.TurnLemmas.{between, went_event, went_on, setting_stands, timed_more}
+use Rattle.copy_passes.proofs.TurnLemmas.{went_event, went_on, setting_stands, timed_more}
 use Rattle.copy_passes.proofs.AlikeLemmas.{limit_alike}
 use Rattle.rescue_rules.specs.declared.stop.Limit.{Limit}
 use Rattle.std.proofs.Common.{◌≡◌, ℕ, ◌+◌, ◌<◌, ◌^◌, Bool, true, false, ◌&&◌, IsTrue, if◌then◌else◌, List, [], ◌∷◌, ◌++◌, map, length, All, Option, Some, None, is_none, refl, sym, ap, ◌∙◌, arith, subst, append_assoc, append-nil}
@@ -43,7 +43,7 @@ use Rattle.rescue_rules.proofs.SearchLemmas.{request_seen}
 use Rattle.rescue_core.specs.RunState.{RunState, names_in, setting_in}
 use Rattle.rescue_core.specs.Turning.{IsEvent, stepped, move_by, Halted, Starved, Lost, Unwritten, Unsaved, Limited}
 use Rattle.rescue_core.specs.Closing.{LastSave, Saved, Unsaved as UnsavedEnd, Closes, closing_snapshot, last_pieces}
-use Rattle.rescue_core.specs.Across.{Across}
+use Rattle.rescue_core.specs.Across.{Across, across}
 use Rattle.copy_passes.specs.Turns.{IsAlike, moved_to, Went, WentUpTo}
 use Rattle.faulty_source.specs.Journal.{IsFrom}
 use Rattle.trim_scrape.specs.Past.{IsPast}
@@ -417,7 +417,7 @@ pub halted_end : (r r1 r2 : RunState) (stop : Stop) (end : RunEnd) (heard : Bool
     (source2 : SourceState) (site2 site3 : SiteState) (clock2 : ClockState) (console2 console3 : ConsoleState) → Went r r1 o
     → SourceStays o.source o.source' → o.site'.tells ≡ o.site.tells → limit_met (setting_in r1) r1.machine ≡ None
     → IsRequest (setting_in r1) r1.machine request.pos (request.pos + request.len)
-    → Halted request stop r1 r2 (between o.source' source2 o.site' site2 o.clock' clock2 o.console' console2)
+    → Halted request stop r1 r2 (across o.source' source2 o.site' site2 o.clock' clock2 o.console' console2)
     → site2.tells ≡ o.site.tells → Closes (Some stop) r2 end site2 site3
     → SpeaksOn (last_pieces r2 end) r2.heard heard console2 console3
     → WentToEnd r end heard (across_to o source2 site3 clock2 console3)
@@ -450,8 +450,8 @@ halted_end r r1 r2 stop end heard request o source2 site2 site3 clock2 console2 
 halted_end r r1 r2 stop end heard request o source2 site2 site3 clock2 console2 console3 w stays same within
     asks (Limited limit is e event steps met makes says) told closes last =
     let C : Stop → Type 0 = λ x. Closes (Some x) r2 end site2 site3 in
-    let one : Went r1 r2 (between o.source' source2 o.site' site2 o.clock' clock2 o.console' console2) =
-    went_event r1 r2 request e (between o.source' source2 o.site' site2 o.clock' clock2 o.console' console2) within asks event
+    let one : Went r1 r2 (across o.source' source2 o.site' site2 o.clock' clock2 o.console' console2) =
+    went_event r1 r2 request e (across o.source' source2 o.site' site2 o.clock' clock2 o.console' console2) within asks event
     steps (limited_calls r1 r2 e limit o.site' site2 steps met makes) says in
     limited_end r r2 limit end heard (across_to o source2 site2 clock2 console2) site3 console3
     (went_on r r1 r2 o.source o.source' source2 o.site o.site' site2 o.clock o.clock' clock2 o.console o.console' console2 w

@@ -4,15 +4,16 @@ use Rattle.faulty_source.specs.SourceState.{SourceState}
 use Rattle.crash_site.specs.SiteState.{SiteState}
 use Rattle.rescue_console.specs.ClockState.{ClockState}
 use Rattle.rescue_console.specs.ConsoleState.{ConsoleState}
+use Rattle.rescue_core.specs.Across.{across}
 use Rattle.rescue_core.specs.RunState.{RunState}
 use Rattle.rescue_core.specs.Closing.{StoppedState}
 use Rattle.copy_passes.specs.Turns.{WentByTurns, PhaseEnds}
-use Rattle.copy_passes.proofs.TurnLemmas.{between, goes_on, objects_stay, went_up_to_on}
+use Rattle.copy_passes.proofs.TurnLemmas.{goes_on, objects_stay, went_up_to_on}
 
 -- a phase after others, by its outcome
 pub ends_after : (r q : RunState) (result : Result RunState StoppedState) (a b c : SourceState) (d e f : SiteState)
-    (k l n : ClockState) (x y z : ConsoleState) → WentByTurns r q (between a b d e k l x y)
-    → PhaseEnds q result (between b c e f l n y z) → PhaseEnds r result (between a c d f k n x z)
+    (k l n : ClockState) (x y z : ConsoleState) → WentByTurns r q (across a b d e k l x y)
+    → PhaseEnds q result (across b c e f l n y z) → PhaseEnds r result (across a c d f k n x z)
 ends_after r q (Ok p) a b c d e f k l n x y z i ends = record {
   goes = goes_on r q p a b c d e f k l n x y z i ends.goes;
   halted = tt;

@@ -1,4 +1,5 @@
 -- What a run in test mode did to the input that its source reads.
+use Rattle.rescue_core.specs.Across.{across}
 use Rattle.std.proofs.Common.{◌≡◌, ℕ, Bool, IsTrue, List, ◌++◌, map, Option, Some, None, sym, ap, ◌∙◌}
 use Rattle.std.proofs.lemmas.List.{map-append, append_cancel_left}
 use Rattle.block_list.specs.declared.status.Status.{Status}
@@ -13,7 +14,6 @@ use Rattle.rescue_console.specs.ConsoleState.{ConsoleState}
 use Rattle.rescue_domain.specs.Testing.{seen, state_seen, GainsSeen}
 use Rattle.rescue_domain.proofs.TestingLemmas.{said_below}
 use Rattle.rescue_rules.specs.Setting.{Setting}
-use Rattle.copy_passes.proofs.TurnLemmas.{between}
 use Rattle.task_files.specs.declared.ending.Ending.{Ending}
 use Rattle.task_files.specs.Answers.{Causes}
 use Rattle.task_files.specs.Outside.{HasGainedReads}
@@ -35,8 +35,8 @@ module _ (reference : ℕ) (tests : List Status) (old new : SourceState)
   ran_seen : (s : Setting) (statuses : List Status) (state : Option MapState) (heard heard' : Bool) (e : Ending)
       (site site' : SiteState) (clock clock' : ClockState) (console console' : ConsoleState)
       → DidRun s None statuses state heard heard' e
-      (between (state_seen reference tests old) (state_seen reference tests new) site site' clock clock' console console')
-      → DidRun s (Some tests) statuses state heard heard' e (between old new site site' clock clock' console console')
+      (across (state_seen reference tests old) (state_seen reference tests new) site site' clock clock' console console')
+      → DidRun s (Some tests) statuses state heard heard' e (across old new site site' clock clock' console console')
   ran_seen s statuses state heard heard' e site site' clock clock' console console' ran = record {
     gain = ran.gain;
     gains = record {
@@ -65,12 +65,12 @@ module _ (reference reference' : ℕ) (tests tests' : List Status) (old new test
   pub ran_below : (s : Setting) (statuses : List Status) (state : Option MapState) (heard heard' : Bool) (e : Ending)
       (site site' : SiteState) (clock clock' : ClockState) (console console' : ConsoleState)
       → DidRun s None statuses state heard heard' e
-      (between test (state_seen reference' tests' new) site site' clock clock' console console')
-      → DidRun s (Some tests) statuses state heard heard' e (between old new site site' clock clock' console console')
+      (across test (state_seen reference' tests' new) site site' clock clock' console console')
+      → DidRun s (Some tests) statuses state heard heard' e (across old new site site' clock clock' console console')
   ran_below s statuses state heard heard' e site site' clock clock' console console' ran =
       ran_seen reference tests old new (below SourceKeeps kept) s statuses state heard heard' e site site' clock clock'
       console console'
-      (below (λ a b. DidRun s None statuses state heard heard' e (between a b site site' clock clock' console console')) ran)
+      (below (λ a b. DidRun s None statuses state heard heard' e (across a b site site' clock clock' console console')) ran)
 
   -- and its answer has that cause there.
   pub causes_below : (e : Ending) (site site' : SiteState) → Causes e test (state_seen reference' tests' new) site site'

@@ -9,6 +9,7 @@ ghost use Rattle.task_files.specs.Asked.{setting_of, ArePlacedBy};
 ghost use Rattle.task_files.specs.Answers.{Causes, drafting_left};
 ghost use Rattle.task_files.specs.Steps.{ending_of, heard_after, maps_read, statuses_in, DidRun, SuitsInput, IsPlanned, DidAfterMaps, Worked};
 ghost use Rattle.task_rescue.specs.Running.{AreReady};
+ghost use Rattle.rescue_core.specs.Across.{across};
 
 use crate::ready::{begin, make_ready};
 use crate::run::run_rescue;
@@ -58,16 +59,9 @@ fn run<S: Source, D: Site, K: Clock, C: Console>(
     requires fits { SuitsInput loaded.end loaded.map.tiles.statuses loaded.map.state }
     ensures ran { (test : Option Tiled) → DidRun (setting_of (told_by plan.entry.command) plan.entry.heading.line
         loaded.end (maps_read (told_by plan.entry.command).options loaded.domain_map test loaded.map)) None
-        loaded.map.tiles.statuses loaded.map.state plan.entry.heard result.heard result.ending (record {
-          source = S.state source.old;
-          source' = S.state source.new;
-          site = D.state site.old;
-          site' = D.state site.new;
-          clock = K.state clock.old;
-          clock' = K.state clock.new;
-          console = C.state console.old;
-          console' = C.state console.new;
-        }) }
+        loaded.map.tiles.statuses loaded.map.state plan.entry.heard result.heard result.ending (across
+        (S.state source.old) (S.state source.new) (D.state site.old) (D.state site.new) (K.state clock.old)
+        (K.state clock.new) (C.state console.old) (C.state console.new)) }
     ensures cause { Causes result.ending (S.state source.old) (S.state source.new) (D.state site.old)
         (D.state site.new) }
     ensures draft { (D.state site.new).is_drafting ≡ drafting_left result.ending }
@@ -113,16 +107,8 @@ fn run_tested<S: Source, D: Site, K: Clock, C: Console>(
     ensures ran { DidRun (setting_of (told_by plan.entry.command) plan.entry.heading.line files.loaded.end
         (maps_read (told_by plan.entry.command).options files.loaded.domain_map files.test_map files.loaded.map))
         (statuses_in files.test_map) files.loaded.map.tiles.statuses files.loaded.map.state plan.entry.heard
-        result.heard result.ending (record {
-          source = S.state source.old;
-          source' = S.state source.new;
-          site = D.state site.old;
-          site' = D.state site.new;
-          clock = K.state clock.old;
-          clock' = K.state clock.new;
-          console = C.state console.old;
-          console' = C.state console.new;
-        }) }
+        result.heard result.ending (across (S.state source.old) (S.state source.new) (D.state site.old)
+        (D.state site.new) (K.state clock.old) (K.state clock.new) (C.state console.old) (C.state console.new)) }
     ensures cause { Causes result.ending (S.state source.old) (S.state source.new) (D.state site.old)
         (D.state site.new) }
     ensures draft { (D.state site.new).is_drafting ≡ drafting_left result.ending }
@@ -152,16 +138,9 @@ fn open_and_run<S: Source, D: Site, K: Clock, C: Console>(
     requires no_draft { (D.state site.old).is_drafting ≡ false }
     requires planned { IsPlanned plan }
     ensures opened { DidAfterMaps (told_by plan.entry.command) plan.entry.heading.line (statuses_in maps.domain_map)
-        (statuses_in maps.test_map) plan.entry.heard (heard_after plan.entry.heard result) (ending_of result) (record {
-          source = S.state source.old;
-          source' = S.state source.new;
-          site = D.state site.old;
-          site' = D.state site.new;
-          clock = K.state clock.old;
-          clock' = K.state clock.new;
-          console = C.state console.old;
-          console' = C.state console.new;
-        }) }
+        (statuses_in maps.test_map) plan.entry.heard (heard_after plan.entry.heard result) (ending_of result) (across
+        (S.state source.old) (S.state source.new) (D.state site.old) (D.state site.new) (K.state clock.old)
+        (K.state clock.new) (C.state console.old) (C.state console.new)) }
     ensures cause { Causes (ending_of result) (S.state source.old) (S.state source.new) (D.state site.old)
         (D.state site.new) }
     ensures draft { (D.state site.new).is_drafting ≡ drafting_left (ending_of result) }
@@ -202,16 +181,9 @@ pub fn rescue<S: Source, D: Site, K: Clock, C: Console>(
     requires no_draft { (D.state site.old).is_drafting ≡ false }
     requires planned { IsPlanned plan }
     ensures worked { Worked (told_by plan.entry.command) plan.entry.heading.line plan.entry.heard
-        (heard_after plan.entry.heard result) (ending_of result) (record {
-          source = S.state source.old;
-          source' = S.state source.new;
-          site = D.state site.old;
-          site' = D.state site.new;
-          clock = K.state clock.old;
-          clock' = K.state clock.new;
-          console = C.state console.old;
-          console' = C.state console.new;
-        }) }
+        (heard_after plan.entry.heard result) (ending_of result) (across (S.state source.old) (S.state source.new)
+        (D.state site.old) (D.state site.new) (K.state clock.old) (K.state clock.new) (C.state console.old)
+        (C.state console.new)) }
     ensures cause { Causes (ending_of result) (S.state source.old) (S.state source.new) (D.state site.old)
         (D.state site.new) }
     ensures draft { (D.state site.new).is_drafting ≡ drafting_left (ending_of result) }

@@ -5,6 +5,7 @@ ghost use Rattle.crash_site.specs.SiteChanges.{Keeps as SiteKeeps};
 ghost use Rattle.rescue_console.specs.ClockState.{Keeps as ClockKeeps};
 ghost use Rattle.rescue_domain.specs.Parts.{covers};
 ghost use Rattle.rescue_rules.specs.declared.phase.Phase.TheVariants.{Retrying as LastPhase};
+ghost use Rattle.rescue_core.specs.Across.{across};
 ghost use Rattle.rescue_core.specs.RunState.{HasPlaces};
 ghost use Rattle.copy_passes.specs.Turns.{PhaseEnds};
 ghost use Rattle.copy_passes.specs.Copying.{MayCopy};
@@ -34,16 +35,8 @@ pub fn run_phases<S: Source, D: Site, K: Clock, C: Console>(
     requires copying { MayCopy rescue }
     requires places { HasPlaces rescue.settings (covers rescue.domain) }
     requires ready { AreReady (S.state source.old) (D.state site.old) }
-    ensures ends { PhaseEnds rescue result (record {
-      source = S.state source.old;
-      source' = S.state source.new;
-      site = D.state site.old;
-      site' = D.state site.new;
-      clock = K.state clock.old;
-      clock' = K.state clock.new;
-      console = C.state console.old;
-      console' = C.state console.new;
-    }) }
+    ensures ends { PhaseEnds rescue result (across (S.state source.old) (S.state source.new) (D.state site.old)
+        (D.state site.new) (K.state clock.old) (K.state clock.new) (C.state console.old) (C.state console.new)) }
     ensures past { IfOk result (λ r. IsPast LastPhase r) }
 {
     let copied = match run_copying(rescue, source, site, clock, console) {
@@ -73,16 +66,9 @@ pub fn run_rescue<S: Source, D: Site, K: Clock, C: Console>(
     requires copying { MayCopy rescue }
     requires places { HasPlaces rescue.settings (covers rescue.domain) }
     requires ready { AreReady (S.state source.old) (D.state site.old) }
-    ensures went { WentToEnd rescue result.end result.heard (record {
-      source = S.state source.old;
-      source' = S.state source.new;
-      site = D.state site.old;
-      site' = D.state site.new;
-      clock = K.state clock.old;
-      clock' = K.state clock.new;
-      console = C.state console.old;
-      console' = C.state console.new;
-    }) }
+    ensures went { WentToEnd rescue result.end result.heard (across (S.state source.old) (S.state source.new)
+        (D.state site.old) (D.state site.new) (K.state clock.old) (K.state clock.new) (C.state console.old)
+        (C.state console.new)) }
     ensures cause { Causes (answer_of result.end) (S.state source.old) (S.state source.new) (D.state site.old)
         (D.state site.new) }
     ensures draft { (D.state site.new).is_drafting ≡ drafting_left (answer_of result.end) }

@@ -1,4 +1,5 @@
 -- What a filling did, by where it ended, whatever the objects tell.
+use Rattle.fill_generate.specs.Sweeping.{around}
 use Rattle.std.proofs.Common.{◌≡◌, ℕ, ◌<◌, ◌^◌, Bool, true, IsTrue, List, [], ◌∷◌, ◌++◌, map, length, Option, None, Result, Ok, Err, refl, sym, inl, inr, subst, arith, append-nil}
 use Rattle.std.proofs.lemmas.List.Elements.{All-nil}
 use Rattle.block_list.specs.declared.status.Status.{Status}
@@ -22,9 +23,8 @@ use Rattle.rescue_rules.specs.Setting.{Setting}
 use Rattle.rescue_rules.specs.Events.{began_at}
 use Rattle.rescue_rules.specs.Work.{Gain}
 use Rattle.rescue_core.proofs.TurnEndLemmas.{says_none}
-use Rattle.copy_passes.proofs.TurnLemmas.{between as across}
+use Rattle.copy_passes.proofs.TurnLemmas.{around as across}
 use Rattle.sweep_rules.specs.Sweep.{Sweeper, Swept, filler}
-use Rattle.fill_generate.proofs.TellLemmas.{between}
 use Rattle.work_rules.specs.Work.{Deeds, WorkStep, Take, Look, Open, Works}
 use Rattle.work_rules.specs.Parts.{only_calls}
 use Rattle.ddrescue_words.specs.Options.{cluster_of}
@@ -308,7 +308,7 @@ module _ (types : TypeSet) (c : Command) (line : List ℕ) (heard : Bool)
               → ArePlacedBy c.options top
               → (let s = fill_setting c line top
               (maps_of (statuses_in domain) None (listed_if c.options.complete_only start.first start.listed_end)) in
-              DidSweep s (filler s types buffer) start.tiles.statuses start.state heard heard' e (between d2 d3 k k' x x'))
+              DidSweep s (filler s types buffer) start.tiles.statuses start.state heard heard' e (around d2 d3 k k' x x'))
               → WorkedFill types c line heard heard' e (across s0 s2 old d3 k k' x x')
           fill_goes heard' e d3 k' x' placed ran =
               let l : Loads c.mapfile 0 (Ok start) d1 d2 = own_loads true c n 0 (Ok start) mid d1 d2 h in

@@ -19,11 +19,10 @@ use Rattle.rescue_rules.specs.declared.stop.RunEnd.TheVariants.{Done as Finished
 use Rattle.rescue_rules.specs.Setting.{Setting}
 use Rattle.rescue_rules.specs.Laws.{AreThreeNames}
 use Rattle.rescue_core.proofs.TurnEndLemmas.{says_none}
-use Rattle.copy_passes.proofs.TurnLemmas.{between as across}
+use Rattle.copy_passes.proofs.TurnLemmas.{around as across}
 use Rattle.sweep_rules.specs.Sweep.{Sweeper, Swept, generator}
 use Rattle.sweep_rules.specs.SweepLaws.{AreGiven}
-use Rattle.fill_generate.specs.Sweeping.{IsApart}
-use Rattle.fill_generate.proofs.TellLemmas.{between}
+use Rattle.fill_generate.specs.Sweeping.{around, IsApart}
 use Rattle.work_rules.specs.Work.{Open, Works}
 use Rattle.work_rules.specs.Parts.{only_calls}
 use Rattle.ddrescue_words.specs.Command.{Command}
@@ -223,7 +222,7 @@ module _ (c : Command) (line : List ℕ) (heard : Bool) (different : first_same 
             → is_some c.mapfile ≡ true → Keeps d1 d2 → ArePlacedBy c.options end
             → DidGenerate (setting_of c line end
             (maps_of (statuses_in domain) None (listed_if c.options.complete_only start.first start.listed_end)))
-            start.tiles.statuses start.state heard heard' e (between d2 d3 k k' x x')
+            start.tiles.statuses start.state heard heard' e (around d2 d3 k k' x x')
             → WorkedGenerate c line heard heard' e (across s0 s1 old d3 k k' x x')
         generate_goes heard' e d3 k' x' named keeps placed did =
             let ran = did.did in

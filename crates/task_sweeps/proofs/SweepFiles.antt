@@ -1,4 +1,5 @@
 -- What was there and what was done after the map that an option names, by where a sweep's steps ended.
+use Rattle.rescue_core.specs.Across.{across}
 use Rattle.std.proofs.Common.{◌≡◌, ℕ, ◌-◌, ◌<◌, ◌^◌, Bool, IsTrue, List, [], ◌∷◌, ◌++◌, length, replicate, All, Option, None, Ok, Err, refl, sym, ap, ◌∙◌, inl, inr, subst, arith, append_assoc, append-nil}
 use Rattle.std.proofs.lemmas.List.Elements.{All-nil}
 use Rattle.block_list.specs.declared.status.Status.{Status}
@@ -19,7 +20,6 @@ use Rattle.rescue_console.specs.ClockState.{ClockState}
 use Rattle.rescue_console.specs.ConsoleState.{ConsoleState}
 use Rattle.rescue_rules.specs.Start.{IsFresh, TextStands, AsNone, AsMap, StandsFor, Stands}
 use Rattle.rescue_rules.specs.Laws.{AreTimes}
-use Rattle.copy_passes.proofs.TurnLemmas.{between as across}
 use Rattle.work_rules.specs.Work.{Opened, Unopened, Deeds}
 use Rattle.ddrescue_words.specs.Command.{Command}
 use Rattle.work_rules.proofs.PartLemmas.{grew_both}

@@ -10,9 +10,8 @@ use Rattle.crash_site.specs.SiteChanges.{Stays}
 use Rattle.rescue_console.specs.ClockState.{ClockState}
 use Rattle.rescue_console.specs.ConsoleState.{ConsoleState}
 use Rattle.rescue_rules.specs.Work.{IsNothing}
-use Rattle.rescue_core.specs.Across.{Across}
+use Rattle.rescue_core.specs.Across.{Across, across}
 use Rattle.faulty_source.specs.Journal.{IsFrom}
-use Rattle.copy_passes.proofs.TurnLemmas.{between as across}
 use Rattle.work_rules.specs.Work.{Deeds, WorkStep, Works}
 use Rattle.work_rules.specs.Parts.{only_calls}
 use Rattle.work_rules.specs.Holds.{after_entries}

@@ -33,8 +33,7 @@ use Rattle.sweep_rules.specs.Sweep.{Sweeper, Sweep, Swept, filler, generator, sw
 use Rattle.sweep_rules.specs.SweepWork.{SweepEnds, IsSaved, IsUnsaved, IsCut, IsBroken, sweep_calls, sweep_lines, lost_call}
 use Rattle.fill_generate.specs.declared.job.Job.{Job}
 use Rattle.fill_generate.specs.SweepState.{setting_for}
-use Rattle.fill_generate.specs.Sweeping.{Around, BreaksAfter, EndsSweep, Saved, Unsaved, Cut, Broken, SweepTold, LookupTold, times_after}
-use Rattle.fill_generate.proofs.TellLemmas.{between}
+use Rattle.fill_generate.specs.Sweeping.{Around, around, BreaksAfter, EndsSweep, Saved, Unsaved, Cut, Broken, SweepTold, LookupTold, times_after}
 use Rattle.work_rules.proofs.GainLemmas.{MayGain, may_gain, broke_after}
 use Rattle.ddrescue_words.specs.declared.options.Options.{Options}
 use Rattle.ddrescue_words.specs.Command.{Command}
@@ -192,7 +191,7 @@ module _ (s : Setting) (w : Sweeper) (statuses : List Status) (state : Option Ma
 
   -- memory ran out before it began
   pub swept_none : (heard : Bool) (d : SiteState) (k : ClockState) (x : ConsoleState)
-      → DidSweep s w statuses state heard heard NoMemory (between d d k k x x)
+      → DidSweep s w statuses state heard heard NoMemory (around d d k k x x)
   swept_none heard d k x = record {
     gain = record { calls = []; reads = []; times = [] };
     gains = record {
@@ -263,7 +262,7 @@ generated_so c n h limit maps statuses state moment heard between_ heard' ready 
 -- memory ran out before it began
 pub generated_none : (s : Setting) (statuses : List Status) (state : Option MapState) (heard : Bool) (d : SiteState)
     (k : ClockState) (x : ConsoleState)
-    → DidGenerate s statuses state heard heard NoMemory (between d d k k x x)
+    → DidGenerate s statuses state heard heard NoMemory (around d d k k x x)
 unfolding swept_none
 generated_none s statuses state heard d k x = record {
   did = swept_none s (generator s) statuses state heard d k x;

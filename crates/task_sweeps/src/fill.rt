@@ -12,6 +12,8 @@ ghost use Rattle.task_files.specs.Answers.{Causes, drafting_left};
 ghost use Rattle.task_files.specs.Steps.{ending_of, heard_after, maps_read, SuitsInput, IsPlanned};
 ghost use Rattle.task_sweeps.specs.Modes.{fill_setting};
 ghost use Rattle.task_sweeps.specs.SweepSteps.{DidSweep, SweepCause, WorkedFill};
+ghost use Rattle.rescue_core.specs.Across.{across};
+ghost use Rattle.fill_generate.specs.Sweeping.{around};
 
 use crate::pattern::read_pattern;
 use crate::sweep::{make_job, make_sweep};
@@ -63,14 +65,8 @@ fn run<D: Site, K: Clock, C: Console>(
         let maps = maps_read c.options loaded.domain_map test loaded.map in
         let s = fill_setting c plan.entry.heading.line loaded.end maps in
         DidSweep s (filler s filling.entry.types filling.entry.buffer.now) loaded.map.tiles.statuses loaded.map.state
-        plan.entry.heard result.heard result.ending (record {
-          site = D.state site.old;
-          site' = D.state site.new;
-          clock = K.state clock.old;
-          clock' = K.state clock.new;
-          console = C.state console.old;
-          console' = C.state console.new;
-        }) }
+        plan.entry.heard result.heard result.ending (around (D.state site.old) (D.state site.new) (K.state clock.old)
+        (K.state clock.new) (C.state console.old) (C.state console.new)) }
     ensures cause { SweepCause result.ending (D.state site.old) (D.state site.new) }
     ensures draft { (D.state site.new).is_drafting ≡ drafting_left result.ending }
     ensures site { SiteKeeps (D.state site.old) (D.state site.new) }
@@ -111,16 +107,9 @@ pub fn fill<S: Source, D: Site, K: Clock, C: Console>(
     requires planned { IsPlanned plan }
     requires named { is_some (told_by plan.command).mapfile ≡ true }
     ensures worked { WorkedFill types (told_by plan.entry.command) plan.entry.heading.line plan.entry.heard
-        (heard_after plan.entry.heard result) (ending_of result) (record {
-          source = S.state source.old;
-          source' = S.state source.new;
-          site = D.state site.old;
-          site' = D.state site.new;
-          clock = K.state clock.old;
-          clock' = K.state clock.new;
-          console = C.state console.old;
-          console' = C.state console.new;
-        }) }
+        (heard_after plan.entry.heard result) (ending_of result) (across (S.state source.old) (S.state source.new)
+        (D.state site.old) (D.state site.new) (K.state clock.old) (K.state clock.new) (C.state console.old)
+        (C.state console.new)) }
     ensures cause { Causes (ending_of result) (S.state source.old) (S.state source.new) (D.state site.old)
         (D.state site.new) }
     ensures draft { (D.state site.new).is_drafting ≡ drafting_left (ending_of result) }

@@ -10,11 +10,11 @@ use Rattle.transfer_token.specs.declared.token.Request.{Request}
 use Rattle.rescue_rules.specs.declared.phase.Phase.{Phase}
 use Rattle.rescue_rules.specs.Machine.{IsRequest}
 use Rattle.rescue_core.specs.declared.turn.Turn.{Turn}
-use Rattle.rescue_core.specs.Across.{Across}
+use Rattle.rescue_core.specs.Across.{Across, across}
 use Rattle.rescue_core.specs.RunState.{RunState, setting_in, passed, HasPlaces}
 use Rattle.rescue_core.specs.Turning.{Turned}
 use Rattle.copy_passes.specs.Turns.{WentByTurns}
-use Rattle.copy_passes.proofs.TurnLemmas.{IsOneMove, one_move, between, begins, goes_on_by_pass}
+use Rattle.copy_passes.proofs.TurnLemmas.{IsOneMove, one_move, begins, goes_on_by_pass}
 use Rattle.trim_scrape.specs.Passing.{IsPassOf, IsBeforePass}
 use Rattle.trim_scrape.proofs.PassingLemmas.{IsInPass, left_of, PassStep, passes_step, GoesNext, goes_next}
 
@@ -22,10 +22,10 @@ use Rattle.trim_scrape.proofs.PassingLemmas.{IsInPass, left_of, PassStep, passes
 pub begins_next : (phase : Phase) (number : ℕ) (r r1 : RunState) (a : SourceState) (d : SiteState) (k : ClockState)
     (x : ConsoleState) → IsBeforePass phase number r → IsPassOf (setting_in r) phase number
     → HasPlaces r.settings (covers r.domain) → a.is_open ≡ true → d.is_open ≡ true → d.is_drafting ≡ false
-    → r1 ≡ passed r phase number → WentByTurns r r1 (between a a d d k k x x)
+    → r1 ≡ passed r phase number → WentByTurns r r1 (across a a d d k k x x)
 begins_next phase number r r1 a d k x b there places input image no_draft is =
     let by : GoesNext phase number r = goes_next phase number r b there in
-    goes_on_by_pass r r r1 (between a a d d k k x x) phase number by.first (begins r a d k x places input image no_draft)
+    goes_on_by_pass r r r1 (across a a d d k k x x) phase number by.first (begins r a d k x places input image no_draft)
     b.spent by.passes is
 
 -- and each turn leaves less to read, in the same pass.

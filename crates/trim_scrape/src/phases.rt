@@ -3,6 +3,7 @@
 ghost use Rattle.std.specs.Prelude.{◌≡◌, ◌+◌, true, false, IfOk, OnOk};
 ghost use Rattle.rescue_domain.specs.Parts.{covers};
 ghost use Rattle.rescue_rules.specs.declared.phase.Phase.TheVariants.{Copying as CopyingPhase, Trimming as TrimmingPhase, Scraping as ScrapingPhase, Retrying as RetryingPhase};
+ghost use Rattle.rescue_core.specs.Across.{across};
 ghost use Rattle.rescue_core.specs.RunState.{setting_in, HasPlaces};
 ghost use Rattle.copy_passes.specs.Turns.{TurnsEnd, PhaseEnds};
 ghost use Rattle.trim_scrape.specs.Past.{IsPast};
@@ -33,16 +34,9 @@ fn run_pass<P: Stage, S: Source, D: Site, K: Clock, C: Console, T: Tiles>(
     requires input { (S.state source.old).is_open ≡ true }
     requires image { (D.state site.old).is_open ≡ true }
     requires no_draft { (D.state site.old).is_drafting ≡ false }
-    ensures ends { TurnsEnd result rescue.old rescue.new (record {
-      source = S.state source.old;
-      source' = S.state source.new;
-      site = D.state site.old;
-      site' = D.state site.new;
-      clock = K.state clock.old;
-      clock' = K.state clock.new;
-      console = C.state console.old;
-      console' = C.state console.new;
-    }) }
+    ensures ends { TurnsEnd result rescue.old rescue.new (across (S.state source.old) (S.state source.new)
+        (D.state site.old) (D.state site.new) (K.state clock.old) (K.state clock.new) (C.state console.old)
+        (C.state console.new)) }
     ensures before { OnOk result (IsBeforePass phase (pass + 1) rescue.new) }
     ensures done { OnOk result (PhaseLeavesNone phase rescue.new) }
 {
@@ -67,16 +61,8 @@ pub fn run_trimming<S: Source, D: Site, K: Clock, C: Console, T: Tiles>(
     requires input { (S.state source.old).is_open ≡ true }
     requires image { (D.state site.old).is_open ≡ true }
     requires no_draft { (D.state site.old).is_drafting ≡ false }
-    ensures ends { PhaseEnds rescue result (record {
-      source = S.state source.old;
-      source' = S.state source.new;
-      site = D.state site.old;
-      site' = D.state site.new;
-      clock = K.state clock.old;
-      clock' = K.state clock.new;
-      console = C.state console.old;
-      console' = C.state console.new;
-    }) }
+    ensures ends { PhaseEnds rescue result (across (S.state source.old) (S.state source.new) (D.state site.old)
+        (D.state site.new) (K.state clock.old) (K.state clock.new) (C.state console.old) (C.state console.new)) }
     ensures past { IfOk result (λ r. IsPast TrimmingPhase r) }
 {
     let mut rescue = rescue;
@@ -110,16 +96,8 @@ pub fn run_scraping<S: Source, D: Site, K: Clock, C: Console, T: Tiles>(
     requires input { (S.state source.old).is_open ≡ true }
     requires image { (D.state site.old).is_open ≡ true }
     requires no_draft { (D.state site.old).is_drafting ≡ false }
-    ensures ends { PhaseEnds rescue result (record {
-      source = S.state source.old;
-      source' = S.state source.new;
-      site = D.state site.old;
-      site' = D.state site.new;
-      clock = K.state clock.old;
-      clock' = K.state clock.new;
-      console = C.state console.old;
-      console' = C.state console.new;
-    }) }
+    ensures ends { PhaseEnds rescue result (across (S.state source.old) (S.state source.new) (D.state site.old)
+        (D.state site.new) (K.state clock.old) (K.state clock.new) (C.state console.old) (C.state console.new)) }
     ensures past { IfOk result (λ r. IsPast ScrapingPhase r) }
 {
     let mut rescue = rescue;
@@ -153,16 +131,9 @@ fn run_retries<S: Source, D: Site, K: Clock, C: Console, T: Tiles>(
     requires input { (S.state source.old).is_open ≡ true }
     requires image { (D.state site.old).is_open ≡ true }
     requires no_draft { (D.state site.old).is_drafting ≡ false }
-    ensures ends { TurnsEnd result rescue.old rescue.new (record {
-      source = S.state source.old;
-      source' = S.state source.new;
-      site = D.state site.old;
-      site' = D.state site.new;
-      clock = K.state clock.old;
-      clock' = K.state clock.new;
-      console = C.state console.old;
-      console' = C.state console.new;
-    }) }
+    ensures ends { TurnsEnd result rescue.old rescue.new (across (S.state source.old) (S.state source.new)
+        (D.state site.old) (D.state site.new) (K.state clock.old) (K.state clock.new) (C.state console.old)
+        (C.state console.new)) }
     ensures past { OnOk result (IsPast RetryingPhase rescue.new) }
 {
     'passes: for pass in 1..=rescue.settings().passes.retries {
@@ -184,16 +155,8 @@ pub fn run_retrying<S: Source, D: Site, K: Clock, C: Console, T: Tiles>(
     requires input { (S.state source.old).is_open ≡ true }
     requires image { (D.state site.old).is_open ≡ true }
     requires no_draft { (D.state site.old).is_drafting ≡ false }
-    ensures ends { PhaseEnds rescue result (record {
-      source = S.state source.old;
-      source' = S.state source.new;
-      site = D.state site.old;
-      site' = D.state site.new;
-      clock = K.state clock.old;
-      clock' = K.state clock.new;
-      console = C.state console.old;
-      console' = C.state console.new;
-    }) }
+    ensures ends { PhaseEnds rescue result (across (S.state source.old) (S.state source.new) (D.state site.old)
+        (D.state site.new) (K.state clock.old) (K.state clock.new) (C.state console.old) (C.state console.new)) }
     ensures past { IfOk result (λ r. IsPast RetryingPhase r) }
 {
     let mut rescue = rescue;

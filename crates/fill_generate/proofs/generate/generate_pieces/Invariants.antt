@@ -1,8 +1,8 @@
 use Rattle.std.proofs.Common.{◌≡◌, ◌-◌, ◌^◌, false, length}
 use Rattle.sweep_rules.specs.Sweep.{generator}
+use Rattle.fill_generate.specs.Sweeping.{around}
 use Rattle.fill_generate.specs.SweepState.{setting_of}
 use Rattle.fill_generate.specs.Steps.{WentOn, ObjectsStay, IsLookedUp, gone_to}
-use Rattle.fill_generate.proofs.TellLemmas.{between}
 use Rattle.fill_generate.proofs.generate.generate_pieces.Given as goal
 
 abbrev pub invariant-pieces : goal.invariant-pieces
@@ -11,10 +11,10 @@ invariant-pieces g l =
     × WentOn (IsLookedUp (setting_of l.initial.sweeping) (g.D.Site.state l.initial.site)) (setting_of l.initial.sweeping)
     (generator (setting_of l.initial.sweeping)) l.initial.sweeping.sweep l.sweeping.sweep l.initial.sweeping.heard
     l.sweeping.heard
-    (between (g.D.Site.state l.initial.site) (g.D.Site.state l.site) (g.K.Clock.state l.initial.clock) (g.K.Clock.state l.clock)
+    (around (g.D.Site.state l.initial.site) (g.D.Site.state l.site) (g.K.Clock.state l.initial.clock) (g.K.Clock.state l.clock)
     (g.C.Console.state l.initial.console) (g.C.Console.state l.console))
     × ((g.D.Site.state l.site).is_drafting ≡ false)
-    × ObjectsStay (between (g.D.Site.state l.initial.site) (g.D.Site.state l.site) (g.K.Clock.state l.initial.clock)
+    × ObjectsStay (around (g.D.Site.state l.initial.site) (g.D.Site.state l.site) (g.K.Clock.state l.initial.clock)
     (g.K.Clock.state l.clock) (g.C.Console.state l.initial.console) (g.C.Console.state l.console))
 
 abbrev pub decreases-pieces : goal.decreases-pieces

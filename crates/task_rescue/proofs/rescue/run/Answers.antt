@@ -5,6 +5,7 @@ use Rattle.task_files.specs.Asked.{Maps}
 use Rattle.task_files.specs.Steps.{maps_read}
 use Rattle.task_rescue.proofs.RanLemmas.{ran_by, ran_unbegun}
 use Rattle.task_rescue.proofs.rescue.run.Goals as goal
+use Rattle.rescue_core.specs.Across.{across}
 
 pub run_rescue-closed-requires-clause-copying : goal.run_rescue-closed-requires-clause-copying
 run_rescue-closed-requires-clause-copying g c =
@@ -36,16 +37,10 @@ returns-clause-ran g c = λ test.
     ran_by (told_by c.args.plan.command) c.args.plan.names c.args.plan.heading.line loaded.end maps
     loaded.map.tiles.statuses loaded.map.state c.now_ms-moment.result c.args.plan.heard c.say_line-heard.result
     c.run_rescue-closed.result.heard c.in-Ok.ready c.begin-rescue.result c.run_rescue-closed.result.end c.answer.result
-    (record {
-      source = g.S.Source.state c.args.source.now;
-      source' = g.S.Source.state c.run_rescue-closed.new.source;
-      site = g.D.Site.state c.args.site.now;
-      site' = g.D.Site.state c.run_rescue-closed.new.site;
-      clock = g.K.Clock.state c.now_ms-moment.new.self;
-      clock' = g.K.Clock.state c.run_rescue-closed.new.clock;
-      console = g.C.Console.state c.say_line-heard.new.console;
-      console' = g.C.Console.state c.run_rescue-closed.new.console;
-    })
+    (across (g.S.Source.state c.args.source.now) (g.S.Source.state c.run_rescue-closed.new.source)
+    (g.D.Site.state c.args.site.now) (g.D.Site.state c.run_rescue-closed.new.site)
+    (g.K.Clock.state c.now_ms-moment.new.self) (g.K.Clock.state c.run_rescue-closed.new.clock)
+    (g.C.Console.state c.say_line-heard.new.console) (g.C.Console.state c.run_rescue-closed.new.console))
     (g.K.Clock.state c.args.clock.now) (g.C.Console.state c.args.console.now) c.requires.planned.names
     (c.in-Ok.ensures.ready test)
     (c.begin-rescue.ensures loaded.end maps loaded.map.tiles.statuses loaded.map.state c.requires.placed c.requires.fits

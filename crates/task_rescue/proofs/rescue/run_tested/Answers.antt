@@ -1,9 +1,9 @@
+use Rattle.rescue_core.specs.Across.{across}
 use Rattle.std.proofs.Common.{subst, rules, None, Some}
 use Rattle.faulty_source.specs.SourceChanges.{Stays as SourceStays}
 use Rattle.rescue_domain.proofs.TestingLemmas.{stays_below}
 use Rattle.ddrescue_words.specs.Asking.{told_by}
 use Rattle.rescue_rules.specs.Setting.{Setting}
-use Rattle.copy_passes.proofs.TurnLemmas.{between}
 use Rattle.task_files.specs.Asked.{setting_of}
 use Rattle.task_files.specs.Answers.{Causes}
 use Rattle.task_files.specs.Steps.{DidRun, maps_read}
@@ -24,7 +24,7 @@ returns-clause-ran g c =
     (subst
     (λ (x : g.row.S.Denot). DidRun s (Some c.in-Some.tiles.statuses) loaded.map.tiles.statuses loaded.map.state
     c.args.plan.heard c.run-in-Some.result.heard c.run-in-Some.result.ending
-    (between (state c.args.source.now) (state x) (g.D.Site.state c.args.site.now) (g.D.Site.state new.site)
+    (across (state c.args.source.now) (state x) (g.D.Site.state c.args.site.now) (g.D.Site.state new.site)
     (g.K.Clock.state c.args.clock.now) (g.K.Clock.state new.clock) (g.C.Console.state c.args.console.now)
     (g.C.Console.state new.console)))
     {x = new.source.inner.now}

@@ -7,6 +7,7 @@ use Rattle.task_files.specs.Steps.{maps_read}
 use Rattle.task_sweeps.proofs.SweptEnds.{sweep_cause, none_cause, draft_as}
 use Rattle.task_sweeps.proofs.SweptLemmas.{filled_so, swept_none, job_suits, job_heading}
 use Rattle.task_sweeps.proofs.fill.run.Goals as goal
+use Rattle.fill_generate.specs.Sweeping.{around}
 
 pub run_fill-closed-requires-clause-room : goal.run_fill-closed-requires-clause-room
 run_fill-closed-requires-clause-room g c =
@@ -64,14 +65,9 @@ returns-clause-ran g c = λ test.
     loaded.map.tiles.statuses loaded.map.state c.now_ms-moment.result c.args.plan.heard c.say_line-heard.result
     c.run_fill-closed.result.heard c.args.filling.types c.args.filling.buffer.now c.in-Ok.ready c.make_job-job.result
     c.run_fill-closed.result.end c.answer.result
-    (record {
-      site = g.D.Site.state c.args.site.now;
-      site' = g.D.Site.state c.run_fill-closed.new.site;
-      clock = g.K.Clock.state c.now_ms-moment.new.self;
-      clock' = g.K.Clock.state c.run_fill-closed.new.clock;
-      console = g.C.Console.state c.say_line-heard.new.console;
-      console' = g.C.Console.state c.run_fill-closed.new.console;
-    })
+    (around (g.D.Site.state c.args.site.now) (g.D.Site.state c.run_fill-closed.new.site)
+    (g.K.Clock.state c.now_ms-moment.new.self) (g.K.Clock.state c.run_fill-closed.new.clock)
+    (g.C.Console.state c.say_line-heard.new.console) (g.C.Console.state c.run_fill-closed.new.console))
     (g.K.Clock.state c.args.clock.now) (g.C.Console.state c.args.console.now)
     (sym c.requires.planned.names ∙ c.in-Some.is) (c.in-Ok.ensures test)
     (c.make_job-job.ensures loaded.end maps loaded.map.tiles.statuses loaded.map.state c.requires.placed
