@@ -15,19 +15,19 @@ use Rattle.rescue_domain.specs.Parts.{covers}
 use Rattle.rescue_rules.specs.declared.stop.Stop.{Stop}
 use Rattle.rescue_rules.specs.declared.stop.Stop.TheVariants.{Site}
 use Rattle.rescue_rules.specs.declared.stop.RunEnd.{RunEnd}
-use Rattle.rescue_rules.specs.declared.report.Counts.{Counts}
 use Rattle.rescue_rules.specs.declared.tally.Tally.{Tally}
 use Rattle.rescue_rules.specs.Counts.{counts_of}
 use Rattle.rescue_rules.specs.Snapshots.{Snapshot, text_of}
 use Rattle.rescue_rules.specs.RunCalls.{closing_calls}
 use Rattle.rescue_rules.specs.Said.{is_line_due}
 use Rattle.rescue_rules.specs.Step.{save_interval}
-use Rattle.rescue_rules.specs.Lines.{phase_front, last_front, report_text, report_with, is_done}
+use Rattle.rescue_rules.specs.Lines.{phase_front, report_text}
 use Rattle.rescue_core.specs.declared.keeper.Keeper.{Keeper}
 use Rattle.rescue_core.specs.declared.settings.Settings.{Settings}
 use Rattle.rescue_core.specs.RunState.{names_in}
 use Rattle.rescue_core.specs.Keeping.{saves_of, last_calls}
 use Rattle.rescue_core.specs.Closing.{closing_with}
+use Rattle.rescue_core.proofs.ClosingLemmas.{said_with, last_with}
 use Rattle.sweep_rules.specs.Sweep.{Sweep, sweep_snapshot, sweep_end}
 use Rattle.sweep_rules.specs.SweepWork.{sweep_report}
 use Rattle.fill_generate.specs.declared.sweeping.Piece.{Piece}
@@ -109,15 +109,9 @@ last_named stop settings domain map cursor k there =
     (image_sync ∷ []) there
     ∙ ap (λ (p : Snapshot). save_calls (names_in k.names) (text_of k.heading.line p)) (end_is stop map cursor k.tally)
 
--- what is said of a sweep after a piece, and at its end, with counts of its map
-abbrev pub said_with : Counts → Tally → List SpokenPiece
-said_with counts t = out_pieces (report_text (phase_front t.shown) (report_with counts t) ∷ [])
-
+-- what is said of a sweep after a piece, and at its end
 abbrev pub said_in : SweepState → List SpokenPiece
 said_in r = said_with (counts_of (covers r.domain) r.sweep.map) r.sweep.tally
-
-abbrev pub last_with : Counts → RunEnd → Tally → List SpokenPiece
-last_with counts end t = out_pieces (report_text (last_front (is_done end)) (report_with counts t) ∷ [])
 
 abbrev pub last_in : RunEnd → SweepState → List SpokenPiece
 last_in end r = last_with (counts_of (covers r.domain) r.sweep.map) end r.sweep.tally

@@ -1,5 +1,6 @@
 -- Other crates cite these.
 pub mod ChangeLemmas
+pub mod ClosingLemmas
 pub mod CountsLemmas
 pub mod PassLemmas
 pub mod PrepareLemmas
@@ -7,7 +8,6 @@ pub mod StageLemmas
 pub mod TurnEndLemmas
 -- These are the crate's own.
 mod BeginLemmas
-mod ClosingLemmas
 mod KeeperLemmas
 mod LineLemmas
 mod ProgressLemmas

@@ -16,8 +16,8 @@ use Rattle.rescue_rules.specs.Preparation.{changed_from, if_asked}
 use Rattle.rescue_rules.specs.Machine.{cut_end}
 use Rattle.rescue_rules.specs.Setting.{Setting, place}
 use Rattle.rescue_rules.proofs.MarkLemmas.{slice_get-take}
-use Rattle.sweep_rules.specs.Sweep.{Sweeper, Sweep, Swept, IsTaken, IsPiece, sweep_search, filler, generator, after_piece, is_generated, is_there, part_of}
-use Rattle.sweep_rules.specs.SweepLaws.{PieceIsOne, GeneratesWhatIsHeld, FilledMapStands}
+use Rattle.sweep_rules.specs.Sweep.{Sweeper, Sweep, Swept, IsTaken, IsPiece, sweep_search, filler, generator, after_piece, is_generated, is_there, part_of, sweep_over, after_pieces}
+use Rattle.sweep_rules.specs.SweepLaws.{PieceIsOne, GeneratesWhatIsHeld, FilledMapStands, SweepFailsNoRead}
 
 -- a position that a change finishes, or that was finished
 pub changed_cases : (domain : ℕ → Bool) (at : ℕ) (map : List Status) (x : ℕ)
@@ -92,6 +92,13 @@ no_less P p e e' a b =
 
 ends_one : (P : ℕ → Type 0) (p e e' : ℕ) → IsRangeUp P p e → IsRangeUp P p e' → e ≡ e'
 ends_one P p e e' a b = omega (arith, no_less P p e e' a b, no_less P p e' e b a)
+
+pieces_fail_none : (w : Sweeper) (m : Sweep) (es : List Swept) → (after_pieces w m es).tally.failed ≡ m.tally.failed
+pieces_fail_none w m [] = refl
+pieces_fail_none w m (e ∷ es) = pieces_fail_none w (after_piece w m e) es
+
+pub sweep_fails_no_read : SweepFailsNoRead
+sweep_fails_no_read w map state time es = pieces_fail_none w (sweep_over w map state time) es
 
 pub piece_is_one : PieceIsOne
 piece_is_one s w m p q p' q' a b =

@@ -1,5 +1,5 @@
 //! What the definitions mean.
-ghost use Rattle.sweep_rules.specs.SweepLaws.{FilledMapStands, GeneratesWhatIsHeld, PieceIsOne};
+ghost use Rattle.sweep_rules.specs.SweepLaws.{FilledMapStands, GeneratesWhatIsHeld, PieceIsOne, SweepFailsNoRead};
 ghost use Rattle.sweep_rules.specs.SweepStops.{FillsSafely, GeneratesSafely};
 ghost use Rattle.sweep_rules.specs.SweepOpens.{EndsEarlySafely};
 
@@ -16,6 +16,11 @@ pub fn a_filled_map_stands()
 /// Generate mode finishes only positions that were finished, or for which the output holds a byte.
 pub fn what_is_generated_is_held()
     ensures { GeneratesWhatIsHeld }
+{}
+
+/// A sweep counts no failed read.
+pub fn a_sweep_fails_no_read()
+    ensures { SweepFailsNoRead }
 {}
 
 /// A filling stops safely at every moment.

@@ -3,9 +3,10 @@ use Rattle.crash_site.specs.Calls.{Call}
 use Rattle.rescue_console.specs.Speaking.{SpeaksOn}
 use Rattle.rescue_core.specs.Closing.{EndsBy}
 use Rattle.rescue_rules.specs.declared.report.Counts.{Counts}
+use Rattle.rescue_core.proofs.ClosingLemmas.{last_with}
 use Rattle.fill_generate.specs.SweepState.{SweepState, setting_of}
 use Rattle.fill_generate.specs.Steps.{ClosesFiles}
-use Rattle.fill_generate.proofs.EndPieceLemmas.{last_named, last_with, last_in}
+use Rattle.fill_generate.proofs.EndPieceLemmas.{last_named, last_in}
 use Rattle.fill_generate.proofs.sweeping.Sweeping.close.Goals as goal
 
 pub returns-clause-closes : goal.returns-clause-closes

@@ -1,8 +1,9 @@
 use Rattle.std.proofs.Common.{subst}
 use Rattle.rescue_console.specs.Speaking.{SpeaksOn}
 use Rattle.rescue_rules.specs.declared.report.Counts.{Counts}
+use Rattle.rescue_core.proofs.ClosingLemmas.{said_with}
 use Rattle.fill_generate.specs.SweepState.{SweepState}
-use Rattle.fill_generate.proofs.EndPieceLemmas.{said_with, said_in}
+use Rattle.fill_generate.proofs.EndPieceLemmas.{said_in}
 use Rattle.fill_generate.proofs.sweeping.Sweeping.say_due.Goals as goal
 
 pub returns-then-due-clause-says : goal.returns-then-due-clause-says
