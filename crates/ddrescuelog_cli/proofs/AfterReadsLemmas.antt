@@ -1,6 +1,6 @@
 -- The calls of some work: reads of maps, and after them what its mode calls.
 use Rattle.std.proofs.Common.{◌≡◌, ◌≢◌, ◌⊎◌, ℕ, Bool, true, false, List, [], ◌∷◌, ◌++◌, map, Option, Some, None, refl, sym, ap, ◌∙◌, inl, inr, subst, append_assoc, append-nil}
-use Rattle.std.proofs.lemmas.List.Elements.{All-nil, All-cons, All-same, All-append}
+use Rattle.std.proofs.lemmas.List.Elements.{All-nil, All-cons}
 use Rattle.mapfile_text.specs.declared.read.Mode.{Mode}
 use Rattle.mapfile_text.specs.declared.read.Mode.TheVariants.{Tight}
 use Rattle.crash_site.specs.Files.{File}
@@ -10,6 +10,7 @@ use Rattle.save_resume.specs.Loading.{piece_size}
 use Rattle.save_resume.specs.Named.{map_mode}
 use Rattle.work_rules.specs.Work.{Deeds, WorkStep, Take, Look, Open, Make, Read, Works}
 use Rattle.work_rules.proofs.FrontLemmas.{IsMapRead, load_reads}
+use Rattle.work_rules.proofs.ReadLemmas.{AreReads, both_are, maps_are, maps_broke, same_reads}
 use Rattle.ddrescuelog_words.specs.Command.{Command}
 use Rattle.ddrescuelog_cli.specs.declared.ending.Which.{Which}
 use Rattle.ddrescuelog_cli.specs.declared.ending.Which.TheVariants.{DomainMap, RunMap, OtherMap}
@@ -20,7 +21,7 @@ use Rattle.ddrescuelog_cli.specs.Maps.{Found, Maps, mapfile_mode}
 use Rattle.ddrescuelog_cli.specs.Refusals.{IfNamed, MapIsRefused, MapIsThere, PlacesRefused}
 use Rattle.ddrescuelog_cli.specs.Work.{log_faults, named_rows, read_rows, EndsAs, WorksOver, UnlessThere, WorksAs}
 use Rattle.ddrescuelog_cli.proofs.FoundLemmas.{RowsGive}
-use Rattle.ddrescuelog_cli.proofs.ReadLemmas.{IsRead, AreReads, none_are, returned_are, broke_are, OnlyRead}
+use Rattle.ddrescuelog_cli.proofs.ReadLemmas.{OnlyRead}
 
 -- Some calls are reads, and after them come none, if the work stopped by then, or those of a run.
 pub record AfterReads (P : LogEnding → Type 0) (run : LogEnding → Deeds → Type 0) (e : LogEnding) (calls : List Entry)
@@ -49,7 +50,7 @@ went_by P run e front rest calls grew reads b = record {
   front = front ++ b.front;
   rest = b.rest;
   grew = grew ∙ ap (λ (r : List Entry). front ++ r) b.grew ∙ sym (append_assoc front b.front b.rest);
-  reads = All-append IsRead front b.front reads b.reads;
+  reads = both_are front b.front reads b.reads;
   ends = b.ends;
 }
 
@@ -57,31 +58,31 @@ pub after_rows : (P : LogEnding → Type 0) (rows : List (WorkStep LogEnding)) (
     → OnlyRead rows → RowsGive P rows → (e : LogEnding) (calls : List Entry)
     → Works log_faults rows run e (only_calls calls) → AfterReads P run e calls
 after_rows P [] run only give e calls w =
-    record { front = []; rest = calls; grew = refl; reads = All-nil IsRead; ends = inr w }
+    record { front = []; rest = calls; grew = refl; reads = tt; ends = inr w }
 after_rows P (Take ∷ rows) run only give e calls (inl w) =
-    stopped_by P run e NoMemory calls w.0 give.0 (none_are calls w.1.gain.calls)
+    stopped_by P run e NoMemory calls w.0 give.0 (same_reads calls [] w.1.gain.calls tt)
 after_rows P (Take ∷ rows) run only give e calls (inr w) = after_rows P rows run only give.1 e calls w
 after_rows P (Look refuses ∷ rows) run only give e calls (inl w) =
-    stopped_by P run e e calls refl (give.0 e w.0) (none_are calls w.1.gain.calls)
+    stopped_by P run e e calls refl (give.0 e w.0) (same_reads calls [] w.1.gain.calls tt)
 after_rows P (Look refuses ∷ rows) run only give e calls (inr w) = after_rows P rows run only give.1 e calls w.1
 after_rows P (Open name ∷ rows) run only give e calls w = absurd only
 after_rows P (Make made ∷ rows) run only give e calls (inl w) =
     stopped_by P run e (SiteFault w.0) calls w.1 (give.0 w.0 calls w.2)
-    (broke_are w.0 made [] calls only.0 (All-nil IsRead) w.2)
+    (maps_broke w.0 made [] calls only.0 tt w.2)
 after_rows P (Make made ∷ rows) run only give e calls (inr w) =
-    went_by P run e (map Returned made) w.0 calls w.1 (returned_are made only.0)
+    went_by P run e (map Returned made) w.0 calls w.1 (maps_are made only.0)
     (after_rows P rows run only.1 give.1 e w.0 w.2)
 after_rows P (Read None file ∷ rows) run only give e calls (inl w) =
-    stopped_by P run e NoMemory calls w.0 give.0 (none_are calls w.1.gain.calls)
+    stopped_by P run e NoMemory calls w.0 give.0 (same_reads calls [] w.1.gain.calls tt)
 after_rows P (Read None file ∷ rows) run only give e calls (inr w) = after_rows P rows run only give.2 e calls w.1
 after_rows P (Read (Some name) file ∷ rows) run only give e calls (inl w) =
     stopped_by P run e (SiteFault MapRead) calls w.1 give.1
-    (broke_are MapRead w.0 [] calls (load_reads name file w.0 w.2) (All-nil IsRead) w.3)
+    (maps_broke MapRead w.0 [] calls (load_reads name file w.0 w.2) tt w.3)
 after_rows P (Read (Some name) file ∷ rows) run only give e calls (inr (inl w)) =
     stopped_by P run e NoMemory calls w.1 give.0
-    (All-same IsRead calls (map Returned w.0) w.3 (returned_are w.0 (load_reads name file w.0 w.2)))
+    (same_reads calls (map Returned w.0) w.3 (maps_are w.0 (load_reads name file w.0 w.2)))
 after_rows P (Read (Some name) file ∷ rows) run only give e calls (inr (inr w)) =
-    went_by P run e (map Returned w.0) w.1 calls w.3 (returned_are w.0 (load_reads name file w.0 w.2.begins))
+    went_by P run e (map Returned w.0) w.1 calls w.3 (maps_are w.0 (load_reads name file w.0 w.2.begins))
     (after_rows P rows run only give.2 e w.1 w.4)
 
 -- work after work
@@ -134,16 +135,16 @@ over_after c line list m =
 there_after : (forced : Bool) (name : List ℕ) (file : Option File) (more : LogEnding → Deeds → Type 0) (e : LogEnding)
     (calls : List Entry) → UnlessThere forced name file more e (only_calls calls) → AfterReads IsShort more e calls
 there_after true name file more e calls w =
-    record { front = []; rest = calls; grew = refl; reads = All-nil IsRead; ends = inr w }
+    record { front = []; rest = calls; grew = refl; reads = tt; ends = inr w }
 there_after false name file more e calls (inl (is, lost, alone)) =
     let asked : Call = map_read name 0 piece_size None in
     stopped_by IsShort more e (SiteFault MapRead) calls is (λ done. cc)
-    (broke_are MapRead (asked ∷ []) [] calls (All-cons IsMapRead asked [] refl (All-nil IsMapRead)) (All-nil IsRead)
+    (maps_broke MapRead (asked ∷ []) [] calls (All-cons IsMapRead asked [] refl (All-nil IsMapRead)) tt
     (inl (refl, lost)))
 there_after false name file more e calls (inr (answer, rest, says, grew, w)) =
     let asked : Call = map_read name 0 piece_size (Some answer) in
     went_by IsShort more e (Returned asked ∷ []) rest calls grew
-    (All-cons IsRead (Returned asked) [] refl (All-nil IsRead))
+    (refl, tt)
     (after_rows IsShort (Look (MapIsThere file) ∷ []) more tt ((λ v there done. cc), tt) e rest w)
 
 pub after_works : (new : Bool) (c : Command) (line list : List ℕ) (found : Found) (m : Maps) (e : LogEnding)

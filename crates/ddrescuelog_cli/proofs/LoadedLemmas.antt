@@ -25,7 +25,8 @@ use Rattle.work_rules.specs.Parts.{only_calls, WentThrough, StoppedIn}
 use Rattle.ddrescuelog_cli.specs.Work.{log_faults, map_rows, named_rows}
 use Rattle.ddrescuelog_cli.specs.Steps.{DidRead, ReadsMap, HasStatuses, statuses_in, statuses_or_none, DidReadNamed, ReadsNamed, maps_read, IsLoadedAs, LoadsMaps, ReadCause}
 use Rattle.work_rules.proofs.PartLemmas.{stopped_more, through_then, through_both}
-use Rattle.ddrescuelog_cli.proofs.ReadLemmas.{AreReads, stopped_reads, through_reads, files_stand}
+use Rattle.work_rules.proofs.ReadLemmas.{AreReads}
+use Rattle.ddrescuelog_cli.proofs.ReadLemmas.{stopped_reads, through_reads, files_stand}
 use Rattle.ddrescuelog_cli.proofs.MapsLemmas.{NamedBy, shown_is_one, has_named}
 
 -- ---- one read leaves the files as they read

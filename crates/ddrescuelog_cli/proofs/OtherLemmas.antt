@@ -16,7 +16,7 @@ use Rattle.work_rules.specs.Parts.{only_calls}
 use Rattle.work_rules.proofs.SpareLemmas.{AllSpare, spared, save_spares}
 use Rattle.ddrescuelog_cli.specs.Maps.{Found, Maps}
 use Rattle.ddrescuelog_cli.specs.Work.{EndsSaved, EndsAs, removal_calls, LogWorks}
-use Rattle.ddrescuelog_cli.proofs.ReadLemmas.{reads_stand}
+use Rattle.work_rules.proofs.ReadLemmas.{reads_leave}
 use Rattle.ddrescuelog_cli.proofs.AfterReadsLemmas.{AfterReads, IsShort, after_works}
 use Rattle.ddrescuelog_cli.proofs.StopsLemmas.{none_more, reads_run}
 
@@ -90,5 +90,5 @@ others_stand c line list found m e old new calls start grew w name other apart =
     (after-append old.start old.calls calls
     ∙ ap (after was) b.grew
     ∙ after-append was b.front b.rest
-    ∙ ap (λ (f : Folder). after f b.rest) (reads_stand b.front was b.reads))
+    ∙ ap (λ (f : Folder). after f b.rest) (reads_leave was b.front b.reads))
     ∙ rest was

@@ -2,7 +2,6 @@
 use Rattle.std.proofs.Common.{◌≡◌, ◌≢◌, ◌⊎◌, ℕ, ◌+◌, ◌-◌, ◌≤◌, Bool, true, false, cond, List, [], ◌++◌, map, length, Option, Some, None, Ok, refl, sym, ap, ◌∙◌, inl, inr, subst, arith, append_assoc, append-nil, length-append}
 use Rattle.std.specs.Str.{bytes_eq}
 use Rattle.std.proofs.lemmas.Bool.{cases_lt, cond_both}
-use Rattle.std.proofs.lemmas.List.Elements.{All-same}
 use Rattle.std.proofs.lemmas.Slice.Eq.{bytes_eq-Decides}
 use Rattle.block_list.specs.declared.status.Status.{Status}
 use Rattle.crash_site.specs.Files.{File}
@@ -26,6 +25,7 @@ use Rattle.ddrescuelog_words.specs.Command.{Command}
 use Rattle.map_algebra.specs.Compare.{IsDoneIn}
 use Rattle.map_algebra.specs.Numbers.{numbers_in}
 use Rattle.save_resume.proofs.NameLemmas.{apart_draft}
+use Rattle.work_rules.proofs.ReadLemmas.{AreReads, reads_keep, reads_until, same_reads}
 use Rattle.work_rules.proofs.SavedLemmas.{HasSaved, stops_by_save, saved_by, save_after}
 use Rattle.ddrescuelog_cli.specs.declared.ending.LogEnding.{LogEnding}
 use Rattle.ddrescuelog_cli.specs.declared.ending.LogEnding.TheVariants.{Done, NotDone, ListTooLong}
@@ -37,8 +37,7 @@ use Rattle.ddrescuelog_cli.specs.Answers.{row_of}
 use Rattle.ddrescuelog_cli.specs.Work.{EndsSaved, EndsCreated, EndsAs, removal_calls, LogWorks}
 use Rattle.ddrescuelog_cli.specs.Stops.{LeftAt, CouldBefore, Replaces, IsChanging, StopsSafely, OnlyReads, LeavesFiles}
 use Rattle.ddrescuelog_cli.proofs.FoundLemmas.{done_of}
-use Rattle.ddrescuelog_cli.proofs.ReadLemmas.{IsRead, AreReads}
-use Rattle.ddrescuelog_cli.proofs.StandLemmas.{reads_keep, reads_until, leave_all}
+use Rattle.ddrescuelog_cli.proofs.StandLemmas.{leave_all}
 use Rattle.ddrescuelog_cli.proofs.AfterReadsLemmas.{AfterReads, IsShort, after_works}
 
 -- ---- calls after reads
@@ -202,7 +201,7 @@ module _ (c : Command) (line list : List ℕ) (m : Maps) (site : SiteState) (fro
 -- only reads were called if nothing comes after them
 reads_alone : (front rest calls : List Entry) → calls ≡ front ++ rest → AreReads front → rest ≡ [] → AreReads calls
 reads_alone front rest calls grew reads none =
-    All-same IsRead calls front (grew ∙ ap (λ (r : List Entry). front ++ r) none ∙ append-nil front) reads
+    same_reads calls front (grew ∙ ap (λ (r : List Entry). front ++ r) none ∙ append-nil front) reads
 
 -- ---- a map that is saved
 

@@ -33,7 +33,8 @@ use Rattle.ddrescuelog_cli.specs.Steps.{ReadCause, LoadsMaps, IsLoadedAs, HasFou
 use Rattle.ddrescuelog_cli.specs.Worked.{FeedAfter, Ran}
 use Rattle.ddrescuelog_cli.specs.Ddrescuelog.{LogWorked, handed, log_program}
 use Rattle.work_rules.proofs.PartLemmas.{stopped_more, through_then}
-use Rattle.ddrescuelog_cli.proofs.ReadLemmas.{AreReads, files_stand}
+use Rattle.work_rules.proofs.ReadLemmas.{AreReads}
+use Rattle.ddrescuelog_cli.proofs.ReadLemmas.{files_stand}
 use Rattle.ddrescuelog_cli.proofs.StandLemmas.{leave_all}
 use Rattle.ddrescuelog_cli.proofs.StopsLemmas.{stops_safely, works_read}
 use Rattle.ddrescuelog_cli.proofs.OtherLemmas.{others_stand}

@@ -1,5 +1,5 @@
 -- What a command did, by what came of the load of the test map, and by how the plan ended.
-use Rattle.std.proofs.Common.{◌≡◌, ℕ, ◌++◌, IsTrue, List, [], map, Option, Some, None, Err, refl, sym, ◌∙◌, inl, inr, append-nil, arith}
+use Rattle.std.proofs.Common.{◌≡◌, ℕ, ◌++◌, IsTrue, List, [], map, Option, None, Err, refl, sym, inl, inr, append-nil, arith}
 use Rattle.std.proofs.lemmas.List.Elements.{All-nil}
 use Rattle.block_list.specs.declared.status.Status.{Status}
 use Rattle.mapfile_text.specs.declared.read.Mode.TheVariants.{Tight}
@@ -13,13 +13,13 @@ use Rattle.save_resume.specs.declared.named.NamedFault.TheVariants.{ReadFailed, 
 use Rattle.save_resume.specs.Loading.{IsLoad}
 use Rattle.save_resume.specs.Named.{LoadsNamed, IsNamedAs, NamedCounts}
 use Rattle.save_resume.specs.Resuming.{IsOfFile, IsReadAs, IsRefusedFor, LoadEnded}
-use Rattle.save_resume.proofs.AnswerLemmas.{read_is_not_refused}
 use Rattle.rescue_console.specs.ConsoleState.{ConsoleState}
 use Rattle.rescue_sample.specs.Line.{IsStill}
 use Rattle.rescue_rules.specs.Moves.{IsMove}
 use Rattle.work_rules.specs.Work.{IsIdle}
 use Rattle.work_rules.specs.Parts.{only_calls}
 use Rattle.work_rules.proofs.LoadLemmas.{broke_off, ended, ran_out}
+use Rattle.work_rules.proofs.LoadedLemmas.{read_passes}
 use Rattle.program_promise.specs.World.{WorldState}
 use Rattle.program_promise.specs.Causes.{Changed, changes_of}
 use Rattle.program_promise.specs.Promise.{DoneFor}
@@ -69,11 +69,6 @@ starved_done c line w = record {
   leaves = Untouched refl;
 }
 
--- a test map that was read isn't refused
-read_passes : (file : Option File) (m : ReadMap) (e : PlanEnding) → IsReadAs file Tight m → TestMapRefused file e → ⊥
-read_passes file m e read (inl missing) = let no : None ≡ Some read.there = sym missing.0 ∙ read.is in cc
-read_passes file m e read (inr refused) = read_is_not_refused file Tight m refused.0 read refused.1
-
 idle : IsIdle (only_calls [])
 idle = record { opens = refl; gain = record { calls = refl; reads = refl; times = refl } }
 
@@ -87,7 +82,7 @@ module _ (c : Command) (file : Option File) (load : List Call) (is : IsLoad c.te
         is,
         sym (append-nil (map Returned load)),
         inr (
-          λ v refused. read_passes file m v read refused,
+          λ v refused. read_passes (v ≡ NoMap) (λ error. v ≡ MapRefused error) Tight file m read refused,
           record { test = m; read = read; idle = idle; end = end; answer = refl },
         ),
       )))

@@ -3,8 +3,8 @@ use Rattle.std.proofs.Common.{◌≡◌, ◌≢◌, Bool, ℕ, IsTrue, List, [],
 use Rattle.std.specs.Prelude.{⊤}
 use Rattle.faulty_source.specs.SourceState.{SourceState}
 use Rattle.crash_site.specs.Files.{File}
-use Rattle.crash_site.specs.Calls.{Call, Entry, Done as Returned, Failed, image_read, map_read}
-use Rattle.crash_site.specs.Folder.{Folder, after, after_done, after_entry, after_failed}
+use Rattle.crash_site.specs.Calls.{Call, Entry, Done as Returned, Failed}
+use Rattle.crash_site.specs.Folder.{Folder, after, after_done, after_failed}
 use Rattle.crash_site.specs.Along.{GoesAlong}
 use Rattle.crash_site.specs.SiteState.{SiteState, files_in}
 use Rattle.crash_site.specs.SiteChanges.{Keeps as SiteKeeps}
@@ -14,6 +14,7 @@ use Rattle.crash_site.proofs.AlongLemmas.{WentOn, all_go, broke_goes, made_goes}
 use Rattle.save_resume.specs.MapNames.{MapNames, names_of}
 use Rattle.save_resume.specs.Saving.{save_calls}
 use Rattle.work_rules.specs.Work.{Deeds, Works}
+use Rattle.work_rules.proofs.ReadLemmas.{AreReads, reads_leave}
 use Rattle.work_rules.proofs.SavedLemmas.{HasSaved}
 use Rattle.work_rules.proofs.SpareLemmas.{spared, save_spares}
 use Rattle.ddrescueverify_words.specs.Command.{Command}
@@ -21,7 +22,7 @@ use Rattle.rescue_verify.specs.Across.{across}
 use Rattle.ddrescueverify_cli.specs.declared.ending.VerifyEnding.{VerifyEnding}
 use Rattle.ddrescueverify_cli.specs.Outside.{Agrees, Outside}
 use Rattle.ddrescueverify_cli.specs.Work.{Verifies, verify_faults, verify_rows}
-use Rattle.ddrescueverify_cli.proofs.ShapeLemmas.{AreReads, Early, IsRead, Reads, Saving, Shape, opening, opening_calls}
+use Rattle.ddrescueverify_cli.proofs.ShapeLemmas.{Early, Reads, Saving, Shape, opening, opening_calls}
 use Rattle.ddrescueverify_cli.proofs.StopsLemmas.{own_shape}
 use Rattle.ddrescueverify_cli.proofs.OpenedLemmas.{open_stands}
 
@@ -45,19 +46,6 @@ all_left d (call ∷ calls) (Failed c ∷ es) leave goes =
 
 opening_leaves : (c : Command) (d : Folder) → AllLeave d (opening_calls c)
 opening_leaves c d = (open_stands d c.outfile (d.files c.outfile), (refl, (refl, tt)))
-
-read_leaves : (d : Folder) (e : Entry) → IsRead e → after_entry d e ≡ d
-read_leaves d (Returned (map_read name at size answer)) is = refl
-read_leaves d (Failed (map_read name at size answer)) is = refl
-read_leaves d (Returned (image_read at size answer)) is = refl
-read_leaves d (Failed (image_read at size answer)) is = refl
-read_leaves d (Returned c) is = absurd (cc)
-read_leaves d (Failed c) is = absurd (cc)
-
-reads_leave : (d : Folder) (es : List Entry) → AreReads es → after d es ≡ d
-reads_leave d [] reads = refl
-reads_leave d (e ∷ es) reads =
-    ap (λ (f : Folder). after f es) (read_leaves d e reads.0) ∙ reads_leave d es reads.1
 
 -- ---- calls that spare a file
 

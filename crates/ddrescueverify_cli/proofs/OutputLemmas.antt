@@ -1,5 +1,6 @@
 -- What the open of the output did, whether the site tells or not.
 use Rattle.std.proofs.Common.{◌≡◌, ℕ, Bool, true, false, IsTrue, List, [], ◌∷◌, ◌++◌, Option, Some, None, Ok, Err, if◌then◌else◌, refl, ap, ◌∙◌, inl, inr}
+use Rattle.std.specs.Prelude.{⊤}
 use Rattle.crash_site.specs.declared.site.SiteCall.TheVariants.{ImageOpen}
 use Rattle.crash_site.specs.declared.site.ImageKind.{ImageKind}
 use Rattle.crash_site.specs.declared.site.ImageKind.TheVariants.{Regular, Other, Absent}
@@ -8,11 +9,13 @@ use Rattle.crash_site.specs.FileAnswers.{kind_of}
 use Rattle.crash_site.specs.Calls.{Done as Returned, image_open}
 use Rattle.crash_site.specs.CallsMade.{Lost}
 use Rattle.crash_site.specs.SiteState.{SiteState, files_in}
-use Rattle.work_rules.proofs.GainLemmas.{MayGain, may_gain}
+use Rattle.work_rules.specs.Work.{Look as LookAt}
 use Rattle.work_rules.proofs.LoadLemmas.{by_tells}
+use Rattle.work_rules.proofs.LoadedLemmas.{broke_first}
 use Rattle.ddrescueverify_cli.specs.declared.ending.VerifyEnding.{VerifyEnding}
 use Rattle.ddrescueverify_cli.specs.declared.ending.VerifyEnding.TheVariants.{NoOutput, SiteFault}
 use Rattle.ddrescueverify_cli.specs.Refusals.{OutputRefused}
+use Rattle.ddrescueverify_cli.specs.Work.{verify_faults}
 use Rattle.ddrescueverify_cli.specs.Steps.{OpensOutput}
 
 kind_there : (regular : Bool) → Absent ≡ (if regular then Regular else Other) → ⊥
@@ -95,12 +98,5 @@ pub output_failed : (out : List ℕ) (old new : SiteState)
     → (IsTrue old.tells → Lost (image_open out false) old.calls new.calls)
     → OpensOutput {T = Unit {0}} out (Err (SiteFault ImageOpen)) old new
 output_failed out old new lost =
-    let g : MayGain old.tells ImageOpen (image_open out false ∷ []) old.calls new.calls =
-    may_gain old.tells ImageOpen (image_open out false ∷ []) old.calls new.calls (inl refl) (λ t. inl (refl, lost t)) in
-    record {
-      file = files_in old out;
-      calls = g.more;
-      is_own = λ t. refl;
-      gained = g.grew;
-      did = inl (ImageOpen, refl, g.broke, record { opens = refl; reads = refl; times = refl });
-    }
+    broke_first verify_faults (image_open out false ∷ []) (λ file. LookAt (OutputRefused file) ∷ []) (files_in old out)
+    (λ x file. ⊤) ImageOpen old new (inl refl) (λ t. inl (refl, lost t))

@@ -1,30 +1,28 @@
 -- The calls of a whole call: the open of the output, the barrier, reads, and perhaps a save.
-use Rattle.std.proofs.Common.{◌≡◌, ℕ, zero, suc, ◌<◌, Bool, true, false, if◌then◌else◌, List, [], ◌∷◌, ◌++◌, map, length, Option, Some, None, refl, sym, ap, ◌∙◌, inl, inr, subst, arith, append_assoc, append-nil}
-use Rattle.std.specs.Prelude.{⊤}
+use Rattle.std.proofs.Common.{◌≡◌, ℕ, Bool, true, false, if◌then◌else◌, List, [], ◌∷◌, ◌++◌, map, length, Option, Some, None, refl, sym, ap, ◌∙◌, inl, inr, subst, append_assoc, append-nil}
 use Rattle.std.specs.List.{list_any}
 use Rattle.std.proofs.lemmas.List.{map-append}
-use Rattle.std.proofs.lemmas.List.Elements.{All-head, All-tail}
 use Rattle.block_list.specs.declared.status.Status.{Status}
 use Rattle.mapfile_text.specs.declared.state.MapState.{MapState}
 use Rattle.faulty_source.specs.Journal.{Reading, is_whole}
 use Rattle.crash_site.specs.declared.site.SiteCall.{SiteCall}
 use Rattle.crash_site.specs.declared.site.SiteCall.TheVariants.{MapRead as MapReadCall}
 use Rattle.crash_site.specs.Files.{File}
-use Rattle.crash_site.specs.Calls.{Call, Entry, Done as Returned, Failed, image_open, image_read, image_sync, map_read, map_settle}
+use Rattle.crash_site.specs.Calls.{Call, Entry, Done as Returned, Failed, image_open, image_read, image_sync, map_settle}
 use Rattle.crash_site.specs.CallsMade.{BrokeAt}
 use Rattle.crash_site.specs.Folder.{opened}
 use Rattle.crash_site.specs.Along.{GoesAlong}
-use Rattle.crash_site.specs.Disk.{Disk, only, entered, disk_after}
-use Rattle.crash_site.specs.Left.{in_part, until}
+use Rattle.crash_site.specs.Disk.{only}
 use Rattle.save_resume.specs.MapNames.{names_of}
 use Rattle.save_resume.specs.Loading.{IsLoad}
 use Rattle.save_resume.specs.Saving.{save_calls}
 use Rattle.save_resume.specs.Resuming.{barrier_calls}
 use Rattle.rescue_rules.specs.Start.{Stands as StandsFor}
 use Rattle.rescue_rules.specs.Stops.{is_sync}
-use Rattle.rescue_rules.specs.Work.{is_map_read, AreMapReads}
+use Rattle.rescue_rules.specs.Work.{AreMapReads}
 use Rattle.work_rules.specs.Work.{Deeds, IsIdle, Take, Look as LookAt, Make, Works}
 use Rattle.work_rules.proofs.FrontLemmas.{load_reads}
+use Rattle.work_rules.proofs.ReadLemmas.{AreReads, both_are, maps_are, maps_broke, same_reads}
 use Rattle.work_rules.proofs.SavedLemmas.{HasSaved}
 use Rattle.rescue_verify.specs.declared.halt.Halt.{Halt}
 use Rattle.rescue_verify.specs.declared.halt.Halt.TheVariants.{NoMemory as NoRoom, SourceLost as InputLost, ImageFault}
@@ -42,88 +40,6 @@ use Rattle.ddrescueverify_cli.specs.Outside.{Found}
 use Rattle.ddrescueverify_cli.specs.Work.{EndsSaved, Halts, Completes as SavesAll, Verifies, answer_of_halt, verify_faults, verify_rows}
 
 -- ---- calls that read
-
--- a call that reads a mapfile or the image
-abbrev pub is_read : Call → Bool
-is_read (map_read name at size answer) = true
-is_read (image_read at size answer) = true
-is_read call = false
-
--- it returned, or failed
-abbrev pub IsRead : Entry → Type 0
-IsRead (Returned c) = is_read c ≡ true
-IsRead (Failed c) = is_read c ≡ true
-
-abbrev pub AreReads : List Entry → Type 0
-AreReads [] = ⊤
-AreReads (e ∷ es) = IsRead e × AreReads es
-
--- an entry that changes nothing, whole or in part
-record Stands (e : Entry) : Type 0 where
-  whole : (d : Disk) → entered d e ≡ d
-  part : (d : Disk) → entered d (in_part e) ≡ d
-
-read_stands : (e : Entry) → IsRead e → Stands e
-read_stands (Returned (map_read name at size answer)) is = record { whole = λ d. refl; part = λ d. refl }
-read_stands (Failed (map_read name at size answer)) is = record { whole = λ d. refl; part = λ d. refl }
-read_stands (Returned (image_read at size answer)) is = record { whole = λ d. refl; part = λ d. refl }
-read_stands (Failed (image_read at size answer)) is = record { whole = λ d. refl; part = λ d. refl }
-read_stands (Returned c) is = absurd (cc)
-read_stands (Failed c) is = absurd (cc)
-
-pub reads_keep : (d : Disk) (es : List Entry) → AreReads es → disk_after d es ≡ d
-reads_keep d [] reads = refl
-reads_keep d (e ∷ es) reads =
-    ap (λ (x : Disk). disk_after x es) ((read_stands e reads.0).whole d) ∙ reads_keep d es reads.1
-
--- one of them was made in any part, whatever follows it
-pub reads_until : (d : Disk) (es more : List Entry) (k : ℕ) → AreReads es → k < length es
-    → disk_after d (until k (es ++ more)) ≡ d
-reads_until d [] more k reads within = let no : ⊥ = omega (arith, within) in absurd no
-reads_until d (e ∷ es) more zero reads within = (read_stands e reads.0).part d
-reads_until d (e ∷ es) more (suc k) reads within =
-    ap (λ (x : Disk). disk_after x (until k (es ++ more))) ((read_stands e reads.0).whole d)
-    ∙ reads_until d es more k reads.1 (omega (arith, within))
-
--- at every stop of them
-pub reads_at : (d : Disk) (es : List Entry) (k : ℕ) → AreReads es → disk_after d (until k es) ≡ d
-reads_at d [] zero reads = refl
-reads_at d [] (suc k) reads = refl
-reads_at d (e ∷ es) zero reads = (read_stands e reads.0).part d
-reads_at d (e ∷ es) (suc k) reads =
-    ap (λ (x : Disk). disk_after x (until k es)) ((read_stands e reads.0).whole d) ∙ reads_at d es k reads.1
-
-pub both_are : (xs ys : List Entry) → AreReads xs → AreReads ys → AreReads (xs ++ ys)
-both_are [] ys a b = b
-both_are (x ∷ xs) ys a b = (a.0, both_are xs ys a.1 b)
-
--- reads of maps that returned
-map_is_read : (c : Call) → is_map_read c ≡ true → is_read c ≡ true
-map_is_read (map_read name at size answer) is = refl
-map_is_read c is = absurd (cc)
-
-abbrev IsMapRead : Call → Type 0
-IsMapRead c = is_map_read c ≡ true
-
-pub maps_are : (calls : List Call) → AreMapReads calls → AreReads (map Returned calls)
-maps_are [] reads = tt
-maps_are (c ∷ calls) reads =
-    (map_is_read c (All-head IsMapRead c calls reads), maps_are calls (All-tail IsMapRead c calls reads))
-
-same_reads : (xs ys : List Entry) → xs ≡ ys → AreReads ys → AreReads xs
-same_reads xs ys is reads = subst AreReads (sym is) reads
-
--- and such of which one failed
-pub maps_broke : (at : SiteCall) (calls : List Call) (old new : List Entry) → AreMapReads calls → AreReads old
-    → BrokeAt at calls old new → AreReads new
-maps_broke at [] old new reads before broke = absurd broke
-maps_broke at (c ∷ calls) old new reads before (inl (name, inl grew)) =
-    same_reads new (old ++ Failed c ∷ []) grew
-    (both_are old (Failed c ∷ []) before (map_is_read c (All-head IsMapRead c calls reads), tt))
-maps_broke at (c ∷ calls) old new reads before (inl (name, inr same)) = same_reads new old same before
-maps_broke at (c ∷ calls) old new reads before (inr broke) =
-    maps_broke at calls (old ++ Returned c ∷ []) new (All-tail IsMapRead c calls reads)
-    (both_are old (Returned c ∷ []) before (map_is_read c (All-head IsMapRead c calls reads), tt)) broke
 
 -- the reads of the image that looks make
 look_is_read : (b : Bool) (at n k : ℕ) → AreReads (map Returned (if b then image_read at n (Some k) ∷ [] else []))

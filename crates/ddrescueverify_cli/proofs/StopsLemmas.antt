@@ -21,6 +21,7 @@ use Rattle.save_resume.specs.SaveStops.{disk_of, text_file, IsOldOrNew, Old, New
 use Rattle.rescue_rules.specs.Start.{Stands as StandsFor}
 use Rattle.rescue_rules.specs.Stops.{has_barrier, is_sync}
 use Rattle.work_rules.specs.Work.{Deeds, Works}
+use Rattle.work_rules.proofs.ReadLemmas.{AreReads, reads_at, reads_keep, reads_until}
 use Rattle.work_rules.proofs.SavedLemmas.{HasSaved, stops_by_save, saved_by, save_after}
 use Rattle.rescue_verify.specs.Across.{across}
 use Rattle.rescue_verify.specs.Looks.{Look, reads_of, seen_in}
@@ -34,7 +35,7 @@ use Rattle.ddrescueverify_cli.specs.Asked.{heading_of, shown_by}
 use Rattle.ddrescueverify_cli.specs.Stops.{CouldBefore, IsVerifiedMap, LeftAt, StopsSafely}
 use Rattle.ddrescueverify_cli.specs.Outside.{Agrees, Found, Outside, place_by}
 use Rattle.ddrescueverify_cli.specs.Work.{Verifies, verify_faults, verify_rows}
-use Rattle.ddrescueverify_cli.proofs.ShapeLemmas.{AreReads, Early, IsNewText, Reads, Saving, Shape, opening, opening_calls, reads_at, reads_keep, reads_until, shape_of}
+use Rattle.ddrescueverify_cli.proofs.ShapeLemmas.{Early, IsNewText, Reads, Saving, Shape, opening, opening_calls, shape_of}
 
 -- ---- a save after other calls
 

@@ -14,7 +14,7 @@ use Rattle.rescue_console.specs.ClockState.{ClockState, Keeps as ClockKeeps, Rea
 use Rattle.rescue_console.specs.ConsoleState.{ConsoleState}
 use Rattle.rescue_console.specs.Speaking.{SpokenPiece as Said, SpeaksOn, out_pieces}
 use Rattle.rescue_console.proofs.SpeakingLemmas.{speeches_join}
-use Rattle.fill_generate.specs.Sweeping.{Around, around, BreaksAfter}
+use Rattle.fill_generate.specs.Sweeping.{around, BreaksAfter}
 use Rattle.fill_generate.specs.Steps.{ObjectsStay}
 
 pub clock_self : (a : ClockState) → ClockKeeps a a

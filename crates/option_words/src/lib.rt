@@ -1,5 +1,5 @@
-//! The words of a command line, read by a table of options, and what the options say: their values, which of them count,
-//! and the first that is bad.
+//! The words of a command line, read by a table of options, and what the options say: their values, which of them
+//! count, and the first that is bad.
 #![tactic(auto)]
 
 mod choice;

@@ -8,7 +8,6 @@ use Rattle.block_list.specs.declared.block.Range.{Range}
 use Rattle.block_list.specs.declared.status.Status.{Status}
 use Rattle.mapfile_text.specs.declared.state.MapState.{MapState}
 use Rattle.faulty_source.specs.Ends.{is_before}
-use Rattle.save_resume.specs.MapNames.{MapNames}
 use Rattle.rescue_rules.specs.declared.phase.Phase.{Phase}
 use Rattle.rescue_rules.specs.declared.phase.Phase.TheVariants.{Copying, Trimming, Scraping}
 use Rattle.rescue_rules.specs.declared.stop.TrimMode.{TrimMode}

@@ -7,7 +7,6 @@ use Rattle.block_list.specs.declared.block.Range.{Range}
 use Rattle.block_list.specs.declared.status.Status.{Status}
 use Rattle.block_list.specs.Status.{same}
 use Rattle.faulty_source.specs.Journal.{floor}
-use Rattle.save_resume.specs.MapNames.{MapNames}
 use Rattle.rescue_domain.specs.Parts.{covers}
 use Rattle.rescue_rules.specs.declared.stop.TrimMode.{TrimMode}
 use Rattle.rescue_rules.specs.declared.stop.TrimMode.TheVariants.{Lead, Tail}

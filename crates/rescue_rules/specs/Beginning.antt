@@ -34,7 +34,7 @@ abbrev pub shown_at_first : Option MapState → MapState
 shown_at_first None = nothing_shown
 shown_at_first (Some state) = state
 
--- what a run has come to as it begins at this time, with so many areas of its domain that have failed
+-- what a run has come to as it begins at this time, with this many areas of its domain that have failed
 abbrev pub tally_at_first : (shown : MapState) → (time areas : ℕ) → Tally
 tally_at_first shown time areas = record {
   failed = 0;

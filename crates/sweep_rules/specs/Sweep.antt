@@ -90,7 +90,7 @@ generator s = record {
   starves = true;
 }
 
--- where a sweep stands: its map, the position that it goes on from, and what it has come to
+-- where a sweep stands: its map, the position from which it looks for its next piece, and what it has come to
 pub record Sweep : Type 0 where
   pub map : List Status
   pub cursor : ℕ

@@ -1,5 +1,5 @@
 -- What a load of a mapfile did, whether the site tells or not.
-use Rattle.std.proofs.Common.{◌≡◌, ◌≢◌, ℕ, IsTrue, List, [], ◌++◌, map, length, Option, Some, None, Result, Ok, Err, IfOk, IfErr, inl, inr, refl, sym, subst, append-nil}
+use Rattle.std.proofs.Common.{◌≡◌, ◌≢◌, ℕ, IsTrue, List, [], length, Option, Some, None, Result, Ok, Err, IfOk, IfErr, inl, inr, refl, sym, subst, append-nil}
 use Rattle.block_list.specs.declared.status.Status.{Status}
 use Rattle.block_list.specs.Map.{extended}
 use Rattle.mapfile_text.specs.declared.state.MapState.{MapState}
@@ -8,18 +8,13 @@ use Rattle.mapfile_text.specs.declared.read.ReadMap.{ReadMap}
 use Rattle.mapfile_text.specs.declared.read.MapError.{MapError}
 use Rattle.mapfile_text.specs.declared.read.MapError.TheVariants.{NoStatusLine}
 use Rattle.crash_site.specs.declared.site.SiteCall.{SiteCall}
-use Rattle.crash_site.specs.declared.site.SiteCall.TheVariants.{MapRead}
 use Rattle.crash_site.specs.Files.{File}
-use Rattle.crash_site.specs.Calls.{Done as Returned}
 use Rattle.crash_site.specs.SiteState.{SiteState, files_in}
 use Rattle.save_resume.specs.MapNames.{MapNames}
-use Rattle.save_resume.specs.Saving.{IsNameIn}
 use Rattle.save_resume.specs.Resuming.{barrier_calls, LoadEnded, StarvedInLoad, BrokeAsResumed, IsReadAs, IsRefusedFor, IsLikeNone, NoFile, Silent, IsResumeCall, IsOfFile}
 use Rattle.save_resume.proofs.AnswerLemmas.{read_is_not_refused, none_says_nothing}
-use Rattle.rescue_rules.specs.Start.{IsFresh, StandsFor, AsNone, AsMap, Stands}
-use Rattle.work_rules.proofs.GainLemmas.{MayGain, may_gain}
-use Rattle.work_rules.proofs.LoadLemmas.{Ended, ended, RanOut, ran_out, BrokeOff, broke_off, read_through, read_refused, read_broke, read_starved}
-use Rattle.work_rules.proofs.BarrierLemmas.{in_load, in_barrier, no_read}
+use Rattle.rescue_rules.specs.Start.{IsFresh, StandsFor, AsNone, Stands}
+use Rattle.work_rules.proofs.LoadedLemmas.{LoadPart, resumes, Resumed, read_stands, went_through, starved, starved_after, resume_refused, resume_broke}
 use Rattle.task_files.specs.declared.ending.Ending.{Ending}
 use Rattle.task_files.specs.declared.ending.Ending.TheVariants.{MapRefused, SiteFault, NoMemory}
 use Rattle.task_files.specs.declared.ending.Which.TheVariants.{RunMap}
@@ -51,62 +46,14 @@ map_starts : (file : Option File) (end : ℕ) (m : ReadMap) (start : LoadedMap) 
     → start.tiles.statuses ≡ extended m.tiles.statuses end → start.state ≡ Some m.state
     → (start.first ≡ m.first) × (start.listed_end ≡ length m.tiles.statuses) → StartsAs end start file
 map_starts file end m start read extends shows lists =
-    let P : Option File → Type 0 = λ f. StandsFor f end start.tiles.statuses start.state in
     record {
-      stands = record {
-        stands = subst P (sym read.is) (AsMap (record {
-          shown = m.state;
-          first = m.first;
-          listed = m.listed;
-          statuses = m.tiles.statuses;
-          reads = read.reads;
-          map_is = extends;
-          state_is = shows;
-        }));
-      };
+      stands = read_stands file end m start.tiles.statuses start.state read extends shows;
       lists = map_lists file m start.first start.listed_end read lists.0 lists.1;
     }
 
--- a load that went on to its end after the barrier: with what the rescue begins with, or memory ran out for that
-load_starts : (names : MapNames) (end : ℕ) (start : LoadedMap) (P : Option File → Type 0) (old new : SiteState)
-    → (e : Ended (barrier_calls names) names.map P old new) → ((v : Ending) → MapfileRefused e.file v → ⊥)
-    → StartsAs end start e.file → Loads (Some names.map) end (Ok start) old new
-load_starts names end start P old new e pass starts = record {
-  file = e.file;
-  calls = map Returned (barrier_calls names ++ e.load);
-  is_own = e.is_own;
-  gained = e.gained;
-  did = (
-    starts,
-    (
-      map Returned e.load,
-      refl,
-      read_through rescue_faults (MapfileRefused e.file) names.map e.file e.load e.is_load pass,
-    ),
-  );
-}
-
-load_starves : (names : MapNames) (end : ℕ) (v : Ending) (P : Option File → Type 0) (old new : SiteState)
-    → Ended (barrier_calls names) names.map P old new → v ≡ NoMemory → Loads (Some names.map) end (Err v) old new
-load_starves names end v P old new e is =
-    subst (λ (x : Ending). Loads (Some names.map) end (Err x) old new) (sym is)
-    (record {
-      file = e.file;
-      calls = map Returned (barrier_calls names ++ e.load);
-      is_own = e.is_own;
-      gained = e.gained;
-      did = inr (
-        map Returned e.load,
-        refl,
-        read_starved rescue_faults (MapfileRefused e.file) names.map e.file e.load e.is_load.begins,
-      );
-    })
-
--- what a resume of a mapfile says if the site tells: this of its file, and the reads of a load after the barrier
-abbrev Resumed : MapNames → (Option File → Type 0) → (old new : SiteState) → Type 0
-Resumed names P old new =
-    IsTrue old.tells → P (files_in old names.map)
-    × LoadEnded (barrier_calls names) names.map (files_in old names.map) old.calls new.calls
+-- a rescue resumes its mapfile: it begins with what the mapfile stands for
+abbrev loading : MapNames → (end : ℕ) → LoadPart Ending LoadedMap
+loading names end = resumes rescue_faults MapfileRefused (StartsAs end) names
 
 -- the mapfile says nothing
 pub fresh_loads : (names : MapNames) (end : ℕ) (r : Result LoadedMap Ending) (old new : SiteState) → Resumed names IsLikeNone old new
@@ -115,12 +62,11 @@ pub fresh_loads : (names : MapNames) (end : ℕ) (r : Result LoadedMap Ending) (
     → IfOk r (λ start. (start.first ≡ 0) × (start.listed_end ≡ 0)) → IfErr r (λ e. e ≡ NoMemory)
     → Loads (Some names.map) end r old new
 fresh_loads names end (Ok start) old new told of fresh lists starved =
-    let e : Ended (barrier_calls names) names.map IsLikeNone old new = ended (barrier_calls names) names.map IsLikeNone old new told of in
-    load_starts names end start IsLikeNone old new e
-    (λ v refused. refused.2 (none_says_nothing e.file Tight refused.0 e.holds refused.1))
-    (none_starts e.file end start e.holds fresh lists)
+    went_through (loading names end) old new start IsLikeNone told of
+    (λ file none. none_starts file end start none fresh lists)
+    (λ file v none refused. refused.2 (none_says_nothing file Tight refused.0 none refused.1))
 fresh_loads names end (Err v) old new told of fresh lists starved =
-    load_starves names end v IsLikeNone old new (ended (barrier_calls names) names.map IsLikeNone old new told of) starved
+    starved_after (loading names end) old new v IsLikeNone told of starved
 
 -- it is a map
 pub map_loads : (names : MapNames) (end : ℕ) (m : ReadMap) (r : Result LoadedMap Ending) (old new : SiteState)
@@ -130,14 +76,11 @@ pub map_loads : (names : MapNames) (end : ℕ) (m : ReadMap) (r : Result LoadedM
     → IfOk r (λ start. (start.first ≡ m.first) × (start.listed_end ≡ length m.tiles.statuses))
     → IfErr r (λ e. e ≡ NoMemory) → Loads (Some names.map) end r old new
 map_loads names end m (Ok start) old new told of extends shows lists starved =
-    let P : Option File → Type 0 = λ file. IsReadAs file Tight m in
-    let e : Ended (barrier_calls names) names.map P old new = ended (barrier_calls names) names.map P old new told of in
-    load_starts names end start P old new e
-    (λ v refused. read_is_not_refused e.file Tight m refused.0 e.holds refused.1)
-    (map_starts e.file end m start e.holds extends shows lists)
+    went_through (loading names end) old new start (λ file. IsReadAs file Tight m) told of
+    (λ file read. map_starts file end m start read extends shows lists)
+    (λ file v read refused. read_is_not_refused file Tight m refused.0 read refused.1)
 map_loads names end m (Err v) old new told of extends shows lists starved =
-    let P : Option File → Type 0 = λ file. IsReadAs file Tight m in
-    load_starves names end v P old new (ended (barrier_calls names) names.map P old new told of) starved
+    starved_after (loading names end) old new v (λ file. IsReadAs file Tight m) told of starved
 
 -- it is refused
 pub refused_loads : (names : MapNames) (end : ℕ) (error : MapError) (old new : SiteState)
@@ -146,84 +89,21 @@ pub refused_loads : (names : MapNames) (end : ℕ) (error : MapError) (old new :
     → IsOfFile (files_in old names.map) old.tells (λ file. IsRefusedFor file Tight error × (error ≢ NoStatusLine))
     → Loads (Some names.map) end (Err (MapRefused RunMap error)) old new
 refused_loads names end error old new told of =
-    let P : Option File → Type 0 = λ file. IsRefusedFor file Tight error × (error ≢ NoStatusLine) in
-    let e : Ended (barrier_calls names) names.map P old new =
-    ended (barrier_calls names) names.map P old new (λ t. (((told t).0, (told t).1), (told t).2)) of in
-    record {
-      file = e.file;
-      calls = map Returned (barrier_calls names ++ e.load);
-      is_own = e.is_own;
-      gained = e.gained;
-      did = inr (
-        map Returned e.load,
-        refl,
-        read_refused rescue_faults (MapfileRefused e.file) names.map e.file (MapRefused RunMap error) e.load e.is_load
-            (error, e.holds.0, e.holds.1, refl),
-      );
-    }
+    resume_refused rescue_faults MapfileRefused (StartsAs end) names old new (MapRefused RunMap error) error told of
+    (λ file why says. (error, why, says, refl))
 
 -- memory ran out as it was read
 pub starved_loads : (names : MapNames) (end : ℕ) (old new : SiteState)
     → (IsTrue old.tells → StarvedInLoad (barrier_calls names) names.map (files_in old names.map) old.calls new.calls)
     → Loads (Some names.map) end (Err NoMemory) old new
-starved_loads names end old new told =
-    let l : RanOut (barrier_calls names) names.map old new = ran_out (barrier_calls names) names.map old new told in
-    record {
-      file = l.file;
-      calls = map Returned (barrier_calls names ++ l.load);
-      is_own = l.is_own;
-      gained = l.gained;
-      did = inr (
-        map Returned l.load,
-        refl,
-        read_starved rescue_faults (MapfileRefused l.file) names.map l.file l.load l.begins,
-      );
-    }
-
-barrier_broke : (names : MapNames) (end : ℕ) (call : SiteCall) (old new : SiteState) → IsNameIn call (barrier_calls names)
-    → (IsTrue old.tells → BrokeAsResumed names (files_in old names.map) call old.calls new.calls)
-    → Loads (Some names.map) end (Err (SiteFault call None)) old new
-barrier_broke names end call old new named told =
-    let g : MayGain old.tells call (barrier_calls names) old.calls new.calls =
-    may_gain old.tells call (barrier_calls names) old.calls new.calls named
-    (λ t. in_barrier names (files_in old names.map) call old.calls new.calls named (told t)) in
-    record {
-      file = files_in old names.map;
-      calls = g.more;
-      is_own = λ t. refl;
-      gained = g.grew;
-      did = inl (call, refl, g.broke, record { opens = refl; reads = refl; times = refl });
-    }
-
-read_broken : (names : MapNames) (end : ℕ) (old new : SiteState)
-    → (IsTrue old.tells → BrokeAsResumed names (files_in old names.map) MapRead old.calls new.calls)
-    → Loads (Some names.map) end (Err (SiteFault MapRead None)) old new
-read_broken names end old new told =
-    let b : BrokeOff (barrier_calls names) names.map old new =
-    broke_off (barrier_calls names) names.map old new (no_read names)
-    (λ t. in_load names (files_in old names.map) old.calls new.calls (told t)) in
-    record {
-      file = b.file;
-      calls = map Returned (barrier_calls names) ++ b.calls;
-      is_own = b.is_own;
-      gained = b.gained;
-      did = inr (
-        b.calls,
-        refl,
-        read_broke rescue_faults (MapfileRefused b.file) names.map b.file b.load b.calls b.begins b.broke,
-      );
-    }
+starved_loads names end old new told = starved (loading names end) old new told
 
 -- a call failed
 pub broken_loads : (names : MapNames) (end : ℕ) (call : SiteCall) (old new : SiteState) → IsResumeCall call
     → (IsTrue old.tells → BrokeAsResumed names (files_in old names.map) call old.calls new.calls)
     → Loads (Some names.map) end (Err (SiteFault call None)) old new
-broken_loads names end call old new (inl is) told = barrier_broke names end call old new (inl is) told
-broken_loads names end call old new (inr (inl is)) told = barrier_broke names end call old new (inr (inl is)) told
-broken_loads names end call old new (inr (inr is)) told =
-    subst (λ (c : SiteCall). Loads (Some names.map) end (Err (SiteFault c None)) old new) (sym is)
-    (read_broken names end old new
-    (λ t. subst (λ (c : SiteCall). BrokeAsResumed names (files_in old names.map) c old.calls new.calls) is (told t)))
+broken_loads names end call old new is told =
+    resume_broke rescue_faults MapfileRefused (StartsAs end) names old new call is told
 
 -- without a mapfile there is nothing to load
 pub none_loads : (end : ℕ) (r : Result LoadedMap Ending) (site : SiteState)

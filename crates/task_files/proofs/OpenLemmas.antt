@@ -1,5 +1,6 @@
 -- What the open of the output did, whether the site tells or not.
 use Rattle.std.proofs.Common.{◌≡◌, ℕ, Bool, true, false, IsTrue, List, [], ◌∷◌, ◌++◌, Option, Some, None, Ok, Err, not, if◌then◌else◌, refl, sym, ◌∙◌, inl, inr}
+use Rattle.std.specs.Prelude.{⊤}
 use Rattle.crash_site.specs.declared.site.SiteCall.TheVariants.{ImageOpen}
 use Rattle.crash_site.specs.declared.site.ImageKind.{ImageKind}
 use Rattle.crash_site.specs.declared.site.ImageKind.TheVariants.{Regular, Other, Absent as NoImage}
@@ -8,14 +9,14 @@ use Rattle.crash_site.specs.FileAnswers.{is_absent, kind_of}
 use Rattle.crash_site.specs.Calls.{Done as Returned, image_open}
 use Rattle.crash_site.specs.CallsMade.{Lost}
 use Rattle.crash_site.specs.SiteState.{SiteState, files_in}
-use Rattle.work_rules.specs.Work.{IsIdle}
+use Rattle.work_rules.specs.Work.{IsIdle, Look}
 use Rattle.work_rules.specs.Parts.{StoppedIn, WentThrough, only_calls}
-use Rattle.work_rules.proofs.GainLemmas.{MayGain, may_gain}
 use Rattle.work_rules.proofs.LoadLemmas.{by_tells}
+use Rattle.work_rules.proofs.LoadedLemmas.{broke_first}
 use Rattle.task_files.specs.declared.ending.Ending.{Ending}
 use Rattle.task_files.specs.declared.ending.Ending.TheVariants.{NoOutput, NotRegular, SiteFault}
 use Rattle.task_files.specs.Refusals.{is_other, OutputMissing, OutputRefused}
-use Rattle.task_files.specs.Work.{output_rows, rescue_faults}
+use Rattle.task_files.specs.Work.{missing_rows, output_rows, rescue_faults}
 use Rattle.task_files.specs.Steps.{OpensOutput}
 
 -- the kind that an open answers
@@ -169,12 +170,6 @@ pub output_failed : (makes forced : Bool) (out : List ℕ) (old new : SiteState)
     → (IsTrue old.tells → Lost (image_open out makes) old.calls new.calls)
     → OpensOutput {T = Unit {0}} makes forced out (Err (SiteFault ImageOpen None)) old new
 output_failed makes forced out old new lost =
-    let g : MayGain old.tells ImageOpen (image_open out makes ∷ []) old.calls new.calls =
-    may_gain old.tells ImageOpen (image_open out makes ∷ []) old.calls new.calls (inl refl) (λ t. inl (refl, lost t)) in
-    record {
-      file = files_in old out;
-      calls = g.more;
-      is_own = λ t. refl;
-      gained = g.grew;
-      did = inl (ImageOpen, refl, g.broke, record { opens = refl; reads = refl; times = refl });
-    }
+    broke_first rescue_faults (image_open out makes ∷ [])
+    (λ file. missing_rows makes file ++ Look (OutputRefused forced file) ∷ []) (files_in old out) (λ x file. ⊤) ImageOpen
+    old new (inl refl) (λ t. inl (refl, lost t))

@@ -1,6 +1,6 @@
-use Rattle.std.proofs.Common.{◌≡◌, Bool, true, false, length, sym, subst, ◌∙◌}
+use Rattle.std.proofs.Common.{Bool, true, false, length, sym, subst, ◌∙◌}
 use Rattle.save_resume.specs.Saving.{Saves}
-use Rattle.rescue_core.specs.RunState.{RunState, run_at, IsRunning, HasCounts}
+use Rattle.rescue_core.specs.RunState.{RunState, IsRunning, HasCounts}
 use Rattle.rescue_core.proofs.TurnCallLemmas.{save_if}
 use Rattle.rescue_core.proofs.KeeperLemmas.{heading_stays}
 use Rattle.rescue_core.proofs.running.Running.save_due.Goals as goal
