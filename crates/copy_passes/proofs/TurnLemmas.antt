@@ -35,12 +35,12 @@ use Rattle.rescue_rules.proofs.ReadyLemmas.{ready_here}
 use Rattle.rescue_rules.proofs.SearchLemmas.{request_seen}
 use Rattle.rescue_domain.specs.Parts.{covers}
 use Rattle.rescue_core.specs.declared.turn.Turn.{Turn}
-use Rattle.rescue_core.specs.Across.{Across, across}
+use Rattle.rescue_core.specs.Across.{Across, across, ObjectsStay}
 use Rattle.rescue_core.specs.RunState.{RunState, setting_in, passed, HasPlaces}
 use Rattle.rescue_core.specs.Turning.{IsEvent, move_by, Turned, Halted, stepped, move_pieces}
 use Rattle.rescue_core.specs.Closing.{drafting_at_stop}
 use Rattle.rescue_core.proofs.TurnEndLemmas.{says_none}
-use Rattle.copy_passes.specs.Turns.{IsAlike, moved_to, Went, WentUpTo, ObjectsStay, WentByTurns}
+use Rattle.copy_passes.specs.Turns.{IsAlike, moved_to, Went, WentUpTo, WentByTurns}
 use Rattle.copy_passes.specs.Copying.{MayCopy}
 use Rattle.copy_passes.proofs.AlikeLemmas.{alike_by, alike_on, next_pass_is_alike, RunMore, run_more}
 use Rattle.copy_passes.proofs.CopyingLemmas.{ahead_of, CopyStep, copy_steps, two_of, copying_passed}

@@ -4,8 +4,8 @@ use Rattle.faulty_source.specs.Journal.{IsFrom}
 use Rattle.faulty_source.specs.SourceState.{SourceState}
 use Rattle.faulty_source.specs.SourceChanges.{Stays as SourceStays, Reads}
 use Rattle.crash_site.specs.SiteState.{SiteState}
-use Rattle.crash_site.specs.SiteChanges.{Keeps as SiteKeeps, Makes}
-use Rattle.rescue_console.specs.ClockState.{ClockState, Keeps as ClockKeeps, Reads as ReadsClock}
+use Rattle.crash_site.specs.SiteChanges.{Makes}
+use Rattle.rescue_console.specs.ClockState.{ClockState, Reads as ReadsClock}
 use Rattle.rescue_console.specs.ConsoleState.{ConsoleState}
 use Rattle.rescue_console.specs.Speaking.{SpeaksOn, out_pieces}
 use Rattle.rescue_domain.specs.Parts.{covers}
@@ -19,7 +19,7 @@ use Rattle.rescue_rules.specs.Events.{reads_of, times_of}
 use Rattle.rescue_rules.specs.RunCalls.{run_calls}
 use Rattle.rescue_rules.specs.Lines.{run_lines}
 use Rattle.rescue_rules.specs.Laws.{AreTimes}
-use Rattle.rescue_core.specs.Across.{Across}
+use Rattle.rescue_core.specs.Across.{Across, ObjectsStay}
 use Rattle.rescue_core.specs.RunState.{RunState, setting_in, HasPlaces}
 use Rattle.rescue_core.specs.Turning.{Halted}
 use Rattle.rescue_core.specs.Closing.{StoppedState, drafting_at_stop}
@@ -75,13 +75,6 @@ pub record WentUpTo (stop : Stop) (r r' : RunState) (o : Across) : Type 0 where
     console = console_between;
   })
   pub draft : o.site'.is_drafting ≡ drafting_at_stop stop
-
--- what stays of the objects while turns are taken; the output stays open
-pub record ObjectsStay (o : Across) : Type 0 where
-  pub source : SourceStays o.source o.source'
-  pub site : SiteKeeps o.site o.site'
-  pub image : o.site'.is_open ≡ true
-  pub clock : ClockKeeps o.clock o.clock'
 
 -- a run has gone on by whole turns, and may take more of them
 pub record WentByTurns (r r' : RunState) (o : Across) : Type 0 where

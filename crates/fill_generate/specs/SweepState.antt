@@ -48,11 +48,15 @@ state_at settings domain map mode cursor keeper = record {
   heard = keeper.heard;
 }
 
--- what holds of a sweep between its pieces: its domain lies in its map, and has places in the output
-pub record IsSweeping (r : SweepState) : Type 0 where
-  pub sound : IsSound r.settings
-  pub suits : Suits r.settings (covers r.domain) (length r.sweep.map)
-  pub places : HasPlaces r.settings (covers r.domain)
+-- settings of a sweep within their limits, and a domain that lies in its map and has places in the output
+pub record CanSweep (settings : Settings) (domain : List Range) (map : List Status) : Type 0 where
+  pub sound : IsSound settings
+  pub suits : Suits settings (covers domain) (length map)
+  pub places : HasPlaces settings (covers domain)
+
+-- what holds of a sweep between its pieces
+abbrev pub IsSweeping : SweepState → Type 0
+IsSweeping r = CanSweep r.settings r.domain r.sweep.map
 
 -- this sweep at another state
 abbrev pub standing : SweepState → Sweep → SweepState

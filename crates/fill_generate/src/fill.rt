@@ -3,11 +3,9 @@ ghost use Rattle.std.specs.Prelude.{◌≡◌, ◌+◌, ⊤, true, false, length
 ghost use Rattle.crash_site.specs.SiteChanges.{Keeps as SiteKeeps};
 ghost use Rattle.rescue_console.specs.ClockState.{Keeps as ClockKeeps};
 ghost use Rattle.mapfile_text.specs.declared.heading.Program.TheVariants.{Ddrescue};
-ghost use Rattle.rescue_domain.specs.Parts.{covers};
-ghost use Rattle.rescue_core.specs.RunState.{IsSound, Suits, HasPlaces};
 ghost use Rattle.sweep_rules.specs.Sweep.{filler, sweep_over};
 ghost use Rattle.fill_generate.specs.declared.mode.SweepMode.TheVariants.{Fill};
-ghost use Rattle.fill_generate.specs.SweepState.{setting_for, setting_of};
+ghost use Rattle.fill_generate.specs.SweepState.{CanSweep, setting_for, setting_of};
 ghost use Rattle.fill_generate.specs.Steps.{IsFound, PieceEnds, PiecesEnd, ObjectsStay, gone_to};
 ghost use Rattle.fill_generate.specs.Sweeping.{SweepTold, drafting_after, around};
 
@@ -35,9 +33,7 @@ pub fn run_fill<D: Site, K: Clock, C: Console, T: Tiles>(
     console: &mut C,
 ) -> Closed
     requires room { length buffer.now ≡ job.settings.cluster }
-    requires sound { IsSound job.settings }
-    requires suits { Suits job.settings (covers job.domain) (length (T.statuses job.tiles)) }
-    requires places { HasPlaces job.settings (covers job.domain) }
+    requires sweeps { CanSweep job.settings job.domain (T.statuses job.tiles) }
     requires program { job.heading.program ≡ Ddrescue }
     requires image { (D.state site.old).is_open ≡ true }
     requires no_draft { (D.state site.old).is_drafting ≡ false }

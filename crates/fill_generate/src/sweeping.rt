@@ -5,19 +5,17 @@ ghost use Rattle.rescue_console.specs.ClockState.{Keeps as ClockKeeps};
 ghost use Rattle.rescue_console.specs.Speaking.{SpeaksOn, out_pieces};
 ghost use Rattle.mapfile_text.specs.declared.heading.Program.TheVariants.{Ddrescue};
 ghost use Rattle.save_resume.specs.Saving.{save_calls, Saves};
-ghost use Rattle.rescue_domain.specs.Parts.{covers};
 ghost use Rattle.rescue_rules.specs.Setting.{place};
 ghost use Rattle.rescue_rules.specs.Said.{is_line_due};
 ghost use Rattle.rescue_rules.specs.Step.{save_interval};
 ghost use Rattle.rescue_rules.specs.Snapshots.{text_of};
 ghost use Rattle.rescue_rules.specs.Lines.{phase_front, last_front, report_text, is_done};
 ghost use Rattle.rescue_core.specs.Closing.{MayClose, drafting_at_stop};
-ghost use Rattle.rescue_core.specs.RunState.{IsSound, Suits, HasPlaces};
 ghost use Rattle.sweep_rules.specs.Sweep.{Sweeper, sweep_over, sweep_from, sweep_snapshot, IsSweptOut};
 ghost use Rattle.sweep_rules.specs.SweepWork.{sweep_report};
 ghost use Rattle.fill_generate.specs.Sweeping.{around};
 ghost use Rattle.fill_generate.specs.Modes.{current_in, IsSweeperOf};
-ghost use Rattle.fill_generate.specs.SweepState.{setting_of, standing, moved};
+ghost use Rattle.fill_generate.specs.SweepState.{CanSweep, setting_of, standing, moved};
 ghost use Rattle.fill_generate.specs.Steps.{IsFound, ClosesFiles, EndsPiece, LooksUp, LooksNot};
 
 use crate::job::Job;
@@ -90,9 +88,7 @@ fn first_cursor(loaded: Option<MapState>, current: Current) -> u64
 impl<T: Tiles> Sweeping<T> {
     /// A sweep of a kind, as it begins.
     pub fn begin(job: Job<T>, mode: SweepMode) -> Sweeping<T>
-        requires sound { IsSound job.settings }
-        requires suits { Suits job.settings (covers job.domain) (length (T.statuses job.tiles)) }
-        requires places { HasPlaces job.settings (covers job.domain) }
+        requires sweeps { CanSweep job.settings job.domain (T.statuses job.tiles) }
         requires program { job.heading.program ≡ Ddrescue }
         ensures { (w : Sweeper) → IsSweeperOf mode w → result ≡ record {
           settings = job.settings;

@@ -8,7 +8,7 @@ ghost use Rattle.block_list.specs.declared.status.Status.TheVariants.{NonTried, 
 ghost use Rattle.rescue_rules.specs.Passes.{numbered};
 ghost use Rattle.rescue_rules.specs.Machine.{IsRequest, has_request};
 ghost use Rattle.rescue_rules.specs.Moves.{ready, no_pass_left};
-ghost use Rattle.rescue_core.specs.Across.{across};
+ghost use Rattle.rescue_core.specs.Across.{ObjectsStay, across};
 ghost use Rattle.rescue_core.specs.RunState.{RunState, setting_in, IsSound, Suits, HasPlaces, started, passed, run_showing, IsGone};
 ghost use Rattle.rescue_domain.specs.Parts.{covers};
 ghost use Rattle.rescue_core.specs.Turning.{Turned, Halted};
@@ -289,10 +289,8 @@ impl<P: Stage, T: Tiles> Rescue<P, T> {
             (C.state console.old) (C.state console.new))) }
         ensures draft { OnOk result ((D.state site.new).is_drafting ≡ false) }
         ensures draft_left { IfErr result (λ stop. (D.state site.new).is_drafting ≡ drafting_at_stop stop) }
-        ensures image { (D.state site.new).is_open ≡ true }
-        ensures source { SourceStays (S.state source.old) (S.state source.new) }
-        ensures site { SiteKeeps (D.state site.old) (D.state site.new) }
-        ensures clock { ClockKeeps (K.state clock.old) (K.state clock.new) }
+        ensures objects { ObjectsStay (across (S.state source.old) (S.state source.new) (D.state site.old)
+            (D.state site.new) (K.state clock.old) (K.state clock.new) (C.state console.old) (C.state console.new)) }
     {
         self.running.turn(request, source, site, clock, console)
     }

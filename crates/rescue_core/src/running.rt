@@ -13,7 +13,7 @@ ghost use Rattle.rescue_rules.specs.Machine.{IsRequest, has_request};
 ghost use Rattle.rescue_rules.specs.Step.{limit_met as limit_by};
 ghost use Rattle.rescue_rules.specs.Snapshots.{text_of, snapshot_of};
 ghost use Rattle.rescue_rules.specs.Lines.{phase_front, report_of, report_text};
-ghost use Rattle.rescue_core.specs.Across.{across};
+ghost use Rattle.rescue_core.specs.Across.{ObjectsStay, across};
 ghost use Rattle.rescue_core.specs.RunState.{names_in, setting_in, IsRunning, IsSound, Suits, HasPlaces, started, passed, run_showing};
 ghost use Rattle.rescue_core.specs.Turning.{Turned, Halted};
 ghost use Rattle.rescue_core.specs.TurnParts.{Advances};
@@ -193,10 +193,8 @@ impl<T: Tiles> Running<T> {
             (C.state console.old) (C.state console.new))) }
         ensures draft { OnOk result ((D.state site.new).is_drafting ≡ false) }
         ensures draft_left { IfErr result (λ stop. (D.state site.new).is_drafting ≡ drafting_at_stop stop) }
-        ensures image { (D.state site.new).is_open ≡ true }
-        ensures source { SourceStays (S.state source.old) (S.state source.new) }
-        ensures site { SiteKeeps (D.state site.old) (D.state site.new) }
-        ensures clock { ClockKeeps (K.state clock.old) (K.state clock.new) }
+        ensures objects { ObjectsStay (across (S.state source.old) (S.state source.new) (D.state site.old)
+            (D.state site.new) (K.state clock.old) (K.state clock.new) (C.state console.old) (C.state console.new)) }
         ensures running { (room : ℕ) × IsRunning self.old room }
     {
         let Advanced {

@@ -38,7 +38,7 @@ use Rattle.task_files.specs.declared.ending.Ended.{Ended}
 use Rattle.task_files.specs.declared.ending.Ending.{Ending}
 use Rattle.task_files.specs.declared.ending.Ending.TheVariants.{NoMap, NotRegular, MapRefused, NoOutput, SiteFault, NoMemory}
 use Rattle.task_files.specs.Names.{AreNamedApart, first_same}
-use Rattle.task_files.specs.Asked.{Maps, names_by, setting_of}
+use Rattle.task_files.specs.Asked.{ArePlacedBy, Maps, names_by, setting_of}
 use Rattle.task_files.specs.Maps.{Found, AreAskedFor, AreMapsIn, IsListing, MapfileLists, file_of, mapfile_of}
 use Rattle.task_files.specs.Outside.{Outside, HasGainedReads, Agrees}
 use Rattle.work_rules.specs.Opens.{AreOpens}
@@ -70,6 +70,12 @@ pub record SuitsInput (end : ℕ) (map : List Status) (state : Option MapState) 
   pub short : length map < 2 ^ 63
   pub pos : IfSome state (λ shown. shown.pos < 2 ^ 63)
   pub pass : IfSome state (λ shown. 0 < shown.pass)
+
+-- a map and a state to begin with, for an input with this end, each position of which has a place in the output
+pub record CanBegin (o : Options) (end : ℕ) (map : List Status) (state : Option MapState) : Type 0 where
+  pub placed : ArePlacedBy o end
+  pub end_max : end < 2 ^ 63
+  pub fits : SuitsInput end map state
 
 -- why the output wasn't opened, by the count of failed calls
 abbrev pub OutputCause : Ending → (faults faults' : ℕ) → Type 0

@@ -5,9 +5,9 @@ ghost use Rattle.crash_site.specs.SiteChanges.{Keeps as SiteKeeps};
 ghost use Rattle.rescue_console.specs.ClockState.{Keeps as ClockKeeps};
 ghost use Rattle.block_list.specs.Tiled.{Tiled};
 ghost use Rattle.ddrescue_words.specs.Asking.{told_by};
-ghost use Rattle.task_files.specs.Asked.{setting_of, ArePlacedBy};
+ghost use Rattle.task_files.specs.Asked.{setting_of};
 ghost use Rattle.task_files.specs.Answers.{Causes, drafting_left};
-ghost use Rattle.task_files.specs.Steps.{ending_of, heard_after, maps_read, statuses_in, DidRun, SuitsInput, IsPlanned, DidAfterMaps, Worked};
+ghost use Rattle.task_files.specs.Steps.{ending_of, heard_after, maps_read, statuses_in, DidRun, CanBegin, IsPlanned, DidAfterMaps, Worked};
 ghost use Rattle.task_rescue.specs.Running.{AreReady};
 ghost use Rattle.rescue_core.specs.Across.{across};
 
@@ -54,9 +54,7 @@ fn run<S: Source, D: Site, K: Clock, C: Console>(
 ) -> Ended
     requires ready { AreReady (S.state source.old) (D.state site.old) }
     requires planned { IsPlanned plan }
-    requires placed { ArePlacedBy (told_by plan.command).options loaded.end }
-    requires end { loaded.end < 2 ^ 63 }
-    requires fits { SuitsInput loaded.end loaded.map.tiles.statuses loaded.map.state }
+    requires begins { CanBegin (told_by plan.command).options loaded.end loaded.map.tiles.statuses loaded.map.state }
     ensures ran { (test : Option Tiled) → DidRun (setting_of (told_by plan.entry.command) plan.entry.heading.line
         loaded.end (maps_read (told_by plan.entry.command).options loaded.domain_map test loaded.map)) None
         loaded.map.tiles.statuses loaded.map.state plan.entry.heard result.heard result.ending (across
@@ -101,9 +99,8 @@ fn run_tested<S: Source, D: Site, K: Clock, C: Console>(
 ) -> Ended
     requires ready { AreReady (S.state source.old) (D.state site.old) }
     requires planned { IsPlanned plan }
-    requires placed { ArePlacedBy (told_by plan.command).options files.loaded.end }
-    requires end { files.loaded.end < 2 ^ 63 }
-    requires fits { SuitsInput files.loaded.end files.loaded.map.tiles.statuses files.loaded.map.state }
+    requires begins { CanBegin (told_by plan.command).options files.loaded.end files.loaded.map.tiles.statuses
+        files.loaded.map.state }
     ensures ran { DidRun (setting_of (told_by plan.entry.command) plan.entry.heading.line files.loaded.end
         (maps_read (told_by plan.entry.command).options files.loaded.domain_map files.test_map files.loaded.map))
         (statuses_in files.test_map) files.loaded.map.tiles.statuses files.loaded.map.state plan.entry.heard

@@ -5,9 +5,9 @@ ghost use Rattle.faulty_source.specs.SourceChanges.{Keeps as SourceKeeps};
 ghost use Rattle.crash_site.specs.SiteChanges.{Keeps as SiteKeeps};
 ghost use Rattle.rescue_console.specs.ClockState.{Keeps as ClockKeeps};
 ghost use Rattle.ddrescue_words.specs.Asking.{told_by};
-ghost use Rattle.task_files.specs.Asked.{ArePlacedBy, setting_of};
+ghost use Rattle.task_files.specs.Asked.{setting_of};
 ghost use Rattle.task_files.specs.Answers.{Causes, drafting_left};
-ghost use Rattle.task_files.specs.Steps.{ending_of, heard_after, maps_read, SuitsInput, IsPlanned};
+ghost use Rattle.task_files.specs.Steps.{ending_of, heard_after, maps_read, CanBegin, IsPlanned};
 ghost use Rattle.task_sweeps.specs.SweepSteps.{DidGenerate, SweepCause, WorkedGenerate};
 ghost use Rattle.rescue_core.specs.Across.{across};
 
@@ -39,9 +39,7 @@ fn run<D: Site, K: Clock, C: Console>(
     requires no_draft { (D.state site.old).is_drafting ≡ false }
     requires planned { IsPlanned plan }
     requires named { is_some (told_by plan.command).mapfile ≡ true }
-    requires placed { ArePlacedBy (told_by plan.command).options loaded.end }
-    requires end { loaded.end < 2 ^ 63 }
-    requires fits { SuitsInput loaded.end loaded.map.tiles.statuses loaded.map.state }
+    requires begins { CanBegin (told_by plan.command).options loaded.end loaded.map.tiles.statuses loaded.map.state }
     ensures ran { (test : Option Tiled) →
         let c = told_by plan.entry.command in
         let maps = maps_read c.options loaded.domain_map test loaded.map in

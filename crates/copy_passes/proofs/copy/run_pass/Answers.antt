@@ -20,12 +20,7 @@ returns-in_err-turn g c =
         halted = halts _ _ _ _ _ _ _ _ _ _ _ _ _ _ _ _ _ c.turns.invariant.0 c.turns.invariant.1.within
             c.in-Some.ensures.some
             c.in_err-turn.ensures.halted c.in_err-turn.ensures.draft_left;
-        objects = objects_stay _ _ _ _ _ _ _ _ _ _ _ _ c.turns.invariant.0.objects (record {
-          source = c.turn.ensures.source;
-          site = c.turn.ensures.site;
-          image = c.turn.ensures.image;
-          clock = c.turn.ensures.clock;
-        });
+        objects = objects_stay _ _ _ _ _ _ _ _ _ _ _ _ c.turns.invariant.0.objects c.turn.ensures.objects;
       };
       copying = tt;
       pass = tt;
@@ -35,12 +30,7 @@ returns-in_err-turn g c =
 pub turns-preserved : goal.turns-preserved
 turns-preserved g c = (
   goes_on_by_turn _ _ _ _ _ _ _ _ _ _ _ _ _ _ _ _ _ c.turns.invariant.0 c.turns.invariant.1.within c.in-Some.ensures.some
-      c.in_ok-turn.ensures.turned c.in_ok-turn.ensures.draft (record {
-        source = c.turn.ensures.source;
-        site = c.turn.ensures.site;
-        image = c.turn.ensures.image;
-        clock = c.turn.ensures.clock;
-      }),
+      c.in_ok-turn.ensures.turned c.in_ok-turn.ensures.draft c.turn.ensures.objects,
   copies_on _ _ _ _ _ c.turns.invariant.1 c.in-Some.ensures.some c.in_ok-turn.ensures.turned,
   ap (λ (q : RunState). q.pass) c.in_ok-turn.ensures.turned.steps ∙ c.turns.invariant.2,
 )

@@ -11,14 +11,14 @@ pub run_rescue-closed-requires-clause-copying : goal.run_rescue-closed-requires-
 run_rescue-closed-requires-clause-copying g c =
     let loaded = c.args.loaded in
     let maps : Maps = maps_read c.args.plan.command.options loaded.domain_map None loaded.map in
-    (c.begin-rescue.ensures loaded.end maps loaded.map.tiles.statuses loaded.map.state c.requires.placed c.requires.fits
+    (c.begin-rescue.ensures loaded.end maps loaded.map.tiles.statuses loaded.map.state c.requires.begins.placed c.requires.begins.fits
     (c.in-Ok.ensures.ready None)).copying
 
 pub run_rescue-closed-requires-clause-places : goal.run_rescue-closed-requires-clause-places
 run_rescue-closed-requires-clause-places g c =
     let loaded = c.args.loaded in
     let maps : Maps = maps_read c.args.plan.command.options loaded.domain_map None loaded.map in
-    (c.begin-rescue.ensures loaded.end maps loaded.map.tiles.statuses loaded.map.state c.requires.placed c.requires.fits
+    (c.begin-rescue.ensures loaded.end maps loaded.map.tiles.statuses loaded.map.state c.requires.begins.placed c.requires.begins.fits
     (c.in-Ok.ensures.ready None)).places
 
 pub returns-in_default-clause-ran : goal.returns-in_default-clause-ran
@@ -43,7 +43,7 @@ returns-clause-ran g c = λ test.
     (g.C.Console.state c.say_line-heard.new.console) (g.C.Console.state c.run_rescue-closed.new.console))
     (g.K.Clock.state c.args.clock.now) (g.C.Console.state c.args.console.now) c.requires.planned.names
     (c.in-Ok.ensures.ready test)
-    (c.begin-rescue.ensures loaded.end maps loaded.map.tiles.statuses loaded.map.state c.requires.placed c.requires.fits
+    (c.begin-rescue.ensures loaded.end maps loaded.map.tiles.statuses loaded.map.state c.requires.begins.placed c.requires.begins.fits
     (c.in-Ok.ensures.ready test))
     c.run_rescue-closed.ensures.went c.answer.ensures c.now_ms-moment.ensures.told (omega arith)
     c.say_line-heard.ensures

@@ -17,27 +17,13 @@ run_fill-closed-requires-clause-room g c =
     (c.in-Ok.ensures None) in
     c.requires.room ∙ sym (ap (λ (s : Settings). s.cluster) is.settings_are)
 
-pub run_fill-closed-requires-clause-sound : goal.run_fill-closed-requires-clause-sound
-run_fill-closed-requires-clause-sound g c =
+pub run_fill-closed-requires-clause-sweeps : goal.run_fill-closed-requires-clause-sweeps
+run_fill-closed-requires-clause-sweeps g c =
     let loaded = c.args.loaded in
     let maps : Maps = maps_read c.args.plan.command.options loaded.domain_map None loaded.map in
-    (c.make_job-job.ensures loaded.end maps loaded.map.tiles.statuses loaded.map.state c.requires.placed
-    (c.in-Ok.ensures None)).sound
-
-pub run_fill-closed-requires-clause-suits : goal.run_fill-closed-requires-clause-suits
-run_fill-closed-requires-clause-suits g c =
-    let loaded = c.args.loaded in
-    let maps : Maps = maps_read c.args.plan.command.options loaded.domain_map None loaded.map in
-    job_suits _ _ _ _ _ _ _ _ _ _
-    (c.make_job-job.ensures loaded.end maps loaded.map.tiles.statuses loaded.map.state c.requires.placed
-    (c.in-Ok.ensures None))
-
-pub run_fill-closed-requires-clause-places : goal.run_fill-closed-requires-clause-places
-run_fill-closed-requires-clause-places g c =
-    let loaded = c.args.loaded in
-    let maps : Maps = maps_read c.args.plan.command.options loaded.domain_map None loaded.map in
-    (c.make_job-job.ensures loaded.end maps loaded.map.tiles.statuses loaded.map.state c.requires.placed
-    (c.in-Ok.ensures None)).places
+    let is = c.make_job-job.ensures loaded.end maps loaded.map.tiles.statuses loaded.map.state c.requires.placed
+    (c.in-Ok.ensures None) in
+    record { sound = is.sound; suits = job_suits _ _ _ _ _ _ _ _ _ _ is; places = is.places }
 
 pub run_fill-closed-requires-clause-program : goal.run_fill-closed-requires-clause-program
 run_fill-closed-requires-clause-program g c =

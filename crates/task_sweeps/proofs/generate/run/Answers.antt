@@ -13,38 +13,24 @@ pub run_generate-closed-requires-clause-room : goal.run_generate-closed-requires
 run_generate-closed-requires-clause-room g c =
     let loaded = c.args.loaded in
     let maps : Maps = maps_read c.args.plan.command.options loaded.domain_map None loaded.map in
-    let is = c.make_job-job.ensures loaded.end maps loaded.map.tiles.statuses loaded.map.state c.requires.placed
+    let is = c.make_job-job.ensures loaded.end maps loaded.map.tiles.statuses loaded.map.state c.requires.begins.placed
     (c.in-Ok.ensures None) in
     rw (ap (λ (s : Settings). s.cluster) is.settings_are) (search rules)
 
-pub run_generate-closed-requires-clause-sound : goal.run_generate-closed-requires-clause-sound
-run_generate-closed-requires-clause-sound g c =
+pub run_generate-closed-requires-clause-sweeps : goal.run_generate-closed-requires-clause-sweeps
+run_generate-closed-requires-clause-sweeps g c =
     let loaded = c.args.loaded in
     let maps : Maps = maps_read c.args.plan.command.options loaded.domain_map None loaded.map in
-    (c.make_job-job.ensures loaded.end maps loaded.map.tiles.statuses loaded.map.state c.requires.placed
-    (c.in-Ok.ensures None)).sound
-
-pub run_generate-closed-requires-clause-suits : goal.run_generate-closed-requires-clause-suits
-run_generate-closed-requires-clause-suits g c =
-    let loaded = c.args.loaded in
-    let maps : Maps = maps_read c.args.plan.command.options loaded.domain_map None loaded.map in
-    job_suits _ _ _ _ _ _ _ _ _ _
-    (c.make_job-job.ensures loaded.end maps loaded.map.tiles.statuses loaded.map.state c.requires.placed
-    (c.in-Ok.ensures None))
-
-pub run_generate-closed-requires-clause-places : goal.run_generate-closed-requires-clause-places
-run_generate-closed-requires-clause-places g c =
-    let loaded = c.args.loaded in
-    let maps : Maps = maps_read c.args.plan.command.options loaded.domain_map None loaded.map in
-    (c.make_job-job.ensures loaded.end maps loaded.map.tiles.statuses loaded.map.state c.requires.placed
-    (c.in-Ok.ensures None)).places
+    let is = c.make_job-job.ensures loaded.end maps loaded.map.tiles.statuses loaded.map.state c.requires.begins.placed
+    (c.in-Ok.ensures None) in
+    record { sound = is.sound; suits = job_suits _ _ _ _ _ _ _ _ _ _ is; places = is.places }
 
 pub run_generate-closed-requires-clause-program : goal.run_generate-closed-requires-clause-program
 run_generate-closed-requires-clause-program g c =
     let loaded = c.args.loaded in
     let maps : Maps = maps_read c.args.plan.command.options loaded.domain_map None loaded.map in
     job_heading _ _ _ _ _ _ _ _ _ _
-    (c.make_job-job.ensures loaded.end maps loaded.map.tiles.statuses loaded.map.state c.requires.placed
+    (c.make_job-job.ensures loaded.end maps loaded.map.tiles.statuses loaded.map.state c.requires.begins.placed
     (c.in-Ok.ensures None))
     c.requires.planned.heading
 
@@ -75,7 +61,7 @@ returns-clause-ran g c = λ test.
     (g.C.Console.state c.say_line-heard.new.console) (g.C.Console.state c.run_generate-closed.new.console))
     (g.K.Clock.state c.args.clock.now) (g.C.Console.state c.args.console.now)
     (sym c.requires.planned.names ∙ c.in-Some.is) (c.in-Ok.ensures test)
-    (c.make_job-job.ensures loaded.end maps loaded.map.tiles.statuses loaded.map.state c.requires.placed
+    (c.make_job-job.ensures loaded.end maps loaded.map.tiles.statuses loaded.map.state c.requires.begins.placed
     (c.in-Ok.ensures test))
     c.run_generate-closed.ensures.sweeps c.answer.ensures c.now_ms-moment.ensures.told (omega arith) c.say_line-heard.ensures
 

@@ -26,12 +26,7 @@ pub turns-preserved : goal.turns-preserved
 turns-preserved g c =
     let by = turns_in _ _ _ _ _ c.turns.invariant.1 c.in-Some.ensures.some c.in_ok-turn.ensures.turned in (
       goes_on_by_turn _ _ _ _ _ _ _ _ _ _ _ _ _ _ _ _ _ c.turns.invariant.0 c.turns.invariant.1.within c.in-Some.ensures.some
-          c.in_ok-turn.ensures.turned c.in_ok-turn.ensures.draft (record {
-            source = c.turn.ensures.source;
-            site = c.turn.ensures.site;
-            image = c.turn.ensures.image;
-            clock = c.turn.ensures.clock;
-          }),
+          c.in_ok-turn.ensures.turned c.in_ok-turn.ensures.draft c.turn.ensures.objects,
       by.inside,
       by.phase ∙ c.turns.invariant.2,
       by.pass ∙ c.turns.invariant.3,
@@ -45,12 +40,7 @@ returns-in_err-turn-clause-ends g c =
       halted = halts _ _ _ _ _ _ _ _ _ _ _ _ _ _ _ _ _ c.turns.invariant.0 c.turns.invariant.1.within
           c.in-Some.ensures.some
           c.in_err-turn.ensures.halted c.in_err-turn.ensures.draft_left;
-      objects = objects_stay _ _ _ _ _ _ _ _ _ _ _ _ c.turns.invariant.0.objects (record {
-        source = c.turn.ensures.source;
-        site = c.turn.ensures.site;
-        image = c.turn.ensures.image;
-        clock = c.turn.ensures.clock;
-      });
+      objects = objects_stay _ _ _ _ _ _ _ _ _ _ _ _ c.turns.invariant.0.objects c.turn.ensures.objects;
     })
 
 pub returns-clause-done : goal.returns-clause-done

@@ -1,4 +1,4 @@
-use Rattle.std.proofs.Common.{sym}
+use Rattle.std.proofs.Common.{sym, rules}
 use Rattle.std.proofs.lemmas.Result.{err_from_is_err_and}
 use Rattle.save_resume.proofs.FillLemmas.{keeps_more}
 use Rattle.rescue_core.proofs.TurnEndLemmas.{says_limited, says_turned, says_unsaved}
@@ -39,8 +39,34 @@ returns-clause-turned g c =
       says = c.say_due.ensures.says;
     }) (sym c.in_default.ensures) c.save_due.ensures.stands c.in_default-save_due.ensures.call.made
 
-pub returns-in-Err-clause-site : goal.returns-in-Err-clause-site
-returns-in-Err-clause-site g c = keeps_more _ _ _ c.advance.ensures.site.keeps c.save_due.ensures.call.keeps
+pub returns-in_err-turn-clause-objects : goal.returns-in_err-turn-clause-objects
+returns-in_err-turn-clause-objects g c = record {
+  source = c.advance.ensures.source;
+  site = c.advance.ensures.site.keeps;
+  image = search rules;
+  clock = c.advance.ensures.clock;
+}
 
-pub returns-clause-site : goal.returns-clause-site
-returns-clause-site g c = keeps_more _ _ _ c.advance.ensures.site.keeps c.save_due.ensures.call.keeps
+pub returns-in-Some-clause-objects : goal.returns-in-Some-clause-objects
+returns-in-Some-clause-objects g c = record {
+  source = c.advance.ensures.source;
+  site = c.advance.ensures.site.keeps;
+  image = search rules;
+  clock = c.advance.ensures.clock;
+}
+
+pub returns-in-Err-clause-objects : goal.returns-in-Err-clause-objects
+returns-in-Err-clause-objects g c = record {
+  source = c.advance.ensures.source;
+  site = keeps_more _ _ _ c.advance.ensures.site.keeps c.save_due.ensures.call.keeps;
+  image = search rules;
+  clock = c.advance.ensures.clock;
+}
+
+pub returns-clause-objects : goal.returns-clause-objects
+returns-clause-objects g c = record {
+  source = c.advance.ensures.source;
+  site = keeps_more _ _ _ c.advance.ensures.site.keeps c.save_due.ensures.call.keeps;
+  image = search rules;
+  clock = c.advance.ensures.clock;
+}
