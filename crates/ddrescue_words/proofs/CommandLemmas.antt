@@ -7,15 +7,17 @@ use Rattle.option_words.specs.declared.reading.Item.{Item}
 use Rattle.option_words.specs.declared.fault.UsageFault.{UsageFault}
 use Rattle.option_words.specs.declared.fault.UsageFault.TheVariants.{BadValue}
 use Rattle.option_words.specs.Reading.{IsReading}
-use Rattle.option_words.specs.Values.{empty_operand, is_given}
+use Rattle.option_words.specs.Values.{empty_operand, is_given, quiet_letter}
 use Rattle.option_words.specs.Grammar.{AskForOnly, unless_empty}
+use Rattle.option_words.proofs.KeepLemmas.{AreKept}
 use Rattle.option_words.proofs.MeaningLemmas.{reading_asks as asked_only}
+use Rattle.option_words.proofs.ResultLemmas.{unless_part, untested_part}
 use Rattle.ddrescue_words.specs.declared.options.Options.{Options}
 use Rattle.ddrescue_words.specs.declared.command.Task.{Task as TaskCode}
-use Rattle.ddrescue_words.specs.Options.{cluster_limit, cluster_of, option_meanings, options_in, quiet_letter, sectors_of}
+use Rattle.ddrescue_words.specs.Options.{cluster_limit, cluster_of, option_meanings, options_in, sectors_of}
 use Rattle.ddrescue_words.specs.Command.{Command, Task, Rescue, Fill, Generate, Sample}
-use Rattle.ddrescue_words.specs.Asking.{MapOptions, AreInLimits, AreOptions, HasMapfile, IsAsked, IsInLimits, IsSampleSize, IsTask, cluster_word, command_with, conflict_in, files_task, is_quiet, is_too_large, maps_in, mode_task, rescue_grammar, sample_task, task_by, task_from, task_in, task_with, unless_conflict, wants_mapfile}
-use Rattle.ddrescue_words.proofs.OptionLemmas.{AreInRange, AreKept, options_keep}
+use Rattle.ddrescue_words.specs.Asking.{MapOptions, AreInLimits, AreOptions, IsAsked, IsInLimits, IsSampleSize, IsTask, cluster_word, command_with, conflict_in, files_task, is_quiet, is_too_large, maps_in, mode_task, rescue_grammar, sample_task, task_by, task_from, task_in, task_with, unless_conflict, wants_mapfile}
+use Rattle.ddrescue_words.proofs.OptionLemmas.{AreInRange, options_keep, rescue_kept}
 
 abbrev told : Command → Result Command UsageFault
 told c = Ok c
@@ -54,12 +56,6 @@ named_task words items o n os c t none named is =
     let made = with_options words (maps_in words items) o os c named in
     ap (λ (k : Option ℕ). task_with words items o k os) none ∙ ap (files_task o) named
     ∙ ap (λ (x : Options). told_task (mode_task x.fill x.generate c)) (sym made.options) ∙ ap told_task (sym is)
-
-unless_part : (n : Option ℕ) (r : Result Task UsageFault) (t : Task) → unless_empty n r ≡ told_task t → r ≡ told_task t
-unless_part None (Ok t') t e = e
-unless_part (Some n) (Ok t') t e = absurd (cc)
-unless_part None (Err f) t e = absurd (cc)
-unless_part (Some n) (Err f) t e = absurd (cc)
 
 unless_refuses : (n : Option ℕ) (r : Result Task UsageFault) (t : Task) → unless_conflict n r ≡ told_task t
     → r ≡ told_task t
@@ -123,11 +119,6 @@ record AreAccepted (r : Result Options ℕ) (o : Options) : Type 0 where
   read : r ≡ Ok o
   small : is_too_large o ≡ false
 
-small_part : (b : Bool) (f : UsageFault) (r : Result Task UsageFault) (t : Task) → cond b (Err f) r ≡ told_task t
-    → (b ≡ false) × (r ≡ told_task t)
-small_part true f r t e = absurd (cc)
-small_part false f r t e = (refl, e)
-
 -- the options that a task was made of
 record Made (r : Result Options ℕ) (t : Task) : Type 0 where
   options : Options
@@ -140,7 +131,7 @@ options_by words items (Err n) os t e = absurd (cc)
 options_by words items (Ok o) os t e =
     let asked = task_with words items o o.sample os in
     let together = unless_conflict (conflict_in (is_some o.sample) items) asked in
-    let p = small_part (is_too_large o) (BadValue (cluster_word items))
+    let p = untested_part (is_too_large o) (BadValue (cluster_word items))
     (unless_empty (empty_operand words os) together) t e in
     let named = unless_refuses (conflict_in (is_some o.sample) items) asked t
     (unless_part (empty_operand words os) together t p.1) in
@@ -150,14 +141,14 @@ options_by words items (Ok o) os t e =
       made = made_of words items o o.sample os t refl named;
     }
 
-pub some_sectors : (o : Options) (n : Option ℕ) → IfSome n (λ k. 0 < k) → 0 < sectors_of o n
+some_sectors : (o : Options) (n : Option ℕ) → IfSome n (λ k. 0 < k) → 0 < sectors_of o n
 some_sectors o None h = omega arith
 some_sectors o (Some k) h = h
 
-pub not_above : (m n : ℕ) → nat_lt m n ≡ false → n ≤ m
+not_above : (m n : ℕ) → nat_lt m n ≡ false → n ≤ m
 not_above m n e = grind (arith, nat_tests)
 
-in_limits : (o : Options) → AreInRange o.sector o → is_too_large o ≡ false → AreInLimits o
+pub in_limits : (o : Options) → AreInRange o.sector o → is_too_large o ≡ false → AreInLimits o
 in_limits o h e = record {
   sector = h.sector.low;
   sector_max = h.sector.high;
@@ -174,7 +165,7 @@ sample_size : (m : Option ℕ) (kib : ℕ) → m ≡ Some kib → IfSome m IsSam
 sample_size m kib is h = subst (λ (n : Option ℕ). IfSome n IsSampleSize) is h
 
 -- a task is within its limits where the options are that it was made of
-limits_of : (o : Options) (t : Task) (quiet : Bool) → AreKept o quiet → is_too_large o ≡ false → MadeOf o t
+limits_of : (o : Options) (t : Task) (quiet : Bool) → AreKept rescue_kept o quiet → is_too_large o ≡ false → MadeOf o t
     → IsInLimits t
 limits_of o (Rescue c) quiet k small made = subst AreInLimits (sym made) (in_limits o k.range small)
 limits_of o (Fill types c) quiet k small made =

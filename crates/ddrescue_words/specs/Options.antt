@@ -3,9 +3,9 @@ use Rattle.std.specs.Prelude.{ℕ, ◌+◌, ◌-◌, ◌*◌, ◌/◌, ◌^◌, 
 use Rattle.std.specs.Result.{result_ok}
 use Rattle.size_suffixes.specs.Interval.{interval}
 use Rattle.block_list.specs.Types.{types_of}
-use Rattle.option_words.specs.declared.row.Takes.TheVariants.{Never, Always}
+use Rattle.option_words.specs.declared.row.Takes.TheVariants.{Always}
 use Rattle.option_words.specs.declared.reading.Item.{Item}
-use Rattle.option_words.specs.Values.{Meaning, OptionRow, is_empty_text, is_name, meanings_of, number_by, size_by, within_range}
+use Rattle.option_words.specs.Values.{Meaning, OptionRow, flag, is_empty_text, is_name, meanings_of, number_by, quiet_letter, sector_letter, size_by, valued, within_range}
 use Rattle.option_words.specs.Values.{options_in as options_by}
 use Rattle.run_options.specs.declared.limits.AreaLimit.{AreaLimit}
 use Rattle.run_options.specs.declared.limits.AreaLimit.TheVariants.{New, Total}
@@ -92,20 +92,8 @@ area_limit_of (c ∷ text) =
 
 -- ---- the rows
 
--- an option without a value, and one with a value
-abbrev pub flag : (letter : ℕ) → List ℕ → (Options → Options) → OptionRow Options
-flag letter name sets =
-    record { letter = Some letter; name = name; takes = Never; sets = λ sector o value. Some (sets o) }
-
-abbrev pub valued : (letter : ℕ) → List ℕ → (ℕ → Options → Option (List ℕ) → Option Options) → OptionRow Options
-valued letter name sets = record { letter = Some letter; name = name; takes = Always; sets = sets }
-
--- The letters of options that are read by themselves. The size of a sector (`-b`) is set before all others, and the
--- size of a cluster (`-c`) is checked again after all others. `-F` and `-G` are modes, which don't go together and not
--- with `-H`; `-H` and `-m` name maps, and `-q` asks for no message.
-abbrev pub sector_letter : ℕ
-sector_letter = 98
-
+-- The letters of other options that are read by themselves. The size of a cluster (`-c`) is checked again after all
+-- others. `-F` and `-G` are modes, which don't go together and not with `-H`; `-H` and `-m` name maps.
 abbrev pub cluster_letter : ℕ
 cluster_letter = 99
 
@@ -120,9 +108,6 @@ test_letter = 72
 
 abbrev pub domain_letter : ℕ
 domain_letter = 109
-
-abbrev pub quiet_letter : ℕ
-quiet_letter = 113
 
 -- the options that have a letter, each with what it sets by the size of a sector and the text of its value
 abbrev pub lettered_rows : List (OptionRow Options)

@@ -2,21 +2,20 @@
 ghost use Rattle.std.specs.Prelude.{◌≡◌, All, Ok, Err, is_some, IfOk, IfErr, option_map};
 ghost use Rattle.option_words.specs.Spots.{HasSpot};
 ghost use Rattle.option_words.specs.Values.{IsWord};
-ghost use Rattle.ddrescue_words.specs.Options.{options_in};
 ghost use Rattle.ddrescue_words.specs.Asking.{AreInLimits, AreOptions, IsErrorOf, IsTask, command_with, conflict_in, first_word, goes_with_sample, is_mode_given, later_word, maps_in, mode_task, modes_conflict, sample_command, sample_conflict, sample_task, task_by, task_read, task_with, test_conflict, told_by, wants_mapfile};
 
 use crate::options::{
-    CLUSTER_SIZE, DOMAIN_MAPFILE, FILL_MODE, GENERATE_MODE, Options, QUIET, SAMPLE, SECTOR_SIZE,
-    TEST_MODE, option_table,
+    CLUSTER_SIZE, DOMAIN_MAPFILE, FILL_MODE, GENERATE_MODE, Options, SAMPLE, TEST_MODE,
+    option_table,
 };
 use block_list::types::TypeSet;
-use option_words::command_error::{CommandError, unread};
+use option_words::command_error::{CommandError, unread, usage_error};
 use option_words::fault::UsageFault;
-use option_words::given::{is_given, last_of, last_value, letter_of};
+use option_words::given::{QUIET, is_given, last_of, last_value, letter_of};
 use option_words::operands::find_empty;
 use option_words::reader::read_words;
 use option_words::reading::{Item, WordReading};
-use option_words::settings::{read_sector_in, read_settings};
+use option_words::settings::{Settings, read_options};
 use option_words::table::OptionTable;
 use option_words::words::Words;
 use run_options::passes::Passes;
@@ -73,16 +72,6 @@ pub fn sample_command() -> Command<'static>
             ..Options::none(512)
         },
     }
-}
-
-/// What options ask for, or the word of the first bad value.
-fn read_options(table: &OptionTable, words: &Words, items: &[Item]) -> Result<Options, usize>
-    requires table { AreOptions table.now }
-    requires spots { All (HasSpot words.now) items.now }
-    ensures { result ≡ options_in words.now items.now }
-{
-    let sector = read_sector_in(table, words, SECTOR_SIZE, items)?;
-    read_settings(words, items, sector, Options::none(sector))
 }
 
 /// The files of two operands or three, and the maps that options name.
@@ -266,7 +255,7 @@ fn task_of<'a>(
     ensures asked { IfOk result (λ t. task_read words.now reading.now ≡ Ok (task_by t)) }
     ensures refused { IfErr result (λ fault. task_read words.now reading.now ≡ Err fault) }
 {
-    let options = match read_options(table, words, &reading.items) {
+    let options: Options = match read_options(table, words, &reading.items) {
         Ok(options) => options,
         Err(word) => return Err(UsageFault::BadValue { word }),
     };
@@ -299,9 +288,6 @@ pub fn read_command(alloc: Global, words: &Words) -> Result<Task<'_>, CommandErr
     };
     match task_of(&table, words, &reading) {
         Ok(task) => Ok(task),
-        Err(fault) => Err(CommandError::Usage {
-            fault,
-            quiet: is_given(&table, QUIET, &reading.items),
-        }),
+        Err(fault) => Err(usage_error(&table, &reading.items, fault)),
     }
 }

@@ -9,8 +9,9 @@ ghost use Rattle.ddrescue_words.specs.Asking.{AreInLimits, AreOptions, is_too_la
 use crate::skips::{DEFAULT_SKIP, DEFAULT_SKIP_MAX, in_sectors, read_skips};
 use block_list::types::TypeSet;
 use option_words::given::letter_of;
-use option_words::row::{Row, Takes};
-use option_words::settings::Settings;
+use option_words::option_row;
+use option_words::row::Row;
+use option_words::settings::{SECTOR_SIZE, Settings};
 use option_words::table::OptionTable;
 use option_words::values::{is_name, number_by, size_by, within_range};
 use run_options::limits::{AreaLimit, Limits};
@@ -29,9 +30,6 @@ const MOST_CLUSTER: u64 = 16_777_216;
 /// The most passes of retrying.
 const MOST_RETRIES: u64 = 65_535;
 
-/// The letter of the option that gives the size of a sector.
-pub(crate) const SECTOR_SIZE: char = 'b';
-
 /// The letter of the one that gives the size of a cluster.
 pub(crate) const CLUSTER_SIZE: char = 'c';
 
@@ -47,9 +45,6 @@ pub(crate) const TEST_MODE: char = 'H';
 /// The letter of the one that names the map of what is rescued.
 pub(crate) const DOMAIN_MAPFILE: char = 'm';
 
-/// The letter of the one that asks that nothing be said.
-pub(crate) const QUIET: char = 'q';
-
 /// The row of the option that has no letter, counted from 0: the size of a sample.
 pub(crate) const SAMPLE: usize = 26;
 
@@ -58,141 +53,33 @@ const MOST_SAMPLE: u64 = 65_536;
 
 /// The options. A later one is a row here, before the last, and an arm in `with_letter`.
 pub static ROWS: [Row; 27] = [
-    Row {
-        short: Some('a'),
-        long: "min-read-rate",
-        takes: Takes::Always,
-    },
-    Row {
-        short: Some('A'),
-        long: "try-again",
-        takes: Takes::Never,
-    },
-    Row {
-        short: Some('b'),
-        long: "sector-size",
-        takes: Takes::Always,
-    },
-    Row {
-        short: Some('c'),
-        long: "cluster-size",
-        takes: Takes::Always,
-    },
-    Row {
-        short: Some('C'),
-        long: "complete-only",
-        takes: Takes::Never,
-    },
-    Row {
-        short: Some('e'),
-        long: "max-bad-areas",
-        takes: Takes::Always,
-    },
-    Row {
-        short: Some('f'),
-        long: "force",
-        takes: Takes::Never,
-    },
-    Row {
-        short: Some('F'),
-        long: "fill-mode",
-        takes: Takes::Always,
-    },
-    Row {
-        short: Some('G'),
-        long: "generate-mode",
-        takes: Takes::Never,
-    },
-    Row {
-        short: Some('H'),
-        long: "test-mode",
-        takes: Takes::Always,
-    },
-    Row {
-        short: Some('i'),
-        long: "input-position",
-        takes: Takes::Always,
-    },
-    Row {
-        short: Some('K'),
-        long: "skip-size",
-        takes: Takes::Always,
-    },
-    Row {
-        short: Some('L'),
-        long: "loose-domain",
-        takes: Takes::Never,
-    },
-    Row {
-        short: Some('m'),
-        long: "domain-mapfile",
-        takes: Takes::Always,
-    },
-    Row {
-        short: Some('M'),
-        long: "retrim",
-        takes: Takes::Never,
-    },
-    Row {
-        short: Some('n'),
-        long: "no-scrape",
-        takes: Takes::Never,
-    },
-    Row {
-        short: Some('N'),
-        long: "no-trim",
-        takes: Takes::Never,
-    },
-    Row {
-        short: Some('o'),
-        long: "output-position",
-        takes: Takes::Always,
-    },
-    Row {
-        short: Some('q'),
-        long: "quiet",
-        takes: Takes::Never,
-    },
-    Row {
-        short: Some('r'),
-        long: "retry-passes",
-        takes: Takes::Always,
-    },
-    Row {
-        short: Some('R'),
-        long: "reverse",
-        takes: Takes::Never,
-    },
-    Row {
-        short: Some('s'),
-        long: "size",
-        takes: Takes::Always,
-    },
-    Row {
-        short: Some('T'),
-        long: "timeout",
-        takes: Takes::Always,
-    },
-    Row {
-        short: Some('u'),
-        long: "unidirectional",
-        takes: Takes::Never,
-    },
-    Row {
-        short: Some('v'),
-        long: "verbose",
-        takes: Takes::Never,
-    },
-    Row {
-        short: Some('X'),
-        long: "max-read-errors",
-        takes: Takes::Always,
-    },
-    Row {
-        short: None,
-        long: "sample",
-        takes: Takes::Always,
-    },
+    option_row!('a', "min-read-rate", Always),
+    option_row!('A', "try-again", Never),
+    option_row!('b', "sector-size", Always),
+    option_row!('c', "cluster-size", Always),
+    option_row!('C', "complete-only", Never),
+    option_row!('e', "max-bad-areas", Always),
+    option_row!('f', "force", Never),
+    option_row!('F', "fill-mode", Always),
+    option_row!('G', "generate-mode", Never),
+    option_row!('H', "test-mode", Always),
+    option_row!('i', "input-position", Always),
+    option_row!('K', "skip-size", Always),
+    option_row!('L', "loose-domain", Never),
+    option_row!('m', "domain-mapfile", Always),
+    option_row!('M', "retrim", Never),
+    option_row!('n', "no-scrape", Never),
+    option_row!('N', "no-trim", Never),
+    option_row!('o', "output-position", Always),
+    option_row!('q', "quiet", Never),
+    option_row!('r', "retry-passes", Always),
+    option_row!('R', "reverse", Never),
+    option_row!('s', "size", Always),
+    option_row!('T', "timeout", Always),
+    option_row!('u', "unidirectional", Never),
+    option_row!('v', "verbose", Never),
+    option_row!('X', "max-read-errors", Always),
+    option_row!("sample", Always),
 ];
 
 /// What the options of a command line ask for.
@@ -243,34 +130,6 @@ pub struct Options {
 }
 
 impl Options {
-    /// What is asked for where no option but the sector's is given.
-    pub fn none(sector: u64) -> Options
-        ensures { result ≡ no_options sector }
-    {
-        Options {
-            sector,
-            cluster_sectors: None,
-            skip: DEFAULT_SKIP,
-            skip_max: DEFAULT_SKIP_MAX,
-            min_rate: 0,
-            input_position: 0,
-            output_position: None,
-            size: None,
-            passes: Passes::all_phases_once(),
-            limits: Limits::none(),
-            try_again: false,
-            retrim: false,
-            complete_only: false,
-            fill: None,
-            generate: false,
-            loose: false,
-            forced: false,
-            quiet: false,
-            verbose: false,
-            sample: None,
-        }
-    }
-
     /// The sectors of a cluster.
     fn sectors(&self) -> u64
         requires { 0 < self.now.sector }
@@ -450,6 +309,33 @@ fn with_letter(options: Options, sector: u64, letter: char, value: Option<&str>)
 
 impl Settings for Options {
     ghost rows = { option_rows };
+
+    ghost start = { no_options };
+
+    fn none(sector: u64) -> Options {
+        Options {
+            sector,
+            cluster_sectors: None,
+            skip: DEFAULT_SKIP,
+            skip_max: DEFAULT_SKIP_MAX,
+            min_rate: 0,
+            input_position: 0,
+            output_position: None,
+            size: None,
+            passes: Passes::all_phases_once(),
+            limits: Limits::none(),
+            try_again: false,
+            retrim: false,
+            complete_only: false,
+            fill: None,
+            generate: false,
+            loose: false,
+            forced: false,
+            quiet: false,
+            verbose: false,
+            sample: None,
+        }
+    }
 
     fn with_row(self, sector: u64, row: usize, value: Option<&str>) -> Option<Options> {
         if row == SAMPLE {

@@ -10,7 +10,8 @@ use Rattle.option_words.specs.declared.fault.UsageFault.TheVariants.{BadValue, M
 use Rattle.option_words.specs.Reading.{IsReading}
 use Rattle.option_words.specs.Values.{empty_operand, is_name, last_value}
 use Rattle.option_words.specs.Grammar.{Unread, Wrong, unless_empty}
-use Rattle.option_words.proofs.MeaningLemmas.{reading_asks as asked_only}
+use Rattle.option_words.proofs.MeaningLemmas.{asked_within}
+use Rattle.option_words.proofs.ResultLemmas.{unless_part}
 use Rattle.ddrescuelog_words.specs.declared.mode.LogMode.{LogMode}
 use Rattle.ddrescuelog_words.specs.declared.options.LogOptions.{LogOptions}
 use Rattle.ddrescuelog_words.specs.Modes.{creates, has_other, other_letter}
@@ -60,12 +61,6 @@ mode_part words items o (Some m) os c e =
       given = ap Some (sym p.mode);
       parts = subst (λ m. IsOf words items o m c) (sym p.mode) p;
     }
-
-unless_part : (n : Option ℕ) (r : Result Command UsageFault) (c : Command) → unless_empty n r ≡ told c → r ≡ told c
-unless_part None (Ok c') c e = e
-unless_part (Some n) (Ok c') c e = absurd (cc)
-unless_part None (Err f) c e = absurd (cc)
-unless_part (Some n) (Err f) c e = absurd (cc)
 
 -- a command that isn't too long
 record IsShort (r : Result Command UsageFault) (c : Command) : Type 0 where
@@ -149,16 +144,10 @@ in_limits words items r c a k = record {
 pub reading_asks : (words : List (List ℕ)) (rows : List Row) (is : List Item) (os : List ℕ) (c : Command)
     → AreOptions rows → IsReading rows words is os → command_in words is os ≡ Ok c → IsAsked words c
 reading_asks words rows is os c o r e =
-    let only = asked_only log_grammar words rows is os c o r e in
     let accepted = options_by words is (options_in words is) os c e in
     let keeps = options_keep words is c.options accepted.read in
-    record {
-      asks = only.asks;
-      alone = only.alone;
-      accepted = only.accepted;
-      limits = in_limits words is (options_in words is) c accepted keeps;
-      quiet = (λ p. keeps.quiet_is ∙ only.quiet_is.0 p, λ t. only.quiet_is.1 (sym keeps.quiet_is ∙ t));
-    }
+    asked_within log_grammar words rows is os c (AreInLimits c) c.options.quiet o r e
+    (in_limits words is (options_in words is) c accepted keeps) keeps.quiet_is
 
 -- ---- words that are refused for their modes
 

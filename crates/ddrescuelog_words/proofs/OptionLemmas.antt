@@ -1,28 +1,28 @@
 -- What options set, one after the other, is within limits, and says what is done.
-use Rattle.std.proofs.Common.{◌≡◌, ℕ, zero, suc, ◌^◌, ◌<◌, Bool, true, false, cond, not, ◌&&◌, ◌||◌, List, [], ◌∷◌, nat_eq, slice_get, count_by, Option, Some, None, Result, Ok, Err, IfSome, refl, sym, ◌∙◌, ap, subst, arith}
+use Rattle.std.proofs.Common.{◌≡◌, ℕ, zero, suc, ◌^◌, ◌<◌, Bool, true, false, cond, not, ◌&&◌, ◌||◌, List, [], ◌∷◌, nat_eq, slice_get, count_by, Option, Some, None, Ok, IfSome, refl, sym, ◌∙◌, ap, subst, arith}
 use Rattle.std.proofs.lemmas.Option.{same_Some}
 use Rattle.std.specs.Option.{option_map, option_and_then}
 use Rattle.std.specs.List.{list_all}
 use Rattle.std.proofs.lemmas.Bool.{and_parts, not-true}
-use Rattle.std.proofs.Math.Bool.{or_assoc}
 use Rattle.block_list.specs.declared.status.Status.{Status}
 use Rattle.block_list.specs.Status.{status_of_symbol}
 use Rattle.block_list.specs.Types.{types_of}
 use Rattle.option_words.specs.Rows.{is_letter}
 use Rattle.option_words.specs.declared.reading.Item.{Item}
-use Rattle.option_words.specs.Values.{OptionRow, default_sector, is_given, is_name, is_of, last_of, last_value, later, letter_meant, options_with, set_by, set_in_turn, size_by, value_of, with_item, with_sector, word_at}
+use Rattle.option_words.specs.Values.{is_given, is_name, is_of, last_of, last_value, later, letter_meant, quiet_letter, sector_letter, size_by, value_of, with_item}
 use Rattle.option_words.proofs.LastLemmas.{none_counts}
-use Rattle.option_words.proofs.RowLemmas.{EachRow, letter_given, row_passes, equal_letter}
-use Rattle.option_words.proofs.TurnLemmas.{IsSector, sector_in_turn, turn_parts, default_is}
-use Rattle.option_words.proofs.ValueLemmas.{map_part, or_part, size_by_below}
-use Rattle.option_words.proofs.QuietLemmas.{or_false, or_true}
+use Rattle.option_words.proofs.KeepLemmas.{Begins, Keeps, Kept, OfRow, both_keep, flag_keeps, item_holds, kept_from, none_keep, plain_keeps, set_by_sector, turn_holds}
+use Rattle.option_words.proofs.RowLemmas.{◌and◌, EachRow, equal_letter}
+use Rattle.option_words.proofs.TurnLemmas.{IsSector}
+use Rattle.option_words.proofs.ValueLemmas.{map_part, size_by_below}
+use Rattle.option_words.proofs.QuietLemmas.{or_true}
 use Rattle.map_algebra.specs.declared.combine.Op.TheVariants.{And, Or, Xor}
 use Rattle.map_algebra.specs.Change.{change_of}
 use Rattle.ddrescuelog_words.specs.declared.mode.LogMode.{LogMode}
 use Rattle.ddrescuelog_words.specs.declared.mode.LogMode.TheVariants.{Change, Combine, Complete, ListBlocks, Create, Compare}
 use Rattle.ddrescuelog_words.specs.declared.options.LogOptions.{LogOptions}
 use Rattle.ddrescuelog_words.specs.Modes.{created_by, one_type, other_letter, two_types, with_map}
-use Rattle.ddrescuelog_words.specs.Options.{as_mode, block_letter, mode_letters, no_options, option_meanings, option_rows, options_in, quiet_letter}
+use Rattle.ddrescuelog_words.specs.Options.{as_mode, mode_letters, no_options, option_meanings, option_rows, options_in}
 
 -- ---- which options say what is done
 
@@ -109,17 +109,15 @@ pub record InRange (bytes from : ℕ) (to size : Option ℕ) : Type 0 where
 abbrev pub AreInRange : (block : ℕ) → LogOptions → Type 0
 AreInRange block o = InRange block o.input_position o.output_position o.size
 
--- what an option of a letter keeps, and what it says
-record Keeps (block : ℕ) (o : LogOptions) (letter : Option ℕ) (value : Option (List ℕ)) (o' : LogOptions) : Type 0 where
-  same : o'.block ≡ o.block
-  range : AreInRange block o → AreInRange block o'
-  quiet_is : o'.quiet ≡ (o.quiet || is_letter quiet_letter letter)
-  tells : Tells letter value o o'
+-- the block of the options, their limits, and whether they ask that nothing be said
+abbrev pub log_kept : Kept LogOptions
+log_kept = record { sector = λ o. o.block; InRange = AreInRange; quiet = λ o. o.quiet }
 
--- an option of a row keeps this
-abbrev RowKeeps : OptionRow LogOptions → Type 0
-RowKeeps r = (block : ℕ) (o o' : LogOptions) (value : Option (List ℕ)) → r.sets block o value ≡ Some o'
-    → Keeps block o r.letter value o'
+-- what an option of a letter keeps, and what it says
+record KeepsMode (block : ℕ) (o : LogOptions) (letter : Option ℕ) (value : Option (List ℕ)) (o' : LogOptions)
+    : Type 0 where
+  keeps : Keeps log_kept block o (is_letter quiet_letter letter) o'
+  tells : Tells letter value o o'
 
 module _ (block : ℕ) (o : LogOptions) (h : AreInRange block o) where
   with_input : (n : ℕ) → n < 2 ^ 63 → AreInRange block (record o { input_position = n })
@@ -133,50 +131,52 @@ module _ (block : ℕ) (o : LogOptions) (h : AreInRange block o) where
 
 module _ (block : ℕ) (o o' : LogOptions) (c : ℕ) (value : Option (List ℕ)) where
   -- an option that sets this
-  set_keeps : (n : LogOptions) → n.block ≡ o.block → (AreInRange block o → AreInRange block n)
-      → n.quiet ≡ (o.quiet || is_letter quiet_letter (Some c)) → Tells (Some c) value o n → Some n ≡ Some o'
-      → Keeps block o (Some c) value o'
-  set_keeps n s r q t e = subst (Keeps block o (Some c) value) (same_Some n o' e)
-      (record { same = s; range = r; quiet_is = q; tells = t })
+  set_keeps : (n : LogOptions) → Keeps log_kept block o (is_letter quiet_letter (Some c)) n → Tells (Some c) value o n
+      → Some n ≡ Some o' → KeepsMode block o (Some c) value o'
+  set_keeps n k t e =
+      subst (KeepsMode block o (Some c) value) (same_Some n o' e) (record { keeps = k; tells = t })
 
-  -- one that sets nothing but a flag
-  flag_keeps : (n : LogOptions) → n.block ≡ o.block → (AreInRange block o → AreInRange block n)
-      → n.quiet ≡ (o.quiet || is_letter quiet_letter (Some c)) → n.mode ≡ o.mode
-      → none_of (Some c) mode_letters ≡ true → Some n ≡ Some o' → Keeps block o (Some c) value o'
-  flag_keeps n s r q m t e = set_keeps n s r q (Plain m t) e
+  -- one that is another letter's than that of `-q`
+  other_keeps : (n : LogOptions) → n.block ≡ o.block → (AreInRange block o → AreInRange block n) → n.quiet ≡ o.quiet
+      → is_letter quiet_letter (Some c) ≡ false → Tells (Some c) value o n → Some n ≡ Some o'
+      → KeepsMode block o (Some c) value o'
+  other_keeps n s r q l t e =
+      set_keeps n
+      (subst (λ b. Keeps log_kept block o b n) (sym l) (plain_keeps log_kept block o n n s r q refl)) t e
+
+  -- one that says nothing of what is done
+  plain_mode : (n : LogOptions) → n.block ≡ o.block → (AreInRange block o → AreInRange block n) → n.quiet ≡ o.quiet
+      → is_letter quiet_letter (Some c) ≡ false → n.mode ≡ o.mode → none_of (Some c) mode_letters ≡ true
+      → Some n ≡ Some o' → KeepsMode block o (Some c) value o'
+  plain_mode n s r q l m t e = other_keeps n s r q l (Plain m t) e
 
   -- one that names a map, which must have a name
-  name_keeps : (b : Bool) → is_letter quiet_letter (Some c) ≡ false → none_of (Some c) mode_letters ≡ true
-      → cond b (Some o) None ≡ Some o' → Keeps block o (Some c) value o'
-  name_keeps false l t e = absurd (cc)
-  name_keeps true l t e =
-      flag_keeps o refl (λ h. h) (or_false o.quiet ∙ ap (λ b. o.quiet || b) (sym l)) refl t e
+  name_mode : (b : Bool) → is_letter quiet_letter (Some c) ≡ false → none_of (Some c) mode_letters ≡ true
+      → cond b (Some o) None ≡ Some o' → KeepsMode block o (Some c) value o'
+  name_mode false l t e = absurd (cc)
+  name_mode true l t e = plain_mode o refl (λ h. h) refl l refl t e
 
   -- one with a value that is a number
-  value_keeps : (f : ℕ → LogOptions) (m : Option ℕ) → ((n : ℕ) → (f n).block ≡ o.block)
+  value_mode : (f : ℕ → LogOptions) (m : Option ℕ) → ((n : ℕ) → (f n).block ≡ o.block)
       → ((n : ℕ) → m ≡ Some n → AreInRange block o → AreInRange block (f n)) → ((n : ℕ) → (f n).quiet ≡ o.quiet)
       → ((n : ℕ) → (f n).mode ≡ o.mode) → is_letter quiet_letter (Some c) ≡ false
-      → none_of (Some c) mode_letters ≡ true → option_map f m ≡ Some o' → Keeps block o (Some c) value o'
-  value_keeps f m s r q d l t e =
+      → none_of (Some c) mode_letters ≡ true → option_map f m ≡ Some o' → KeepsMode block o (Some c) value o'
+  value_mode f m s r q d l t e =
       let p = map_part f m o' e in
-      let quiet : (f p.0).quiet ≡ (o.quiet || is_letter quiet_letter (Some c)) =
-      q p.0 ∙ or_false o.quiet ∙ ap (λ b. o.quiet || b) (sym l) in
-      flag_keeps (f p.0) (s p.0) (r p.0 p.1) quiet (d p.0) t (ap Some p.2)
+      plain_mode (f p.0) (s p.0) (r p.0 p.1) (q p.0) l (d p.0) t (ap Some p.2)
 
   -- one that says what is done
   mode_keeps : (m : Option LogMode) → is_letter quiet_letter (Some c) ≡ false
       → ((x : LogMode) (n : LogOptions) → m ≡ Some x → n.mode ≡ Some x → Tells (Some c) value o n)
-      → as_mode o m ≡ Some o' → Keeps block o (Some c) value o'
+      → as_mode o m ≡ Some o' → KeepsMode block o (Some c) value o'
   mode_keeps m l t e =
       let p = map_part (λ x. record o { mode = Some x }) m o' e in
       let n : LogOptions = record o { mode = Some p.0 } in
-      let quiet : o.quiet ≡ (o.quiet || is_letter quiet_letter (Some c)) =
-      or_false o.quiet ∙ ap (λ b. o.quiet || b) (sym l) in
-      set_keeps n refl (λ h. h) quiet (t p.0 n p.1 refl) (ap Some p.2)
+      other_keeps n refl (λ h. h) refl l (t p.0 n p.1 refl) (ap Some p.2)
 
   alone_keeps : (m : Option LogMode) → is_letter quiet_letter (Some c) ≡ false
       → ((x : LogMode) → m ≡ Some x → other_letter x ≡ None) → as_mode o m ≡ Some o'
-      → Keeps block o (Some c) value o'
+      → KeepsMode block o (Some c) value o'
   alone_keeps m l t e = mode_keeps m l (λ x n is p. Alone x p (t x is)) e
 
 named_mode : (b : Bool) (m x : LogMode) → cond b (Some m) None ≡ Some x → (b ≡ true) × (m ≡ x)
@@ -185,7 +185,7 @@ named_mode false m x e = absurd (cc)
 
 map_keeps : (block : ℕ) (o o' : LogOptions) (c : ℕ) (value : Option (List ℕ)) (m : LogMode)
     → is_letter quiet_letter (Some c) ≡ false → other_letter m ≡ Some c → as_mode o (with_map m value) ≡ Some o'
-    → Keeps block o (Some c) value o'
+    → KeepsMode block o (Some c) value o'
 map_keeps block o o' c value m l other e =
     mode_keeps block o o' c value (with_map m value) l
     (λ x n is p. let q = named_mode (is_name value) m x is in
@@ -211,124 +211,66 @@ types_alone (Some (c ∷ d ∷ [])) x e = created_alone (status_of_symbol c) (st
 types_alone (Some (c ∷ d ∷ e ∷ more)) x h = absurd (cc)
 
 input_keeps : (s : ℕ) (o o' : LogOptions) (v : Option (List ℕ))
-    → option_map (λ n. record o { input_position = n }) (size_by s v) ≡ Some o' → Keeps s o (Some 105) v o'
-input_keeps s o o' v = value_keeps s o o' 105 v (λ n. record o { input_position = n }) (size_by s v) (λ n. refl)
+    → option_map (λ n. record o { input_position = n }) (size_by s v) ≡ Some o' → KeepsMode s o (Some 105) v o'
+input_keeps s o o' v = value_mode s o o' 105 v (λ n. record o { input_position = n }) (size_by s v) (λ n. refl)
     (λ n p h. with_input s o h n (size_by_below s v n p)) (λ n. refl) (λ n. refl) refl refl
 
 output_keeps : (s : ℕ) (o o' : LogOptions) (v : Option (List ℕ))
-    → option_map (λ n. record o { output_position = Some n }) (size_by s v) ≡ Some o' → Keeps s o (Some 111) v o'
-output_keeps s o o' v = value_keeps s o o' 111 v (λ n. record o { output_position = Some n }) (size_by s v) (λ n. refl)
+    → option_map (λ n. record o { output_position = Some n }) (size_by s v) ≡ Some o' → KeepsMode s o (Some 111) v o'
+output_keeps s o o' v = value_mode s o o' 111 v (λ n. record o { output_position = Some n }) (size_by s v) (λ n. refl)
     (λ n p h. with_output s o h n (size_by_below s v n p)) (λ n. refl) (λ n. refl) refl refl
 
 size_keeps : (s : ℕ) (o o' : LogOptions) (v : Option (List ℕ))
-    → option_map (λ n. record o { size = Some n }) (size_by s v) ≡ Some o' → Keeps s o (Some 115) v o'
-size_keeps s o o' v = value_keeps s o o' 115 v (λ n. record o { size = Some n }) (size_by s v) (λ n. refl)
+    → option_map (λ n. record o { size = Some n }) (size_by s v) ≡ Some o' → KeepsMode s o (Some 115) v o'
+size_keeps s o o' v = value_mode s o o' 115 v (λ n. record o { size = Some n }) (size_by s v) (λ n. refl)
     (λ n p h. with_size s o h n (size_by_below s v n p)) (λ n. refl) (λ n. refl) refl refl
 
 list_keeps : (s : ℕ) (o o' : LogOptions) (v : Option (List ℕ))
-    → as_mode o (option_map ListBlocks (option_and_then types_of v)) ≡ Some o' → Keeps s o (Some 108) v o'
+    → as_mode o (option_map ListBlocks (option_and_then types_of v)) ≡ Some o' → KeepsMode s o (Some 108) v o'
 list_keeps s o o' v =
     alone_keeps s o o' 108 v _ refl (mapped_alone ListBlocks (λ y. refl) (option_and_then types_of v))
 
-same_keeps : (s : ℕ) (o o' : LogOptions) (v : Option (List ℕ)) → Some o ≡ Some o' → Keeps s o (Some 118) v o'
-same_keeps s o o' v = flag_keeps s o o' 118 v o refl (λ h. h) (or_false o.quiet) refl refl
+same_keeps : (s : ℕ) (o o' : LogOptions) (v : Option (List ℕ)) → Some o ≡ Some o' → KeepsMode s o (Some 118) v o'
+same_keeps s o o' v = plain_mode s o o' 118 v o refl (λ h. h) refl refl refl refl
 
-rows_keep : EachRow RowKeeps option_rows
-rows_keep = (
-  (λ s o o' v. alone_keeps s o o' 97 v _ refl (mapped_alone Change (λ y. refl) (option_and_then change_of v))),
-  (
-    (λ s o o' v. flag_keeps s o o' 98 v _ refl (λ h. h) (or_false o.quiet) refl refl),
-    (
-      (λ s o o' v. alone_keeps s o o' 99 v _ refl (types_alone v)),
-      (
-        (λ s o o' v. alone_keeps s o o' 67 v _ refl (mapped_alone Complete (λ y. refl) (one_type v))),
-        (
-          (λ s o o' v. alone_keeps s o o' 100 v _ refl (λ x. given_alone _ x refl)),
-          (
-            (λ s o o' v. alone_keeps s o o' 68 v _ refl (λ x. given_alone _ x refl)),
-            (
-              (λ s o o' v. flag_keeps s o o' 102 v _ refl (λ h. h) (or_false o.quiet) refl refl),
-              (
-                (λ s o o' v. input_keeps s o o' v),
-                (
-                  (λ s o o' v. list_keeps s o o' v),
-                  (
-                    (λ s o o' v. flag_keeps s o o' 76 v _ refl (λ h. h) (or_false o.quiet) refl refl),
-                    (
-                      (λ s o o' v. name_keeps s o o' 109 v (is_name v) refl refl),
-                      (
-                        (λ s o o' v. alone_keeps s o o' 110 v _ refl (λ x. given_alone _ x refl)),
-                        (
-                          (λ s o o' v. output_keeps s o o' v),
-                          (
-                            (λ s o o' v. map_keeps s o o' 112 v (Compare false) refl refl),
-                            (
-                              (λ s o o' v. map_keeps s o o' 80 v (Compare true) refl refl),
-                              (
-                                (λ s o o' v. flag_keeps s o o' 113 v _ refl (λ h. h) (or_true o.quiet) refl refl),
-                                (
-                                  (λ s o o' v. size_keeps s o o' v),
-                                  (
-                                    (λ s o o' v. alone_keeps s o o' 116 v _ refl (λ x. given_alone _ x refl)),
-                                    (
-                                      (λ s o o' v. same_keeps s o o' v),
-                                      (
-                                        (λ s o o' v. map_keeps s o o' 120 v (Combine Xor) refl refl),
-                                        (
-                                          (λ s o o' v. map_keeps s o o' 121 v (Combine And) refl refl),
-                                          (
-                                            (λ s o o' v. map_keeps s o o' 122 v (Combine Or) refl refl),
-                                            tt,
-                                          ),
-                                        ),
-                                      ),
-                                    ),
-                                  ),
-                                ),
-                              ),
-                            ),
-                          ),
-                        ),
-                      ),
-                    ),
-                  ),
-                ),
-              ),
-            ),
-          ),
-        ),
-      ),
-    ),
-  ),
-)
+quiet_keeps : (s : ℕ) (o o' : LogOptions) (v : Option (List ℕ)) → Some (record o { quiet = true }) ≡ Some o'
+    → KeepsMode s o (Some 113) v o'
+quiet_keeps s o o' v =
+    let n : LogOptions = record o { quiet = true } in
+    set_keeps s o o' 113 v n (flag_keeps log_kept s o n true n refl (λ h. h) (or_true o.quiet) refl) (Plain refl refl)
+
+rows_keep : EachRow (OfRow KeepsMode) option_rows
+rows_keep =
+    (λ s o o' v. alone_keeps s o o' 97 v _ refl (mapped_alone Change (λ y. refl) (option_and_then change_of v)))
+    and (λ s o o' v. plain_mode s o o' 98 v _ refl (λ h. h) refl refl refl refl)
+    and (λ s o o' v. alone_keeps s o o' 99 v _ refl (types_alone v))
+    and (λ s o o' v. alone_keeps s o o' 67 v _ refl (mapped_alone Complete (λ y. refl) (one_type v)))
+    and (λ s o o' v. alone_keeps s o o' 100 v _ refl (λ x. given_alone _ x refl))
+    and (λ s o o' v. alone_keeps s o o' 68 v _ refl (λ x. given_alone _ x refl))
+    and (λ s o o' v. plain_mode s o o' 102 v _ refl (λ h. h) refl refl refl refl)
+    and (λ s o o' v. input_keeps s o o' v)
+    and (λ s o o' v. list_keeps s o o' v)
+    and (λ s o o' v. plain_mode s o o' 76 v _ refl (λ h. h) refl refl refl refl)
+    and (λ s o o' v. name_mode s o o' 109 v (is_name v) refl refl)
+    and (λ s o o' v. alone_keeps s o o' 110 v _ refl (λ x. given_alone _ x refl))
+    and (λ s o o' v. output_keeps s o o' v)
+    and (λ s o o' v. map_keeps s o o' 112 v (Compare false) refl refl)
+    and (λ s o o' v. map_keeps s o o' 80 v (Compare true) refl refl)
+    and (λ s o o' v. quiet_keeps s o o' v)
+    and (λ s o o' v. size_keeps s o o' v)
+    and (λ s o o' v. alone_keeps s o o' 116 v _ refl (λ x. given_alone _ x refl))
+    and (λ s o o' v. same_keeps s o o' v)
+    and (λ s o o' v. map_keeps s o o' 120 v (Combine Xor) refl refl)
+    and (λ s o o' v. map_keeps s o o' 121 v (Combine And) refl refl)
+    and (λ s o o' v. map_keeps s o o' 122 v (Combine Or) refl refl)
+    and tt
 
 -- ---- what all options keep
 
 -- what options keep, one after the other, and what they say
 record KeepAll (block : ℕ) (words : List (List ℕ)) (o : LogOptions) (items : List Item) (o' : LogOptions) : Type 0 where
-  same : o'.block ≡ o.block
-  range : AreInRange block o → AreInRange block o'
-  quiet_is : o'.quiet ≡ (o.quiet || is_given option_meanings quiet_letter items)
+  keeps : Keeps log_kept block o (is_given option_meanings quiet_letter items) o'
   named : Named words items o o'
-
--- the option of a row, if there is one
-row_keeps : (block : ℕ) (o o' : LogOptions) (k : ℕ) (r : Option (OptionRow LogOptions)) (value : Option (List ℕ))
-    → slice_get option_rows k ≡ r → set_by r block o value ≡ Some o'
-    → Keeps block o (letter_meant (slice_get option_meanings k)) value o'
-row_keeps block o o' k None value at e = absurd (cc)
-row_keeps block o o' k (Some r) value at e =
-    let letter : letter_meant (slice_get option_meanings k) ≡ r.letter =
-    letter_given option_rows k ∙ ap (option_and_then (λ r. r.letter)) at in
-    subst (λ (l : Option ℕ). Keeps block o l value o') (sym letter)
-    (row_passes RowKeeps option_rows k r rows_keep at block o o' value e)
-
-item_keeps : (block : ℕ) (words : List (List ℕ)) (o o' : LogOptions) (i : Item)
-    → with_item option_rows block words o i ≡ Ok o'
-    → Keeps block o (letter_meant (slice_get option_meanings i.row)) (value_of words i.value) o'
-item_keeps block words o o' i e =
-    let value = value_of words i.value in
-    let at = slice_get option_rows i.row in
-    row_keeps block o o' i.row at value refl (or_part (set_by at block o value) (word_at i.value) o' e)
 
 -- a later name counts
 name_stays : (words : List (List ℕ)) (x y : Option Item)
@@ -373,32 +315,26 @@ nothing_given : (letters : List ℕ) → none_given [] letters ≡ true
 nothing_given [] = refl
 nothing_given (c ∷ cs) = nothing_given cs
 
-items_keep : (block : ℕ) (words : List (List ℕ)) (items : List Item) (o o' : LogOptions)
-    → set_in_turn (with_item option_rows block words) (Ok o) items ≡ Ok o' → KeepAll block words o items o'
-items_keep block words [] o o' e =
-    let same : o ≡ o' = cc in
-    subst (KeepAll block words o []) same
-    (record {
-      same = refl;
-      range = λ h. h;
-      quiet_is = or_false o.quiet;
-      named = Same refl (nothing_given mode_letters);
-    })
-items_keep block words (i ∷ is) o o' e =
-    let p = turn_parts (with_item option_rows block words) (with_item option_rows block words o i) is o' e in
-    let k = item_keeps block words o p.0 i p.1 in
-    let rest = items_keep block words is p.0 o' p.2 in
-    let given = is_given option_meanings quiet_letter is in
+none_keeps : (block : ℕ) (words : List (List ℕ)) (o : LogOptions) → KeepAll block words o [] o
+none_keeps block words o =
+    record { keeps = none_keep log_kept block o; named = Same refl (nothing_given mode_letters) }
+
+one_keeps : (block : ℕ) (words : List (List ℕ)) (o p o' : LogOptions) (i : Item) (items : List Item)
+    → with_item option_rows block words o i ≡ Ok p → KeepAll block words p items o' → KeepAll block words o (i ∷ items) o'
+one_keeps block words o p o' i items e rest =
+    let k = item_holds KeepsMode option_rows rows_keep block words o p i e in
     record {
-      same = rest.same ∙ k.same;
-      range = λ h. rest.range (k.range h);
-      quiet_is = rest.quiet_is ∙ ap (λ b. b || given) k.quiet_is
-          ∙ or_assoc o.quiet (is_of option_meanings quiet_letter i) given;
-      named = one_named words i is o p.0 o' k.tells rest.named;
+      keeps = both_keep log_kept block o p o' (is_of option_meanings quiet_letter i)
+          (is_given option_meanings quiet_letter items) k.keeps rest.keeps;
+      named = one_named words i items o p o' k.tells rest.named;
     }
 
-none_in_range : (n : ℕ) → IsSector n → AreInRange n (no_options n)
-none_in_range n h = record { block = h; input = omega arith; output = tt; length = tt }
+none_begins : (n : ℕ) → IsSector n → Begins log_kept n (no_options n)
+none_begins n h = record {
+  same = refl;
+  range = record { block = h; input = omega arith; output = tt; length = tt };
+  quiet_is = refl;
+}
 
 -- options that are accepted are in range, say nothing where one of them asks for it, and name what is done
 pub record AreKept (words : List (List ℕ)) (items : List Item) (o : LogOptions) : Type 0 where
@@ -406,22 +342,12 @@ pub record AreKept (words : List (List ℕ)) (items : List Item) (o : LogOptions
   pub quiet_is : o.quiet ≡ is_given option_meanings quiet_letter items
   pub named : (block : ℕ) × Named words items (no_options block) o
 
-kept_by : (words : List (List ℕ)) (items : List Item) (block : Result ℕ ℕ) (o : LogOptions)
-    → set_in_turn (with_sector option_meanings block_letter words) (Ok default_sector) items ≡ block
-    → options_with option_rows no_options words items block ≡ Ok o → AreKept words items o
-kept_by words items (Err n) o at e = absurd (cc)
-kept_by words items (Ok n) o at e =
-    let size = sector_in_turn option_meanings block_letter words items default_sector n default_is at in
-    let k = items_keep n words items (no_options n) o e in
-    let range : AreInRange n o = k.range (none_in_range n size) in
-    record {
-      range = subst (λ m. AreInRange m o) (sym k.same) range;
-      quiet_is = k.quiet_is;
-      named = (n, k.named);
-    }
-
 pub options_keep : (words : List (List ℕ)) (items : List Item) (o : LogOptions) → options_in words items ≡ Ok o
     → AreKept words items o
 options_keep words items o e =
-    kept_by words items (set_in_turn (with_sector option_meanings block_letter words) (Ok default_sector) items) o
-    refl e
+    let p = set_by_sector option_rows sector_letter no_options words items o e in
+    let k = turn_holds (with_item option_rows p.0 words) (KeepAll p.0 words) (none_keeps p.0 words)
+    (one_keeps p.0 words) items (no_options p.0) o p.2 in
+    let kept = kept_from log_kept p.0 (no_options p.0) o (is_given option_meanings quiet_letter items)
+    (none_begins p.0 p.1) k.keeps in
+    record { range = kept.range; quiet_is = kept.quiet_is; named = (p.0, k.named) }

@@ -1,5 +1,5 @@
 -- What the words of `ddrescuelog` ask for, or why they are refused.
-use Rattle.std.specs.Prelude.{◌≡◌, ◌↔◌, ℕ, ◌^◌, ◌<◌, ◌≤◌, Bool, true, false, ◌&&◌, nat_eq, List, [], ◌∷◌, length, count_by, Option, Some, None, Result, Ok, Err, IfSome, option_map, option_and_then, if◌then◌else◌}
+use Rattle.std.specs.Prelude.{◌≡◌, ℕ, ◌^◌, ◌<◌, ◌≤◌, Bool, true, false, ◌&&◌, nat_eq, List, [], ◌∷◌, length, count_by, Option, Some, None, Result, Ok, Err, IfSome, option_map, option_and_then, if◌then◌else◌}
 use Rattle.option_words.specs.Words.{word}
 use Rattle.option_words.specs.declared.row.Row.{Row}
 use Rattle.option_words.specs.declared.reading.Item.{Item}
@@ -7,13 +7,13 @@ use Rattle.option_words.specs.declared.reading.WordReading.{WordReading}
 use Rattle.option_words.specs.declared.fault.UsageFault.{UsageFault}
 use Rattle.option_words.specs.declared.fault.UsageFault.TheVariants.{BadValue, Modes, Operands}
 use Rattle.option_words.specs.declared.command_error.CommandError.{CommandError}
-use Rattle.option_words.specs.Values.{empty_operand, is_given, is_name, last_of, last_value, word_at}
-use Rattle.option_words.specs.Grammar.{Grammar, AreOptionsOf, AskFor, AreRefusedBy, AskSilence, IsErrorBy, unless_empty}
+use Rattle.option_words.specs.Values.{empty_operand, is_given, is_name, last_of, last_value, quiet_letter, word_at}
+use Rattle.option_words.specs.Grammar.{Grammar, AreOptionsOf, AskFor, AreRefusedBy, AskSilence, IsAskedWithin, IsErrorBy, unless_empty}
 use Rattle.ddrescuelog_words.specs.declared.mode.LogMode.{LogMode}
 use Rattle.ddrescuelog_words.specs.declared.options.LogOptions.{LogOptions}
 use Rattle.ddrescuelog_words.specs.declared.command.Command.{Command as CommandCode}
 use Rattle.ddrescuelog_words.specs.Modes.{creates, has_other, other_letter}
-use Rattle.ddrescuelog_words.specs.Options.{domain_letter, ends_beyond, mode_letters, option_meanings, options_in, quiet_letter, size_letter}
+use Rattle.ddrescuelog_words.specs.Options.{domain_letter, ends_beyond, mode_letters, option_meanings, options_in, size_letter}
 
 -- the mapfile's name, what is to be done, the names of the other map and of the domain map, if there are such, and what
 -- the options say
@@ -129,12 +129,8 @@ pub record AreInLimits (c : Command) : Type 0 where
   pub no_other : has_other c.mode ≡ false → c.other ≡ None
 
 -- this is what the words ask for, and nothing else; within its limits
-pub record IsAsked (words : List (List ℕ)) (c : Command) : Type 0 where
-  pub asks : Asks words c
-  pub alone : (other : Command) → Asks words other → other ≡ c
-  pub accepted : (fault : UsageFault) → AreRefused words fault → ⊥
-  pub limits : AreInLimits c
-  pub quiet : AskQuiet words ↔ (c.options.quiet ≡ true)
+abbrev pub IsAsked : List (List ℕ) → Command → Type 0
+IsAsked words c = IsAskedWithin log_grammar words c (AreInLimits c) c.options.quiet
 
 -- why words ask for nothing; want of memory is free
 abbrev pub IsErrorOf : List (List ℕ) → CommandError → Type 0

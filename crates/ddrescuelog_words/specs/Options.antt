@@ -4,7 +4,7 @@ use Rattle.block_list.specs.Types.{types_of}
 use Rattle.option_words.specs.declared.row.Takes.{Takes}
 use Rattle.option_words.specs.declared.row.Takes.TheVariants.{Never, Always, Optional}
 use Rattle.option_words.specs.declared.reading.Item.{Item}
-use Rattle.option_words.specs.Values.{Meaning, OptionRow, is_name, meanings_of, size_by}
+use Rattle.option_words.specs.Values.{Meaning, OptionRow, flag, is_name, meanings_of, quiet_letter, sector_letter, size_by, valued}
 use Rattle.option_words.specs.Values.{options_in as options_by}
 use Rattle.map_algebra.specs.declared.combine.Op.TheVariants.{And, Or, Xor}
 use Rattle.map_algebra.specs.Change.{change_of, inverting}
@@ -15,16 +15,6 @@ use Rattle.ddrescuelog_words.specs.Modes.{one_type, two_types, with_map}
 
 -- ---- the rows
 
--- an option that stands alone
-abbrev pub flag : (letter : ℕ) → List ℕ → (LogOptions → LogOptions) → OptionRow LogOptions
-flag letter name sets =
-    record { letter = Some letter; name = name; takes = Never; sets = λ block o value. Some (sets o) }
-
--- an option with a value
-abbrev pub valued : (letter : ℕ) → List ℕ → (ℕ → LogOptions → Option (List ℕ) → Option LogOptions)
-    → OptionRow LogOptions
-valued letter name sets = record { letter = Some letter; name = name; takes = Always; sets = sets }
-
 -- what is done, if a value says it; of several the last is kept, and that there is one is checked after all values
 abbrev pub as_mode : LogOptions → Option LogMode → Option LogOptions
 as_mode o m = option_map (λ mode. record o { mode = Some mode }) m
@@ -34,17 +24,10 @@ abbrev pub mode : (letter : ℕ) → List ℕ → Takes → (Option (List ℕ) �
 mode letter name takes read =
     record { letter = Some letter; name = name; takes = takes; sets = λ block o value. as_mode o (read value) }
 
--- The letters of options that are read by themselves. The size of a block (`-b`) is set before all others, `-m` names
--- the map of the positions that are examined, and `-q` asks for no message. `-s` is checked again after all others if a
--- map is to be made.
-abbrev pub block_letter : ℕ
-block_letter = 98
-
+-- The letters of other options that are read by themselves. `-m` names the map of the positions that are examined, and
+-- `-s` is checked again after all others if a map is to be made.
 abbrev pub domain_letter : ℕ
 domain_letter = 109
-
-abbrev pub quiet_letter : ℕ
-quiet_letter = 113
 
 abbrev pub size_letter : ℕ
 size_letter = 115
@@ -57,7 +40,7 @@ mode_letters = 97 ∷ 99 ∷ 67 ∷ 100 ∷ 68 ∷ 108 ∷ 110 ∷ 112 ∷ 80 �
 abbrev pub option_rows : List (OptionRow LogOptions)
 option_rows =
     mode 97 (codes "change-types") Always (λ value. option_map Change (option_and_then change_of value))
-    ∷ valued block_letter (codes "block-size") (λ block o value. Some o)
+    ∷ valued sector_letter (codes "block-size") (λ block o value. Some o)
     ∷ mode 99 (codes "create-mapfile") Optional two_types
     ∷ mode 67 (codes "complete-mapfile") Optional (λ value. option_map Complete (one_type value))
     ∷ mode 100 (codes "delete-if-done") Never (λ value. Some (Test true))
@@ -102,7 +85,7 @@ no_options block = record {
 
 -- what all options ask for, or the word of the first bad value
 abbrev pub options_in : List (List ℕ) → List Item → Result LogOptions ℕ
-options_in words items = options_by option_rows block_letter no_options words items
+options_in words items = options_by option_rows sector_letter no_options words items
 
 -- the end that a size gives is 2^63 or more
 abbrev pub ends_beyond : LogOptions → (size : Option ℕ) → Bool

@@ -2,18 +2,17 @@
 ghost use Rattle.std.specs.Prelude.{◌≡◌, All, Ok, Err, IfOk, IfErr, option_map};
 ghost use Rattle.option_words.specs.Spots.{HasSpot};
 ghost use Rattle.option_words.specs.Values.{IsWord};
-ghost use Rattle.ddrescuelog_words.specs.Options.{options_in};
 ghost use Rattle.ddrescuelog_words.specs.Command.{AreOptions, IsAsked, IsErrorOf, command_read, is_too_long, modes_given, other_in, size_word, told_by, with_mode, with_operand};
 
 use crate::mode::LogMode;
-use crate::options::{BLOCK_SIZE, DOMAIN_MAPFILE, LogOptions, MODES, QUIET, SIZE, option_table};
-use option_words::command_error::{CommandError, unread};
+use crate::options::{DOMAIN_MAPFILE, LogOptions, MODES, SIZE, option_table};
+use option_words::command_error::{CommandError, unread, usage_error};
 use option_words::fault::UsageFault;
 use option_words::given::{is_given, last_of, last_value};
 use option_words::operands::find_empty;
 use option_words::reader::read_words;
 use option_words::reading::{Item, WordReading};
-use option_words::settings::{read_sector_in, read_settings};
+use option_words::settings::read_options;
 use option_words::table::OptionTable;
 use option_words::values::value_word;
 use option_words::words::Words;
@@ -38,16 +37,6 @@ impl Command<'_> {
     {
         self.mode.creates() && self.options.ends_beyond()
     }
-}
-
-/// What options ask for, or the word of the first bad value.
-fn read_options(table: &OptionTable, words: &Words, items: &[Item]) -> Result<LogOptions, usize>
-    requires table { AreOptions table.now }
-    requires spots { All (HasSpot words.now) items.now }
-    ensures { result ≡ options_in words.now items.now }
-{
-    let block = read_sector_in(table, words, BLOCK_SIZE, items)?;
-    read_settings(words, items, block, LogOptions::none(block))
 }
 
 /// How many modes are given.
@@ -151,7 +140,7 @@ fn command_of<'a>(
     ensures asked { IfOk result (λ c. command_read words.now reading.now ≡ Ok (told_by c)) }
     ensures refused { IfErr result (λ fault. command_read words.now reading.now ≡ Err fault) }
 {
-    let options = match read_options(table, words, &reading.items) {
+    let options: LogOptions = match read_options(table, words, &reading.items) {
         Ok(options) => options,
         Err(word) => return Err(UsageFault::BadValue { word }),
     };
@@ -180,9 +169,6 @@ pub fn read_command(alloc: Global, words: &Words) -> Result<Command<'_>, Command
     };
     match command_of(&table, words, &reading) {
         Ok(command) => Ok(command),
-        Err(fault) => Err(CommandError::Usage {
-            fault,
-            quiet: is_given(&table, QUIET, &reading.items),
-        }),
+        Err(fault) => Err(usage_error(&table, &reading.items, fault)),
     }
 }

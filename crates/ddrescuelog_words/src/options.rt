@@ -11,22 +11,17 @@ use block_list::types::TypeSet;
 use map_algebra::change::TypeChange;
 use map_algebra::combine::Op;
 use option_words::given::letter_of;
-use option_words::row::{Row, Takes};
-use option_words::settings::Settings;
+use option_words::option_row;
+use option_words::row::Row;
+use option_words::settings::{SECTOR_SIZE, Settings};
 use option_words::table::OptionTable;
 use option_words::values::{is_name, size_by};
 
 /// The least end that is too large for a map.
 const END_LIMIT: u64 = 1 << 63;
 
-/// The letter of the option that gives the size of a block.
-pub(crate) const BLOCK_SIZE: char = 'b';
-
 /// The letter of the one that names the map of the positions that are examined.
 pub(crate) const DOMAIN_MAPFILE: char = 'm';
-
-/// The letter of the one that asks that nothing be said.
-pub(crate) const QUIET: char = 'q';
 
 /// The letter of the one that says how many bytes are examined.
 pub(crate) const SIZE: char = 's';
@@ -41,116 +36,28 @@ pub(crate) static MODES: [char; 13] = [
 
 /// The options. A later one is a row here and an arm in `with_letter`.
 pub static ROWS: [Row; 22] = [
-    Row {
-        short: Some('a'),
-        long: "change-types",
-        takes: Takes::Always,
-    },
-    Row {
-        short: Some('b'),
-        long: "block-size",
-        takes: Takes::Always,
-    },
-    Row {
-        short: Some('c'),
-        long: "create-mapfile",
-        takes: Takes::Optional,
-    },
-    Row {
-        short: Some('C'),
-        long: "complete-mapfile",
-        takes: Takes::Optional,
-    },
-    Row {
-        short: Some('d'),
-        long: "delete-if-done",
-        takes: Takes::Never,
-    },
-    Row {
-        short: Some('D'),
-        long: "done-status",
-        takes: Takes::Never,
-    },
-    Row {
-        short: Some('f'),
-        long: "force",
-        takes: Takes::Never,
-    },
-    Row {
-        short: Some('i'),
-        long: "input-position",
-        takes: Takes::Always,
-    },
-    Row {
-        short: Some('l'),
-        long: "list-blocks",
-        takes: Takes::Always,
-    },
-    Row {
-        short: Some('L'),
-        long: "loose-domain",
-        takes: Takes::Never,
-    },
-    Row {
-        short: Some('m'),
-        long: "domain-mapfile",
-        takes: Takes::Always,
-    },
-    Row {
-        short: Some('n'),
-        long: "invert-mapfile",
-        takes: Takes::Never,
-    },
-    Row {
-        short: Some('o'),
-        long: "output-position",
-        takes: Takes::Always,
-    },
-    Row {
-        short: Some('p'),
-        long: "compare-mapfile",
-        takes: Takes::Always,
-    },
-    Row {
-        short: Some('P'),
-        long: "compare-as-domain",
-        takes: Takes::Always,
-    },
-    Row {
-        short: Some('q'),
-        long: "quiet",
-        takes: Takes::Never,
-    },
-    Row {
-        short: Some('s'),
-        long: "size",
-        takes: Takes::Always,
-    },
-    Row {
-        short: Some('t'),
-        long: "show-status",
-        takes: Takes::Never,
-    },
-    Row {
-        short: Some('v'),
-        long: "verbose",
-        takes: Takes::Never,
-    },
-    Row {
-        short: Some('x'),
-        long: "xor-mapfile",
-        takes: Takes::Always,
-    },
-    Row {
-        short: Some('y'),
-        long: "and-mapfile",
-        takes: Takes::Always,
-    },
-    Row {
-        short: Some('z'),
-        long: "or-mapfile",
-        takes: Takes::Always,
-    },
+    option_row!('a', "change-types", Always),
+    option_row!('b', "block-size", Always),
+    option_row!('c', "create-mapfile", Optional),
+    option_row!('C', "complete-mapfile", Optional),
+    option_row!('d', "delete-if-done", Never),
+    option_row!('D', "done-status", Never),
+    option_row!('f', "force", Never),
+    option_row!('i', "input-position", Always),
+    option_row!('l', "list-blocks", Always),
+    option_row!('L', "loose-domain", Never),
+    option_row!('m', "domain-mapfile", Always),
+    option_row!('n', "invert-mapfile", Never),
+    option_row!('o', "output-position", Always),
+    option_row!('p', "compare-mapfile", Always),
+    option_row!('P', "compare-as-domain", Always),
+    option_row!('q', "quiet", Never),
+    option_row!('s', "size", Always),
+    option_row!('t', "show-status", Never),
+    option_row!('v', "verbose", Never),
+    option_row!('x', "xor-mapfile", Always),
+    option_row!('y', "and-mapfile", Always),
+    option_row!('z', "or-mapfile", Always),
 ];
 
 /// What the options of a command line ask for.
@@ -175,22 +82,6 @@ pub struct LogOptions {
 }
 
 impl LogOptions {
-    /// What is asked for where no option but that of the block is given.
-    pub(crate) fn none(block: u64) -> LogOptions
-        ensures { result ≡ no_options block }
-    {
-        LogOptions {
-            block,
-            input_position: 0,
-            output_position: None,
-            size: None,
-            mode: None,
-            loose: false,
-            forced: false,
-            quiet: false,
-        }
-    }
-
     /// Whether the end of what is examined is too large, if the size gives one.
     pub(crate) fn ends_beyond(&self) -> bool
         ensures { result ≡ ends_beyond self.now self.now.size }
@@ -249,7 +140,7 @@ fn with_map(mode: LogMode, value: Option<&str>) -> Option<LogMode>
 macro_rules! set_by_letter {
     ($options:ident, $letter:ident, $value:ident; $($char:literal => $field:ident = $set:expr;)*) => {
         match $letter {
-            BLOCK_SIZE | VERBOSE => Some($options),
+            SECTOR_SIZE | VERBOSE => Some($options),
             DOMAIN_MAPFILE => if is_name($value) { Some($options) } else { None },
             $($char => {
                 let $field = $set;
@@ -297,6 +188,21 @@ fn with_letter(
 
 impl Settings for LogOptions {
     ghost rows = { option_rows };
+
+    ghost start = { no_options };
+
+    fn none(sector: u64) -> LogOptions {
+        LogOptions {
+            block: sector,
+            input_position: 0,
+            output_position: None,
+            size: None,
+            mode: None,
+            loose: false,
+            forced: false,
+            quiet: false,
+        }
+    }
 
     fn with_row(self, sector: u64, row: usize, value: Option<&str>) -> Option<LogOptions> {
         match letter_of(&ROWS, row) {

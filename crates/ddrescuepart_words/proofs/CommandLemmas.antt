@@ -1,15 +1,15 @@
 -- What a reading asks for is what its words ask for, within limits.
-use Rattle.std.proofs.Common.{◌≡◌, ℕ, ◌≤◌, Bool, true, false, cond, List, [], ◌∷◌, Option, Some, None, Result, Ok, Err, refl, sym, ◌∙◌, subst}
+use Rattle.std.proofs.Common.{◌≡◌, ℕ, ◌≤◌, Bool, List, [], ◌∷◌, Option, Some, None, Ok, refl, subst}
 use Rattle.option_words.specs.Words.{word}
 use Rattle.option_words.specs.declared.row.Row.{Row}
 use Rattle.option_words.specs.declared.reading.Item.{Item}
-use Rattle.option_words.specs.declared.fault.UsageFault.{UsageFault}
 use Rattle.option_words.specs.declared.fault.UsageFault.TheVariants.{BadValue}
 use Rattle.option_words.specs.Reading.{IsReading}
 use Rattle.option_words.specs.Values.{is_empty_text, is_given, number_by}
 use Rattle.option_words.proofs.ValueLemmas.{in_range}
-use Rattle.option_words.proofs.MeaningLemmas.{reading_asks as asked_only}
-use Rattle.ddrescuepart_words.specs.Command.{AreOptions, Command, IsAsked, command_in, last_partition, option_meanings, part_grammar, partition_by, quiet_letter, with_operands, with_partition}
+use Rattle.option_words.proofs.MeaningLemmas.{asked_within}
+use Rattle.option_words.proofs.ResultLemmas.{untested_part}
+use Rattle.ddrescuepart_words.specs.Command.{AreOptions, Command, IsAsked, IsInLimits, command_in, last_partition, option_meanings, part_grammar, partition_by, quiet_letter, with_operands, with_partition}
 
 -- what is asked for by two operands
 record IsOf (quiet : Bool) (c : Command) : Type 0 where
@@ -24,18 +24,13 @@ partition_part infile n (Some k) quiet c number e =
     let same : (record { infile = infile; partition = k; quiet = quiet }) ≡ c = cc in
     subst (IsOf quiet) same (record { quiet_is = refl; low = (number k refl).0; high = (number k refl).1 })
 
-empty_part : (b : Bool) (i : ℕ) (r : Result Command UsageFault) (c : Command)
-    → cond b (Err (BadValue i)) r ≡ Ok c → r ≡ Ok c
-empty_part true i r c e = absurd (cc)
-empty_part false i r c e = e
-
 operands_part : (words : List (List ℕ)) (quiet : Bool) (os : List ℕ) (c : Command)
     → with_operands words quiet os ≡ Ok c → IsOf quiet c
 operands_part words quiet [] c e = absurd (cc)
 operands_part words quiet (i ∷ []) c e = absurd (cc)
 operands_part words quiet (i ∷ k ∷ []) c e =
-    let named = empty_part (is_empty_text (word words i)) i
-    (with_partition (word words i) k (partition_by (word words k)) quiet) c e in
+    let named = (untested_part (is_empty_text (word words i)) (BadValue i)
+    (with_partition (word words i) k (partition_by (word words k)) quiet) c e).1 in
     partition_part (word words i) k (partition_by (word words k)) quiet c
     (λ n is. in_range 1 last_partition (number_by (Some (word words k))) n is) named
 operands_part words quiet (i ∷ k ∷ n ∷ more) c e = absurd (cc)
@@ -43,12 +38,6 @@ operands_part words quiet (i ∷ k ∷ n ∷ more) c e = absurd (cc)
 pub reading_asks : (words : List (List ℕ)) (rows : List Row) (is : List Item) (os : List ℕ) (c : Command)
     → AreOptions rows → IsReading rows words is os → command_in words is os ≡ Ok c → IsAsked words c
 reading_asks words rows is os c o r e =
-    let only = asked_only part_grammar words rows is os c o r e in
     let of = operands_part words (is_given option_meanings quiet_letter is) os c e in
-    record {
-      asks = only.asks;
-      alone = only.alone;
-      accepted = only.accepted;
-      limits = record { low = of.low; high = of.high };
-      quiet = (λ p. of.quiet_is ∙ only.quiet_is.0 p, λ t. only.quiet_is.1 (sym of.quiet_is ∙ t));
-    }
+    asked_within part_grammar words rows is os c (IsInLimits c) c.quiet o r e
+    (record { low = of.low; high = of.high }) of.quiet_is

@@ -1,5 +1,5 @@
 -- What the words of `ddrescuepart` ask for, or why they are refused.
-use Rattle.std.specs.Prelude.{◌≡◌, ◌↔◌, ℕ, ◌≤◌, Bool, true, List, [], ◌∷◌, length, Option, Some, None, Result, Ok, Err, option_and_then, codes, if◌then◌else◌}
+use Rattle.std.specs.Prelude.{ℕ, ◌≤◌, Bool, List, [], ◌∷◌, length, Option, Some, None, Result, Ok, Err, option_and_then, codes, if◌then◌else◌}
 use Rattle.option_words.specs.Words.{word}
 use Rattle.option_words.specs.declared.row.Takes.TheVariants.{Never}
 use Rattle.option_words.specs.declared.row.Row.{Row}
@@ -9,7 +9,8 @@ use Rattle.option_words.specs.declared.fault.UsageFault.{UsageFault}
 use Rattle.option_words.specs.declared.fault.UsageFault.TheVariants.{BadValue, Operands}
 use Rattle.option_words.specs.declared.command_error.CommandError.{CommandError}
 use Rattle.option_words.specs.Values.{Meaning, is_empty_text, is_given, number_by, within_range}
-use Rattle.option_words.specs.Grammar.{Grammar, AreOptionsOf, AskFor, AreRefusedBy, AskSilence, IsErrorBy}
+pub use Rattle.option_words.specs.Values.{quiet_letter}
+use Rattle.option_words.specs.Grammar.{Grammar, AreOptionsOf, AskFor, AreRefusedBy, AskSilence, IsAskedWithin, IsErrorBy}
 use Rattle.ddrescuepart_words.specs.declared.command.Command.{Command as CommandCode}
 
 -- the infile's name, the number of the partition, counted from 1, and whether nothing is to be said
@@ -22,10 +23,7 @@ pub record Command : Type 0 where
 abbrev pub told_by : CommandCode → Command
 told_by c = record { infile = c.infile.now; partition = c.partition; quiet = c.quiet }
 
--- the letter of the option that asks that no message be put, and the one option there is
-abbrev pub quiet_letter : ℕ
-quiet_letter = 113
-
+-- the one option there is
 abbrev pub option_meanings : List Meaning
 option_meanings = (Some quiet_letter, codes "quiet", Never) ∷ []
 
@@ -86,12 +84,8 @@ pub record IsInLimits (c : Command) : Type 0 where
   pub high : c.partition ≤ last_partition
 
 -- this is what the words ask for, and nothing else; within its limits
-pub record IsAsked (words : List (List ℕ)) (c : Command) : Type 0 where
-  pub asks : Asks words c
-  pub alone : (other : Command) → Asks words other → other ≡ c
-  pub accepted : (fault : UsageFault) → AreRefused words fault → ⊥
-  pub limits : IsInLimits c
-  pub quiet : AskQuiet words ↔ (c.quiet ≡ true)
+abbrev pub IsAsked : List (List ℕ) → Command → Type 0
+IsAsked words c = IsAskedWithin part_grammar words c (IsInLimits c) c.quiet
 
 -- why words ask for nothing; want of memory is free
 abbrev pub IsErrorOf : List (List ℕ) → CommandError → Type 0

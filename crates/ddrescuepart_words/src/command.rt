@@ -3,29 +3,23 @@ ghost use Rattle.std.specs.Prelude.{◌≡◌, All, Ok, Err, IfOk, IfErr};
 ghost use Rattle.option_words.specs.Values.{IsWord};
 ghost use Rattle.ddrescuepart_words.specs.Command.{AreOptions, IsAsked, IsErrorOf, command_read, partition_by, told_by, with_operands};
 
-use option_words::command_error::{CommandError, unread};
+use option_words::command_error::{CommandError, unread, usage_error};
 use option_words::fault::UsageFault;
-use option_words::given::is_given;
+use option_words::given::{QUIET, is_given};
+use option_words::option_row;
 use option_words::reader::read_words;
 use option_words::reading::WordReading;
-use option_words::row::{Row, Takes};
+use option_words::row::Row;
 use option_words::table::OptionTable;
 use option_words::values::{number_by, within_range};
 use option_words::words::Words;
 use std::alloc::Global;
 
-/// The letter of the option that asks that no message be put.
-const QUIET: char = 'q';
-
 /// The greatest number of a partition.
 const LAST_PARTITION: u64 = 132;
 
 /// The options.
-pub static ROWS: [Row; 1] = [Row {
-    short: Some(QUIET),
-    long: "quiet",
-    takes: Takes::Never,
-}];
+pub static ROWS: [Row; 1] = [option_row!('q', "quiet", Never)];
 
 /// What the words of a command line ask for.
 #[derive(Clone, Copy, Debug)]
@@ -110,9 +104,6 @@ pub fn read_command(alloc: Global, words: &Words) -> Result<Command<'_>, Command
     };
     match command_of(&table, words, &reading) {
         Ok(command) => Ok(command),
-        Err(fault) => Err(CommandError::Usage {
-            fault,
-            quiet: is_given(&table, QUIET, &reading.items),
-        }),
+        Err(fault) => Err(usage_error(&table, &reading.items, fault)),
     }
 }

@@ -7,13 +7,11 @@ use Rattle.option_words.specs.declared.fault.UsageFault.{UsageFault}
 use Rattle.option_words.specs.declared.fault.UsageFault.TheVariants.{BadValue}
 use Rattle.option_words.specs.Reading.{IsReading}
 use Rattle.option_words.specs.Values.{is_empty_text, size_by}
-use Rattle.option_words.proofs.MeaningLemmas.{reading_asks as asked_only}
+use Rattle.option_words.proofs.MeaningLemmas.{asked_within}
+use Rattle.option_words.proofs.ResultLemmas.{untested_part}
 use Rattle.option_words.proofs.ValueLemmas.{in_range}
-use Rattle.ddrescue_words.specs.declared.options.Options.{Options}
-use Rattle.ddrescue_words.specs.Options.{cluster_limit, cluster_of}
-use Rattle.ddrescue_words.specs.Asking.{AreInLimits as AreRescueLimits, is_too_large}
-use Rattle.ddrescue_words.proofs.OptionLemmas.{AreInRange}
-use Rattle.ddrescue_words.proofs.CommandLemmas.{some_sectors, not_above}
+use Rattle.ddrescue_words.specs.Asking.{is_too_large}
+use Rattle.ddrescue_words.proofs.CommandLemmas.{in_limits}
 use Rattle.ddrescueplan_words.specs.declared.options.PlanOptions.{PlanOptions}
 use Rattle.ddrescueplan_words.specs.Options.{options_in}
 use Rattle.ddrescueplan_words.specs.Command.{Command, AreInLimits, AreOptions, IsAsked, cluster_word, command_with, command_by, command_in, length_by, length_limit, with_length, plan_grammar}
@@ -64,16 +62,11 @@ record AreAccepted (r : Result PlanOptions ℕ) (c : Command) : Type 0 where
   small : is_too_large c.options.rescue ≡ false
   length : c.length ≤ length_limit
 
-small_part : (b : Bool) (f : UsageFault) (r : Result Command UsageFault) (c : Command) → cond b (Err f) r ≡ told c
-    → (b ≡ false) × (r ≡ told c)
-small_part true f r c e = absurd (cc)
-small_part false f r c e = (refl, e)
-
 options_by : (words : List (List ℕ)) (items : List Item) (r : Result PlanOptions ℕ) (os : List ℕ) (c : Command)
     → command_by words items r os ≡ told c → AreAccepted r c
 options_by words items (Err n) os c e = absurd (cc)
 options_by words items (Ok o) os c e =
-    let p = small_part (is_too_large o.rescue) (BadValue (cluster_word items)) (command_with words o os) c e in
+    let p = untested_part (is_too_large o.rescue) (BadValue (cluster_word items)) (command_with words o os) c e in
     let k = with_options words o os c p.1 in
     record {
       read = ap Ok (sym k.options);
@@ -81,34 +74,15 @@ options_by words items (Ok o) os c e =
       length = k.length;
     }
 
-in_limits : (o : Options) → AreInRange o.sector o → is_too_large o ≡ false → AreRescueLimits o
-in_limits o h e = record {
-  sector = h.sector.low;
-  sector_max = h.sector.high;
-  sectors = some_sectors o o.cluster_sectors h.cluster;
-  cluster_max = not_above cluster_limit (cluster_of o) e;
-  skip = h.skips.order;
-  skip_max = h.skips.below;
-  input_position = h.input;
-  output_position = h.output;
-  retries = h.retries;
-}
-
 -- what a reading asks for is what its words ask for, and nothing else
 pub reading_asks : (words : List (List ℕ)) (rows : List Row) (is : List Item) (os : List ℕ) (c : Command)
     → AreOptions rows → IsReading rows words is os → command_in words is os ≡ Ok c → IsAsked words c
 reading_asks words rows is os c o r e =
-    let only = asked_only plan_grammar words rows is os c o r e in
     let accepted = options_by words is (options_in words is) os c e in
     let keeps = options_keep words is c.options accepted.read in
-    record {
-      asks = only.asks;
-      alone = only.alone;
-      accepted = only.accepted;
-      limits = record {
-        options = in_limits c.options.rescue keeps.range accepted.small;
-        plain = keeps.plain;
-        length = accepted.length;
-      };
-      quiet = (λ p. keeps.quiet_is ∙ only.quiet_is.0 p, λ t. only.quiet_is.1 (sym keeps.quiet_is ∙ t));
-    }
+    asked_within plan_grammar words rows is os c (AreInLimits c) c.options.rescue.quiet o r e
+    (record {
+      options = in_limits c.options.rescue keeps.range.limits accepted.small;
+      plain = keeps.range.plain;
+      length = accepted.length;
+    }) keeps.quiet_is

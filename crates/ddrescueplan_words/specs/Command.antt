@@ -1,5 +1,5 @@
 -- What the words of `ddrescueplan` ask for, or why they are refused.
-use Rattle.std.specs.Prelude.{◌≡◌, ◌↔◌, ℕ, ◌^◌, ◌≤◌, true, false, List, [], ◌∷◌, length, Option, Some, None, Result, Ok, Err, option_and_then, if◌then◌else◌}
+use Rattle.std.specs.Prelude.{◌≡◌, ℕ, ◌≤◌, false, List, [], ◌∷◌, length, Option, Some, None, Result, Ok, Err, option_and_then, if◌then◌else◌}
 use Rattle.option_words.specs.Words.{word}
 use Rattle.option_words.specs.declared.row.Row.{Row}
 use Rattle.option_words.specs.declared.reading.Item.{Item}
@@ -7,14 +7,14 @@ use Rattle.option_words.specs.declared.reading.WordReading.{WordReading}
 use Rattle.option_words.specs.declared.fault.UsageFault.{UsageFault}
 use Rattle.option_words.specs.declared.fault.UsageFault.TheVariants.{BadValue, Operands}
 use Rattle.option_words.specs.declared.command_error.CommandError.{CommandError}
-use Rattle.option_words.specs.Values.{is_empty_text, last_of, size_by, within_range, word_in}
-use Rattle.option_words.specs.Grammar.{Grammar, AreOptionsOf, AskFor, AreRefusedBy, AskSilence, IsErrorBy}
+use Rattle.option_words.specs.Values.{is_empty_text, last_of, quiet_letter, size_by, within_range, word_in}
+use Rattle.option_words.specs.Grammar.{Grammar, AreOptionsOf, AskFor, AreRefusedBy, AskSilence, IsAskedWithin, IsErrorBy}
 use Rattle.run_options.specs.Limits.{no_limits}
 use Rattle.ddrescue_words.specs.declared.options.Options.{Options}
 use Rattle.ddrescue_words.specs.Asking.{is_too_large, AreInLimits as AreRescueLimits}
 use Rattle.ddrescueplan_words.specs.declared.options.PlanOptions.{PlanOptions}
 use Rattle.ddrescueplan_words.specs.declared.command.Command.{Command as CommandCode}
-use Rattle.ddrescueplan_words.specs.Options.{cluster_letter, option_meanings, options_in, quiet_letter}
+use Rattle.ddrescueplan_words.specs.Options.{cluster_letter, option_meanings, options_in}
 
 -- the length of the input, the name of the map of what can be read of it, and what the options say
 pub record Command : Type 0 where
@@ -103,12 +103,8 @@ pub record AreInLimits (c : Command) : Type 0 where
   pub length : c.length ≤ length_limit
 
 -- this is what the words ask for, and nothing else; within limits
-pub record IsAsked (words : List (List ℕ)) (c : Command) : Type 0 where
-  pub asks : Asks words c
-  pub alone : (other : Command) → Asks words other → other ≡ c
-  pub accepted : (fault : UsageFault) → AreRefused words fault → ⊥
-  pub limits : AreInLimits c
-  pub quiet : AskQuiet words ↔ (c.options.rescue.quiet ≡ true)
+abbrev pub IsAsked : List (List ℕ) → Command → Type 0
+IsAsked words c = IsAskedWithin plan_grammar words c (AreInLimits c) c.options.rescue.quiet
 
 -- why words ask for nothing; want of memory is free
 abbrev pub IsErrorOf : List (List ℕ) → CommandError → Type 0

@@ -3,7 +3,7 @@ use Rattle.std.specs.Prelude.{ℕ, List, [], ◌∷◌, map, Option, Some, None,
 use Rattle.option_words.specs.declared.row.Takes.{Takes}
 use Rattle.option_words.specs.declared.row.Takes.TheVariants.{Never}
 use Rattle.option_words.specs.declared.reading.Item.{Item}
-use Rattle.option_words.specs.Values.{Meaning, OptionRow, meanings_of, row_of, set_by}
+use Rattle.option_words.specs.Values.{Meaning, OptionRow, meanings_of, row_of, sector_letter, set_by}
 use Rattle.option_words.specs.Values.{options_in as options_by}
 use Rattle.ddrescue_words.specs.declared.options.Options.{Options}
 use Rattle.ddrescue_words.specs.Options.{option_rows as rescue_rows, no_options as no_rescue_options}
@@ -31,16 +31,9 @@ option_row letter = record {
   sets = λ sector o value. option_map of_rescue (set_by (row_of letter rescue_rows) sector o.rescue value);
 }
 
--- The letters of options that are read by themselves. The size of a sector (`-b`) is set before all others, the size of
--- a cluster (`-c`) is checked again after all others, and `-q` asks for no message.
-abbrev pub sector_letter : ℕ
-sector_letter = 98
-
+-- the letter of the option that gives the size of a cluster, which is checked again after all others
 abbrev pub cluster_letter : ℕ
 cluster_letter = 99
-
-abbrev pub quiet_letter : ℕ
-quiet_letter = 113
 
 -- the options
 abbrev pub option_letters : List ℕ

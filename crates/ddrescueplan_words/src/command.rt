@@ -3,17 +3,16 @@ ghost use Rattle.std.specs.Prelude.{◌≡◌, ◌<◌, ◌≤◌, All, Ok, Err,
 ghost use Rattle.option_words.specs.Spots.{HasSpot};
 ghost use Rattle.option_words.specs.Values.{IsWord};
 ghost use Rattle.ddrescue_words.specs.Asking.{is_too_large};
-ghost use Rattle.ddrescueplan_words.specs.Options.{options_in};
 ghost use Rattle.ddrescueplan_words.specs.Command.{AreOptions, IsAsked, IsErrorOf, command_read, command_with, length_by, told_by};
 
-use crate::options::{CLUSTER_SIZE, PlanOptions, QUIET, SECTOR_SIZE, option_table};
+use crate::options::{CLUSTER_SIZE, PlanOptions, option_table};
 use ddrescue_words::options::Options;
-use option_words::command_error::{CommandError, unread};
+use option_words::command_error::{CommandError, unread, usage_error};
 use option_words::fault::UsageFault;
-use option_words::given::{is_given, last_of};
+use option_words::given::last_of;
 use option_words::reader::read_words;
-use option_words::reading::{Item, WordReading};
-use option_words::settings::{read_sector_in, read_settings};
+use option_words::reading::WordReading;
+use option_words::settings::read_options;
 use option_words::table::OptionTable;
 use option_words::values::{size_by, within_range};
 use option_words::words::Words;
@@ -36,16 +35,6 @@ pub struct Command<'a> {
     pub length: u64,
     pub test_map: &'a str,
     pub options: PlanOptions,
-}
-
-/// What options ask for, or the word of the first bad value.
-fn read_options(table: &OptionTable, words: &Words, items: &[Item]) -> Result<PlanOptions, usize>
-    requires table { AreOptions table.now }
-    requires spots { All (HasSpot words.now) items.now }
-    ensures { result ≡ options_in words.now items.now }
-{
-    let sector = read_sector_in(table, words, SECTOR_SIZE, items)?;
-    read_settings(words, items, sector, PlanOptions::none(sector))
 }
 
 /// Whether a cluster is too large.
@@ -111,7 +100,7 @@ fn command_of<'a>(
     ensures asked { IfOk result (λ c. command_read words.now reading.now ≡ Ok (told_by c)) }
     ensures refused { IfErr result (λ fault. command_read words.now reading.now ≡ Err fault) }
 {
-    let options = match read_options(table, words, &reading.items) {
+    let options: PlanOptions = match read_options(table, words, &reading.items) {
         Ok(options) => options,
         Err(word) => return Err(UsageFault::BadValue { word }),
     };
@@ -136,9 +125,6 @@ pub fn read_command(alloc: Global, words: &Words) -> Result<Command<'_>, Command
     };
     match command_of(&table, words, &reading) {
         Ok(command) => Ok(command),
-        Err(fault) => Err(CommandError::Usage {
-            fault,
-            quiet: is_given(&table, QUIET, &reading.items),
-        }),
+        Err(fault) => Err(usage_error(&table, &reading.items, fault)),
     }
 }

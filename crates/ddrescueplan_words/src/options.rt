@@ -4,79 +4,30 @@ ghost use Rattle.ddrescueplan_words.specs.Options.{no_options, of_rescue, option
 ghost use Rattle.ddrescueplan_words.specs.Command.{AreOptions};
 
 use ddrescue_words::options::Options;
-use option_words::row::{Row, Takes};
+use option_words::option_row;
+use option_words::row::Row;
 use option_words::settings::Settings;
 use option_words::table::OptionTable;
 
-/// The letter of the option that gives the size of a sector.
-pub(crate) const SECTOR_SIZE: char = 'b';
-
 /// The letter of the one that gives the size of a cluster.
 pub(crate) const CLUSTER_SIZE: char = 'c';
-
-/// The letter of the one that asks that no message be put.
-pub(crate) const QUIET: char = 'q';
 
 /// Which row of a rescue's options each row is, counted from 0.
 const RESCUE_PLACES: [usize; 11] = [2, 3, 10, 11, 15, 16, 18, 19, 20, 21, 23];
 
 /// The options. A later one is a row here and its place above.
 pub static ROWS: [Row; 11] = [
-    Row {
-        short: Some(SECTOR_SIZE),
-        long: "sector-size",
-        takes: Takes::Always,
-    },
-    Row {
-        short: Some(CLUSTER_SIZE),
-        long: "cluster-size",
-        takes: Takes::Always,
-    },
-    Row {
-        short: Some('i'),
-        long: "input-position",
-        takes: Takes::Always,
-    },
-    Row {
-        short: Some('K'),
-        long: "skip-size",
-        takes: Takes::Always,
-    },
-    Row {
-        short: Some('n'),
-        long: "no-scrape",
-        takes: Takes::Never,
-    },
-    Row {
-        short: Some('N'),
-        long: "no-trim",
-        takes: Takes::Never,
-    },
-    Row {
-        short: Some(QUIET),
-        long: "quiet",
-        takes: Takes::Never,
-    },
-    Row {
-        short: Some('r'),
-        long: "retry-passes",
-        takes: Takes::Always,
-    },
-    Row {
-        short: Some('R'),
-        long: "reverse",
-        takes: Takes::Never,
-    },
-    Row {
-        short: Some('s'),
-        long: "size",
-        takes: Takes::Always,
-    },
-    Row {
-        short: Some('u'),
-        long: "unidirectional",
-        takes: Takes::Never,
-    },
+    option_row!('b', "sector-size", Always),
+    option_row!('c', "cluster-size", Always),
+    option_row!('i', "input-position", Always),
+    option_row!('K', "skip-size", Always),
+    option_row!('n', "no-scrape", Never),
+    option_row!('N', "no-trim", Never),
+    option_row!('q', "quiet", Never),
+    option_row!('r', "retry-passes", Always),
+    option_row!('R', "reverse", Never),
+    option_row!('s', "size", Always),
+    option_row!('u', "unidirectional", Never),
 ];
 
 /// What the options of a command line ask for.
@@ -84,17 +35,6 @@ pub static ROWS: [Row; 11] = [
 pub struct PlanOptions {
     /// What they ask of the rescue; all that they can't ask for is as a rescue has it where no option is given.
     pub rescue: Options,
-}
-
-impl PlanOptions {
-    /// What is asked for where no option but the sector's is given.
-    pub(crate) fn none(sector: u64) -> PlanOptions
-        ensures { result ≡ no_options sector }
-    {
-        PlanOptions {
-            rescue: Options::none(sector),
-        }
-    }
 }
 
 /// The table of the options.
@@ -126,6 +66,14 @@ fn of_rescue(rescue: Option<Options>) -> Option<PlanOptions>
 
 impl Settings for PlanOptions {
     ghost rows = { option_rows };
+
+    ghost start = { no_options };
+
+    fn none(sector: u64) -> PlanOptions {
+        PlanOptions {
+            rescue: Options::none(sector),
+        }
+    }
 
     fn with_row(self, sector: u64, row: usize, value: Option<&str>) -> Option<PlanOptions> {
         match rescue_row(row) {

@@ -1,5 +1,5 @@
 -- What the words of `ddrescueshow` ask for, or why they are refused.
-use Rattle.std.specs.Prelude.{◌≡◌, ◌↔◌, ℕ, ◌^◌, ◌<◌, ◌≤◌, Bool, true, List, [], ◌∷◌, length, Option, option_map, Result, Ok, Err}
+use Rattle.std.specs.Prelude.{ℕ, ◌^◌, ◌<◌, ◌≤◌, List, [], ◌∷◌, length, Option, option_map, Result, Ok, Err}
 use Rattle.option_words.specs.Words.{word}
 use Rattle.option_words.specs.declared.row.Row.{Row}
 use Rattle.option_words.specs.declared.reading.Item.{Item}
@@ -7,11 +7,11 @@ use Rattle.option_words.specs.declared.reading.WordReading.{WordReading}
 use Rattle.option_words.specs.declared.fault.UsageFault.{UsageFault}
 use Rattle.option_words.specs.declared.fault.UsageFault.TheVariants.{BadValue, Operands}
 use Rattle.option_words.specs.declared.command_error.CommandError.{CommandError}
-use Rattle.option_words.specs.Values.{empty_operand, last_value}
-use Rattle.option_words.specs.Grammar.{Grammar, AreOptionsOf, AskFor, AreRefusedBy, AskSilence, IsErrorBy, unless_empty}
+use Rattle.option_words.specs.Values.{empty_operand, last_value, quiet_letter}
+use Rattle.option_words.specs.Grammar.{Grammar, AreOptionsOf, AskFor, AreRefusedBy, AskSilence, IsAskedWithin, IsErrorBy, unless_empty}
 use Rattle.ddrescueshow_words.specs.declared.options.ShowOptions.{ShowOptions}
 use Rattle.ddrescueshow_words.specs.declared.command.Command.{Command as CommandCode}
-use Rattle.ddrescueshow_words.specs.Options.{domain_letter, option_meanings, options_in, quiet_letter}
+use Rattle.ddrescueshow_words.specs.Options.{domain_letter, option_meanings, options_in}
 
 -- the names of the mapfile and of the domain map, if one is named, and what the options say
 pub record Command : Type 0 where
@@ -84,12 +84,8 @@ pub record AreInLimits (o : ShowOptions) : Type 0 where
   pub rows_max : o.rows ≤ 1000
 
 -- this is what the words ask for, and nothing else; with options within their limits
-pub record IsAsked (words : List (List ℕ)) (c : Command) : Type 0 where
-  pub asks : Asks words c
-  pub alone : (other : Command) → Asks words other → other ≡ c
-  pub accepted : (fault : UsageFault) → AreRefused words fault → ⊥
-  pub limits : AreInLimits c.options
-  pub quiet : AskQuiet words ↔ (c.options.quiet ≡ true)
+abbrev pub IsAsked : List (List ℕ) → Command → Type 0
+IsAsked words c = IsAskedWithin show_grammar words c (AreInLimits c.options) c.options.quiet
 
 -- why words ask for nothing; want of memory is free
 abbrev pub IsErrorOf : List (List ℕ) → CommandError → Type 0

@@ -1,33 +1,17 @@
 -- The options of `ddrescueshow`, one a row, and what they ask for. A later option is a row more.
-use Rattle.std.specs.Prelude.{ℕ, Bool, true, false, List, [], ◌∷◌, ◌++◌, length, Option, Some, None, Result, option_map, option_and_then, codes, if◌then◌else◌}
+use Rattle.std.specs.Prelude.{ℕ, true, false, List, [], ◌∷◌, ◌++◌, Option, Some, None, Result, option_map, option_and_then, codes, if◌then◌else◌}
 use Rattle.std.specs.Str.{bytes_eq}
 use Rattle.option_words.specs.declared.row.Takes.TheVariants.{Never, Always}
 use Rattle.option_words.specs.declared.reading.Item.{Item}
-use Rattle.option_words.specs.Values.{Meaning, OptionRow, is_name, meanings_of, number_by, size_by, within_range}
+use Rattle.option_words.specs.Values.{Meaning, OptionRow, flag, is_name, meanings_of, number_by, quiet_letter, sector_letter, size_by, valued, within_range}
 use Rattle.option_words.specs.Values.{options_in as options_by}
 use Rattle.ddrescueshow_words.specs.declared.options.Coloring.{Coloring}
 use Rattle.ddrescueshow_words.specs.declared.options.Coloring.TheVariants.{Auto, Always as InAnyCase, Never as InNoCase}
 use Rattle.ddrescueshow_words.specs.declared.options.ShowOptions.{ShowOptions}
 
--- an option without a value, and one with a value
-abbrev pub flag : (letter : ℕ) → List ℕ → (ShowOptions → ShowOptions) → OptionRow ShowOptions
-flag letter name sets =
-    record { letter = Some letter; name = name; takes = Never; sets = λ sector o value. Some (sets o) }
-
-abbrev pub valued : (letter : ℕ) → List ℕ → (ℕ → ShowOptions → Option (List ℕ) → Option ShowOptions)
-    → OptionRow ShowOptions
-valued letter name sets = record { letter = Some letter; name = name; takes = Always; sets = sets }
-
--- The letters of options that are read by themselves. The size of a sector (`-b`) is set before all others, `-m` names
--- the domain map, and `-q` asks for no message.
-abbrev pub sector_letter : ℕ
-sector_letter = 98
-
+-- the letter of the option that names the domain map
 abbrev pub domain_letter : ℕ
 domain_letter = 109
-
-abbrev pub quiet_letter : ℕ
-quiet_letter = 113
 
 -- the number of cells in a row, or of rows, that a value gives
 abbrev pub count_by : Option (List ℕ) → Option ℕ

@@ -5,19 +5,14 @@ ghost use Rattle.ddrescueshow_words.specs.Options.{color_row, coloring_by, count
 ghost use Rattle.ddrescueshow_words.specs.Command.{AreOptions};
 
 use option_words::given::letter_of;
-use option_words::row::{Row, Takes};
-use option_words::settings::Settings;
+use option_words::option_row;
+use option_words::row::Row;
+use option_words::settings::{SECTOR_SIZE, Settings};
 use option_words::table::OptionTable;
 use option_words::values::{is_name, number_by, size_by, within_range};
 
-/// The letter of the option that gives the size of a sector.
-pub(crate) const SECTOR_SIZE: char = 'b';
-
 /// The letter of the one that names the domain map.
 pub(crate) const DOMAIN_MAPFILE: char = 'm';
-
-/// The letter of the one that asks that nothing be said.
-pub(crate) const QUIET: char = 'q';
 
 /// The row of the option that says when the picture is in color, counted from 0. It has no letter, nor have the
 /// following ones.
@@ -37,64 +32,20 @@ const MOST_CELLS: u64 = 1000;
 
 /// The options. A later one with a letter is a row here, before the last four, and an arm in `with_letter`.
 pub static ROWS: [Row; 10] = [
-    Row {
-        short: Some('b'),
-        long: "sector-size",
-        takes: Takes::Always,
-    },
-    Row {
-        short: Some('i'),
-        long: "input-position",
-        takes: Takes::Always,
-    },
-    Row {
-        short: Some('L'),
-        long: "loose-domain",
-        takes: Takes::Never,
-    },
-    Row {
-        short: Some('m'),
-        long: "domain-mapfile",
-        takes: Takes::Always,
-    },
-    Row {
-        short: Some('q'),
-        long: "quiet",
-        takes: Takes::Never,
-    },
-    Row {
-        short: Some('s'),
-        long: "size",
-        takes: Takes::Always,
-    },
-    Row {
-        short: None,
-        long: "color",
-        takes: Takes::Always,
-    },
-    Row {
-        short: None,
-        long: "rows",
-        takes: Takes::Always,
-    },
-    Row {
-        short: None,
-        long: "svg",
-        takes: Takes::Never,
-    },
-    Row {
-        short: None,
-        long: "width",
-        takes: Takes::Always,
-    },
+    option_row!('b', "sector-size", Always),
+    option_row!('i', "input-position", Always),
+    option_row!('L', "loose-domain", Never),
+    option_row!('m', "domain-mapfile", Always),
+    option_row!('q', "quiet", Never),
+    option_row!('s', "size", Always),
+    option_row!("color", Always),
+    option_row!("rows", Always),
+    option_row!("svg", Never),
+    option_row!("width", Always),
 ];
 
 /// The option that goes alone, to follow a rescue. So it is no row of the table.
-pub static PROGRESS: Row = Row {
-    short: None,
-    long: "progress",
-    takes: Takes::Never,
-};
+pub static PROGRESS: Row = option_row!("progress", Never);
 
 /// When a picture is in color.
 #[derive(Clone, Copy, Debug, PartialEq, Eq)]
@@ -126,25 +77,6 @@ pub struct ShowOptions {
     pub loose: bool,
     /// No message is put; by default it is. The picture is put all the same.
     pub quiet: bool,
-}
-
-impl ShowOptions {
-    /// What is asked for if no option but the sector's is given.
-    pub(crate) fn none(sector: u64) -> ShowOptions
-        ensures { result ≡ no_options sector }
-    {
-        ShowOptions {
-            sector,
-            input_position: 0,
-            size: None,
-            width: 64,
-            rows: 16,
-            coloring: Coloring::Auto,
-            svg: false,
-            loose: false,
-            quiet: false,
-        }
-    }
 }
 
 /// The table of the options.
@@ -245,6 +177,22 @@ fn with_letter(
 
 impl Settings for ShowOptions {
     ghost rows = { option_rows };
+
+    ghost start = { no_options };
+
+    fn none(sector: u64) -> ShowOptions {
+        ShowOptions {
+            sector,
+            input_position: 0,
+            size: None,
+            width: 64,
+            rows: 16,
+            coloring: Coloring::Auto,
+            svg: false,
+            loose: false,
+            quiet: false,
+        }
+    }
 
     fn with_row(self, sector: u64, row: usize, value: Option<&str>) -> Option<ShowOptions> {
         match row {

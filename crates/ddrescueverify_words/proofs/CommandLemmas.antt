@@ -1,12 +1,12 @@
 -- What a reading asks for is within limits.
-use Rattle.std.proofs.Common.{◌≡◌, ℕ, List, [], ◌∷◌, Option, Some, None, Result, Ok, Err, refl, sym, ◌∙◌, ap, subst}
+use Rattle.std.proofs.Common.{◌≡◌, ℕ, List, [], ◌∷◌, Result, Ok, Err, sym, ap}
 use Rattle.option_words.specs.declared.row.Row.{Row}
 use Rattle.option_words.specs.declared.reading.Item.{Item}
 use Rattle.option_words.specs.declared.fault.UsageFault.{UsageFault}
 use Rattle.option_words.specs.Reading.{IsReading}
 use Rattle.option_words.specs.Values.{empty_operand}
-use Rattle.option_words.specs.Grammar.{unless_empty}
-use Rattle.option_words.proofs.MeaningLemmas.{reading_asks as asked_only}
+use Rattle.option_words.proofs.MeaningLemmas.{asked_within}
+use Rattle.option_words.proofs.ResultLemmas.{unless_part}
 use Rattle.ddrescueverify_words.specs.declared.options.VerifyOptions.{VerifyOptions}
 use Rattle.ddrescueverify_words.specs.Options.{options_in}
 use Rattle.ddrescueverify_words.specs.Command.{Command, AreInLimits, AreOptions, IsAsked, command_with, command_by, command_in, verify_grammar}
@@ -25,12 +25,6 @@ with_options words o (i ∷ []) c e = absurd (cc)
 with_options words o (i ∷ out ∷ []) c e = absurd (cc)
 with_options words o (i ∷ out ∷ map ∷ []) c e = same_options _ c e
 with_options words o (i ∷ out ∷ map ∷ n ∷ more) c e = absurd (cc)
-
-unless_part : (n : Option ℕ) (r : Result Command UsageFault) (c : Command) → unless_empty n r ≡ told c → r ≡ told c
-unless_part None (Ok c') c e = e
-unless_part (Some n) (Ok c') c e = absurd (cc)
-unless_part None (Err f) c e = absurd (cc)
-unless_part (Some n) (Err f) c e = absurd (cc)
 
 options_by : (words : List (List ℕ)) (r : Result VerifyOptions ℕ) (os : List ℕ) (c : Command)
     → command_by words r os ≡ told c → r ≡ Ok c.options
@@ -51,12 +45,6 @@ in_limits o h = record {
 pub reading_asks : (words : List (List ℕ)) (rows : List Row) (is : List Item) (os : List ℕ) (c : Command)
     → AreOptions rows → IsReading rows words is os → command_in words is os ≡ Ok c → IsAsked words c
 reading_asks words rows is os c o r e =
-    let only = asked_only verify_grammar words rows is os c o r e in
     let keeps = options_keep words is c.options (options_by words (options_in words is) os c e) in
-    record {
-      asks = only.asks;
-      alone = only.alone;
-      accepted = only.accepted;
-      limits = in_limits c.options keeps.range;
-      quiet = (λ p. keeps.quiet_is ∙ only.quiet_is.0 p, λ t. only.quiet_is.1 (sym keeps.quiet_is ∙ t));
-    }
+    asked_within verify_grammar words rows is os c (AreInLimits c.options) c.options.quiet o r e
+    (in_limits c.options keeps.range) keeps.quiet_is

@@ -1,5 +1,5 @@
 -- What the words of `ddrescueverify` ask for, or why they are refused.
-use Rattle.std.specs.Prelude.{◌≡◌, ◌↔◌, ℕ, ◌^◌, ◌<◌, ◌≤◌, Bool, true, List, [], ◌∷◌, length, Result, Ok, Err, IfSome}
+use Rattle.std.specs.Prelude.{ℕ, ◌^◌, ◌<◌, ◌≤◌, List, [], ◌∷◌, length, Result, Ok, Err, IfSome}
 use Rattle.option_words.specs.Words.{word}
 use Rattle.option_words.specs.declared.row.Row.{Row}
 use Rattle.option_words.specs.declared.reading.Item.{Item}
@@ -7,11 +7,11 @@ use Rattle.option_words.specs.declared.reading.WordReading.{WordReading}
 use Rattle.option_words.specs.declared.fault.UsageFault.{UsageFault}
 use Rattle.option_words.specs.declared.fault.UsageFault.TheVariants.{BadValue, Operands}
 use Rattle.option_words.specs.declared.command_error.CommandError.{CommandError}
-use Rattle.option_words.specs.Values.{empty_operand}
-use Rattle.option_words.specs.Grammar.{Grammar, AreOptionsOf, AskFor, AreRefusedBy, AskSilence, IsErrorBy, unless_empty}
+use Rattle.option_words.specs.Values.{empty_operand, quiet_letter}
+use Rattle.option_words.specs.Grammar.{Grammar, AreOptionsOf, AskFor, AreRefusedBy, AskSilence, IsAskedWithin, IsErrorBy, unless_empty}
 use Rattle.ddrescueverify_words.specs.declared.options.VerifyOptions.{VerifyOptions}
 use Rattle.ddrescueverify_words.specs.declared.command.Command.{Command as CommandCode}
-use Rattle.ddrescueverify_words.specs.Options.{option_meanings, options_in, quiet_letter}
+use Rattle.ddrescueverify_words.specs.Options.{option_meanings, options_in}
 
 -- the names of the infile, the outfile and the mapfile, and what the options say
 pub record Command : Type 0 where
@@ -79,12 +79,8 @@ pub record AreInLimits (o : VerifyOptions) : Type 0 where
   pub output_position : IfSome o.output_position (λ n. n < 2 ^ 63)
 
 -- this is what the words ask for, and nothing else; with options within their limits
-pub record IsAsked (words : List (List ℕ)) (c : Command) : Type 0 where
-  pub asks : Asks words c
-  pub alone : (other : Command) → Asks words other → other ≡ c
-  pub accepted : (fault : UsageFault) → AreRefused words fault → ⊥
-  pub limits : AreInLimits c.options
-  pub quiet : AskQuiet words ↔ (c.options.quiet ≡ true)
+abbrev pub IsAsked : List (List ℕ) → Command → Type 0
+IsAsked words c = IsAskedWithin verify_grammar words c (AreInLimits c.options) c.options.quiet
 
 -- why words ask for nothing; want of memory is free
 abbrev pub IsErrorOf : List (List ℕ) → CommandError → Type 0

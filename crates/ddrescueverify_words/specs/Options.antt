@@ -1,27 +1,9 @@
 -- The options of `ddrescueverify`, one a row, and what they ask for. A later option is a row more.
-use Rattle.std.specs.Prelude.{ℕ, Bool, true, false, List, [], ◌∷◌, Option, Some, None, Result, option_map, codes}
-use Rattle.option_words.specs.declared.row.Takes.TheVariants.{Never, Always}
+use Rattle.std.specs.Prelude.{ℕ, true, false, List, [], ◌∷◌, Some, None, Result, option_map, codes}
 use Rattle.option_words.specs.declared.reading.Item.{Item}
-use Rattle.option_words.specs.Values.{Meaning, OptionRow, meanings_of, size_by}
+use Rattle.option_words.specs.Values.{Meaning, OptionRow, flag, meanings_of, quiet_letter, sector_letter, size_by, valued}
 use Rattle.option_words.specs.Values.{options_in as options_by}
 use Rattle.ddrescueverify_words.specs.declared.options.VerifyOptions.{VerifyOptions}
-
--- an option without a value, and one with a value
-abbrev pub flag : (letter : ℕ) → List ℕ → (VerifyOptions → VerifyOptions) → OptionRow VerifyOptions
-flag letter name sets =
-    record { letter = Some letter; name = name; takes = Never; sets = λ sector o value. Some (sets o) }
-
-abbrev pub valued : (letter : ℕ) → List ℕ → (ℕ → VerifyOptions → Option (List ℕ) → Option VerifyOptions)
-    → OptionRow VerifyOptions
-valued letter name sets = record { letter = Some letter; name = name; takes = Always; sets = sets }
-
--- The letters of options that are read by themselves. The size of a sector (`-b`) is set before all others, and `-q`
--- asks for no message.
-abbrev pub sector_letter : ℕ
-sector_letter = 98
-
-abbrev pub quiet_letter : ℕ
-quiet_letter = 113
 
 -- the options, each with what it sets by the size of a sector and the text of its value
 abbrev pub option_rows : List (OptionRow VerifyOptions)

@@ -2,17 +2,15 @@
 ghost use Rattle.std.specs.Prelude.{◌≡◌, All, Ok, Err, IfOk, IfErr};
 ghost use Rattle.option_words.specs.Spots.{HasSpot};
 ghost use Rattle.option_words.specs.Values.{IsWord};
-ghost use Rattle.ddrescueverify_words.specs.Options.{options_in};
 ghost use Rattle.ddrescueverify_words.specs.Command.{AreOptions, IsAsked, IsErrorOf, command_read, command_with, told_by};
 
-use crate::options::{QUIET, SECTOR_SIZE, VerifyOptions, option_table};
-use option_words::command_error::{CommandError, unread};
+use crate::options::{VerifyOptions, option_table};
+use option_words::command_error::{CommandError, unread, usage_error};
 use option_words::fault::UsageFault;
-use option_words::given::is_given;
 use option_words::operands::find_empty;
 use option_words::reader::read_words;
-use option_words::reading::{Item, WordReading};
-use option_words::settings::{read_sector_in, read_settings};
+use option_words::reading::WordReading;
+use option_words::settings::read_options;
 use option_words::table::OptionTable;
 use option_words::words::Words;
 use std::alloc::Global;
@@ -24,16 +22,6 @@ pub struct Command<'a> {
     pub outfile: &'a str,
     pub mapfile: &'a str,
     pub options: VerifyOptions,
-}
-
-/// What options ask for, or the word of the first bad value.
-fn read_options(table: &OptionTable, words: &Words, items: &[Item]) -> Result<VerifyOptions, usize>
-    requires table { AreOptions table.now }
-    requires spots { All (HasSpot words.now) items.now }
-    ensures { result ≡ options_in words.now items.now }
-{
-    let sector = read_sector_in(table, words, SECTOR_SIZE, items)?;
-    read_settings(words, items, sector, VerifyOptions::none(sector))
 }
 
 /// The files of three operands.
@@ -71,7 +59,7 @@ fn command_of<'a>(
     ensures asked { IfOk result (λ c. command_read words.now reading.now ≡ Ok (told_by c)) }
     ensures refused { IfErr result (λ fault. command_read words.now reading.now ≡ Err fault) }
 {
-    let options = match read_options(table, words, &reading.items) {
+    let options: VerifyOptions = match read_options(table, words, &reading.items) {
         Ok(options) => options,
         Err(word) => return Err(UsageFault::BadValue { word }),
     };
@@ -96,9 +84,6 @@ pub fn read_command(alloc: Global, words: &Words) -> Result<Command<'_>, Command
     };
     match command_of(&table, words, &reading) {
         Ok(command) => Ok(command),
-        Err(fault) => Err(CommandError::Usage {
-            fault,
-            quiet: is_given(&table, QUIET, &reading.items),
-        }),
+        Err(fault) => Err(usage_error(&table, &reading.items, fault)),
     }
 }

@@ -5,44 +5,19 @@ ghost use Rattle.ddrescueverify_words.specs.Options.{no_options, option_rows};
 ghost use Rattle.ddrescueverify_words.specs.Command.{AreOptions};
 
 use option_words::given::letter_of;
-use option_words::row::{Row, Takes};
-use option_words::settings::Settings;
+use option_words::option_row;
+use option_words::row::Row;
+use option_words::settings::{SECTOR_SIZE, Settings};
 use option_words::table::OptionTable;
 use option_words::values::size_by;
 
-/// The letter of the option that gives the size of a sector.
-pub(crate) const SECTOR_SIZE: char = 'b';
-
-/// The letter of the one that asks that nothing be said.
-pub(crate) const QUIET: char = 'q';
-
 /// The options. A later one is a row here and an arm in `with_letter`.
 pub static ROWS: [Row; 5] = [
-    Row {
-        short: Some('b'),
-        long: "sector-size",
-        takes: Takes::Always,
-    },
-    Row {
-        short: Some('i'),
-        long: "input-position",
-        takes: Takes::Always,
-    },
-    Row {
-        short: Some('o'),
-        long: "output-position",
-        takes: Takes::Always,
-    },
-    Row {
-        short: Some('q'),
-        long: "quiet",
-        takes: Takes::Never,
-    },
-    Row {
-        short: Some('s'),
-        long: "size",
-        takes: Takes::Always,
-    },
+    option_row!('b', "sector-size", Always),
+    option_row!('i', "input-position", Always),
+    option_row!('o', "output-position", Always),
+    option_row!('q', "quiet", Never),
+    option_row!('s', "size", Always),
 ];
 
 /// What the options of a command line ask for.
@@ -58,21 +33,6 @@ pub struct VerifyOptions {
     pub size: Option<u64>,
     /// Nothing is put on the console; by default the numbers and messages are.
     pub quiet: bool,
-}
-
-impl VerifyOptions {
-    /// What is asked for where no option but the sector's is given.
-    pub(crate) fn none(sector: u64) -> VerifyOptions
-        ensures { result ≡ no_options sector }
-    {
-        VerifyOptions {
-            sector,
-            input_position: 0,
-            output_position: None,
-            size: None,
-            quiet: false,
-        }
-    }
 }
 
 /// The table of the options.
@@ -121,6 +81,18 @@ fn with_letter(
 
 impl Settings for VerifyOptions {
     ghost rows = { option_rows };
+
+    ghost start = { no_options };
+
+    fn none(sector: u64) -> VerifyOptions {
+        VerifyOptions {
+            sector,
+            input_position: 0,
+            output_position: None,
+            size: None,
+            quiet: false,
+        }
+    }
 
     fn with_row(self, sector: u64, row: usize, value: Option<&str>) -> Option<VerifyOptions> {
         match letter_of(&ROWS, row) {

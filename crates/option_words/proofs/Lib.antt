@@ -1,4 +1,5 @@
 -- Other crates cite these.
+pub mod KeepLemmas
 pub mod LastLemmas
 pub mod LawLemmas
 pub mod MeaningLemmas
@@ -6,12 +7,12 @@ pub mod MeantLemmas
 pub mod MemoryLemmas
 pub mod OperandLemmas
 pub mod QuietLemmas
+pub mod ResultLemmas
 pub mod RowLemmas
 pub mod TurnLemmas
 pub mod ValueLemmas
 -- These are the crate's own.
 mod ReadLemmas
-mod ResultLemmas
 mod SpotLemmas
 mod TableLemmas
 mod TakeLemmas

@@ -1,18 +1,20 @@
 -- By any grammar words ask for one thing, or are refused for one fault.
-use Rattle.std.proofs.Common.{◌≡◌, ◌↔◌, ◌⊎◌, inl, inr, ◌≤◌, ℕ, true, false, List, length, All, Ok, Err, refl, sym, ◌∙◌, ap}
+use Rattle.std.proofs.Common.{◌≡◌, ◌↔◌, ◌⊎◌, inl, inr, ◌≤◌, ℕ, Bool, true, false, List, length, map, All, Ok, Err, refl, sym, ◌∙◌, ap, subst}
 use Rattle.std.proofs.lemmas.List.Elements.{All-weaker}
+use Rattle.option_words.specs.Rows.{meaning_of_row}
 use Rattle.option_words.specs.declared.row.Row.{Row}
 use Rattle.option_words.specs.declared.reading.Item.{Item}
 use Rattle.option_words.specs.declared.fault.WordFault.{WordFault}
 use Rattle.option_words.specs.declared.fault.WordFault.TheVariants.{NoMemory}
 use Rattle.option_words.specs.declared.fault.UsageFault.{UsageFault}
 use Rattle.option_words.specs.declared.fault.UsageFault.TheVariants.{Word}
+use Rattle.option_words.specs.declared.command_error.CommandError.TheVariants.{Usage}
 use Rattle.option_words.specs.Reading.{IsReading, WordFaultAt}
 use Rattle.option_words.proofs.LawLemmas.{one_reading, one_fault, no_fault}
 use Rattle.option_words.proofs.MeantLemmas.{same_reading, same_fault}
 use Rattle.option_words.proofs.OperandLemmas.{operands_words}
 use Rattle.option_words.specs.Values.{IsWord, is_given}
-use Rattle.option_words.specs.Grammar.{Grammar, AreOptionsOf, AskFor, AreRefusedBy, Unread, Wrong, AskSilence, HasOneMeaning, AskForOnly, IsRefusalBy, IsErrorBy, unread_error}
+use Rattle.option_words.specs.Grammar.{Grammar, AreOptionsOf, AskFor, AreRefusedBy, Unread, Wrong, AskSilence, HasOneMeaning, AskForOnly, IsAskedWithin, IsRefusalBy, IsErrorBy, unread_error}
 
 module _ {C : Type 0} (g : Grammar C) (words : List (List ℕ)) where
   -- two readings by the options are one
@@ -92,6 +94,20 @@ module _ {C : Type 0} (g : Grammar C) (words : List (List ℕ)) where
         quiet_is = silence_by_reading rows is os o r;
       }
 
+  -- the same within limits, where no message is put if an option asks for none
+  pub asked_within : (rows : List Row) (is : List Item) (os : List ℕ) (c : C) (Limits : Type 0) (silent : Bool)
+      → AreOptionsOf g rows → IsReading rows words is os → g.asked words is os ≡ Ok c → Limits
+      → silent ≡ is_given g.options g.quiet is → IsAskedWithin g words c Limits silent
+  asked_within rows is os c Limits silent o r e limits same =
+      let only = reading_asks rows is os c o r e in
+      record {
+        asks = only.asks;
+        alone = only.alone;
+        accepted = only.accepted;
+        limits = limits;
+        quiet = (λ p. same ∙ only.quiet_is.0 p, λ t. only.quiet_is.1 (sym same ∙ t));
+      }
+
   -- the same of a reading that is refused
   pub reading_refused : (rows : List Row) (is : List Item) (os : List ℕ) (f : UsageFault) → AreOptionsOf g rows
       → IsReading rows words is os → g.asked words is os ≡ Err f
@@ -103,6 +119,15 @@ module _ {C : Type 0} (g : Grammar C) (words : List (List ℕ)) where
         nothing = λ c p. asked_or_refused c f p refused;
         quiet_is = silence_by_reading rows is os o r;
       }
+
+  -- which is why words ask for nothing
+  pub refused_is : (rows : List Row) (is items : List Item) (os : List ℕ) (f : UsageFault) → AreOptionsOf g rows
+      → IsReading rows words is os → g.asked words is os ≡ Err f → items ≡ is
+      → IsErrorBy g words (Usage f (is_given (map meaning_of_row rows) g.quiet items))
+  refused_is rows is items os f o r e same =
+      let quiet : is_given (map meaning_of_row rows) g.quiet items ≡ is_given g.options g.quiet is =
+      ap (is_given (map meaning_of_row rows) g.quiet) same ∙ ap (λ t. is_given t g.quiet is) o.meanings in
+      subst (λ q. IsRefusalBy g words f q) (sym quiet) (reading_refused rows is os f o r e)
 
   not_quiet : (rows : List Row) (f : WordFault) → AreOptionsOf g rows → WordFaultAt rows words f → AskSilence g words
       → false ≡ true

@@ -12,6 +12,11 @@ abbrev pub EachRow : {O : Type 0} → (OptionRow O → Type 0) → List (OptionR
 EachRow P [] = Unit {0}
 EachRow P (r ∷ rows) = P r × EachRow P rows
 
+-- the fact of a row, and those of the rows after it
+infixr 20 ◌and◌
+pub ◌and◌ : {A B : Type 0} → A → B → A × B
+a and b = (a, b)
+
 -- holds of the row at each place
 pub row_passes : {O : Type 0} (P : OptionRow O → Type 0) (rows : List (OptionRow O)) (k : ℕ) (r : OptionRow O)
     → EachRow P rows → slice_get rows k ≡ Some r → P r

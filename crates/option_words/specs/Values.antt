@@ -7,6 +7,7 @@ use Rattle.size_suffixes.specs.Size.{size}
 use Rattle.option_words.specs.Words.{word}
 use Rattle.option_words.specs.Rows.{is_letter}
 use Rattle.option_words.specs.declared.row.Takes.{Takes}
+use Rattle.option_words.specs.declared.row.Takes.TheVariants.{Never, Always}
 use Rattle.option_words.specs.declared.reading.Item.{Item}
 use Rattle.option_words.specs.declared.reading.Spot.{Spot}
 
@@ -20,6 +21,22 @@ pub record OptionRow (O : Type 0) : Type 0 where
   pub name : List ℕ
   pub takes : Takes
   pub sets : (sector : ℕ) → O → Option (List ℕ) → Option O
+
+-- an option of a letter without a value, and one with a value
+abbrev pub flag : {O : Type 0} → (letter : ℕ) → List ℕ → (O → O) → OptionRow O
+flag letter name sets =
+    record { letter = Some letter; name = name; takes = Never; sets = λ sector o value. Some (sets o) }
+
+abbrev pub valued : {O : Type 0} → (letter : ℕ) → List ℕ → (ℕ → O → Option (List ℕ) → Option O) → OptionRow O
+valued letter name sets = record { letter = Some letter; name = name; takes = Always; sets = sets }
+
+-- The letters of two options that mean the same in every program: the size of a sector (`-b`), which is set before all
+-- others, and that nothing be said (`-q`).
+abbrev pub sector_letter : ℕ
+sector_letter = 98
+
+abbrev pub quiet_letter : ℕ
+quiet_letter = 113
 
 -- an option's letter, its long name, and whether it takes a value
 abbrev pub Meaning : Type 0

@@ -10,6 +10,9 @@ use crate::table::OptionTable;
 use crate::values::value_of;
 use crate::words::Words;
 
+/// The letter of the option that asks that no message be put.
+pub const QUIET: char = 'q';
+
 /// The letter of a row, counted from 0, if there is such a row and it has one.
 pub fn letter_of(rows: &[Row], row: usize) -> Option<char>
     ensures { result ≡ letter_meant (slice_get (map meaning_of_row rows.now) row) }

@@ -32,3 +32,22 @@ pub struct Row {
     pub long: &'static str,
     pub takes: Takes,
 }
+
+/// A row: the letter of an option, if it has one, its long name, and whether it takes a value.
+#[macro_export]
+macro_rules! option_row {
+    ($long:literal, $takes:ident) => {
+        $crate::row::Row {
+            short: None,
+            long: $long,
+            takes: $crate::row::Takes::$takes,
+        }
+    };
+    ($short:literal, $long:literal, $takes:ident) => {
+        $crate::row::Row {
+            short: Some($short),
+            long: $long,
+            takes: $crate::row::Takes::$takes,
+        }
+    };
+}

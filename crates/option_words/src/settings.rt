@@ -1,8 +1,8 @@
 //! What options set, one after another.
-ghost use Rattle.std.specs.Prelude.{◌≡◌, ◌<◌, ◌≤◌, List, All, Ok, IfOk, slice_get, map, option_map};
+ghost use Rattle.std.specs.Prelude.{◌≡◌, ◌<◌, ◌≤◌, ℕ, List, All, Ok, IfOk, slice_get, map, option_map};
 ghost use Rattle.option_words.specs.Rows.{meaning_of_row};
 ghost use Rattle.option_words.specs.Spots.{HasSpot};
-ghost use Rattle.option_words.specs.Values.{OptionRow, default_sector, set_by, set_in_turn, with_item, with_sector};
+ghost use Rattle.option_words.specs.Values.{OptionRow, default_sector, meanings_of, options_in, sector_letter, set_by, set_in_turn, with_item, with_sector};
 
 use crate::given::is_of;
 use crate::reading::Item;
@@ -10,10 +10,20 @@ use crate::table::OptionTable;
 use crate::values::{DEFAULT_SECTOR, read_sector, value_of, value_word};
 use crate::words::Words;
 
+/// The letter of the option that gives the size of a sector.
+pub const SECTOR_SIZE: char = 'b';
+
 /// What the options of a program set.
 pub trait Settings: Copy {
     /// The rows of the program's options.
     ghost rows: { List (OptionRow Self) };
+
+    /// What is asked for by the size of a sector where no other option is given.
+    ghost start: { ℕ → Self };
+
+    /// What is asked for where no option but the sector's is given.
+    fn none(sector: u64) -> Self
+        ensures { result ≡ start sector };
 
     /// What the option of a row sets by the text of its value, if it has one; nothing where that is a bad value, or
     /// where there is no such row. Rows are counted from 0.
@@ -92,4 +102,19 @@ pub fn read_settings<O: Settings>(
         options = set_item(words, options, sector, item)?;
     }
     Ok(options)
+}
+
+/// What all options ask for, or the word of the first bad value: those that give the sector come first, then all in their
+/// order.
+pub fn read_options<O: Settings>(
+    table: &OptionTable,
+    words: &Words,
+    items: &[Item],
+) -> Result<O, usize>
+    requires table { map meaning_of_row table.now ≡ meanings_of O.rows }
+    requires spots { All (HasSpot words.now) items.now }
+    ensures { result ≡ options_in O.rows sector_letter O.start words.now items.now }
+{
+    let sector = read_sector_in(table, words, SECTOR_SIZE, items)?;
+    read_settings(words, items, sector, O::none(sector))
 }

@@ -5,12 +5,12 @@ use Rattle.ddrescueplan_words.proofs.command.command_of.Goals as goal
 
 pub is_too_large-requires : goal.is_too_large-requires
 is_too_large-requires c = let keeps = options_keep c.args.words.now c.deref.result.now c.in-Ok.options
-    (sym c.read_options.ensures ∙ c.in-Ok.is) in keeps.range.sector.low
+    (sym c.read_options.ensures ∙ c.in-Ok.is) in keeps.range.limits.sector.low
 
 pub name_operands-requires-clause-low : goal.name_operands-requires-clause-low
 name_operands-requires-clause-low c = let keeps = options_keep c.args.words.now c.deref.result.now c.in-Ok.options
-    (sym c.read_options.ensures ∙ c.in-Ok.is) in keeps.range.sector.low
+    (sym c.read_options.ensures ∙ c.in-Ok.is) in keeps.range.limits.sector.low
 
 pub name_operands-requires-clause-high : goal.name_operands-requires-clause-high
 name_operands-requires-clause-high c = let keeps = options_keep c.args.words.now c.deref.result.now c.in-Ok.options
-    (sym c.read_options.ensures ∙ c.in-Ok.is) in keeps.range.sector.high
+    (sym c.read_options.ensures ∙ c.in-Ok.is) in keeps.range.limits.sector.high

@@ -1,9 +1,5 @@
 -- The words ask for what their reading asks for.
-use Rattle.std.proofs.Common.{◌≡◌, ◌∙◌, map, ap}
-use Rattle.option_words.specs.Rows.{meaning_of_row}
-use Rattle.option_words.specs.Values.{is_given}
-use Rattle.option_words.proofs.MeaningLemmas.{operands_named, reading_refused, unread_is}
-use Rattle.ddrescueplan_words.specs.Options.{option_meanings, quiet_letter}
+use Rattle.option_words.proofs.MeaningLemmas.{operands_named, refused_is, unread_is}
 use Rattle.ddrescueplan_words.specs.Command.{plan_grammar, told_by}
 use Rattle.ddrescueplan_words.proofs.CommandLemmas.{reading_asks}
 use Rattle.ddrescueplan_words.proofs.command.read_command.Goals as goal
@@ -19,12 +15,9 @@ returns-in-Ok-command_of-clause-asked c = let r = c.in-Ok.reading in
 
 pub returns-clause-refused : goal.returns-clause-refused
 returns-clause-refused c = let r = c.in-Ok.reading in
-    let quiet : c.is_given.result ≡ is_given option_meanings quiet_letter r.items.items =
-    c.is_given.ensures
-    ∙ ap (is_given (map meaning_of_row c.option_table-table.result) quiet_letter) c.deref.ensures.value
-    ∙ ap (λ t. is_given t quiet_letter r.items.items) c.option_table-table.ensures.meanings in
-    rw quiet (reading_refused plan_grammar c.args.words.now c.option_table-table.result r.items.items r.operands.items
-    c.in-Err-command_of.fault c.option_table-table.ensures c.in-Ok.ensures.reading c.in-Err-command_of.ensures.refused)
+    rw c.usage_error.ensures (refused_is plan_grammar c.args.words.now c.option_table-table.result r.items.items
+    c.deref.result.now r.operands.items c.in-Err-command_of.fault c.option_table-table.ensures c.in-Ok.ensures.reading
+    c.in-Err-command_of.ensures.refused c.deref.ensures.value)
 
 pub returns-in-Err : goal.returns-in-Err
 returns-in-Err c = record {
