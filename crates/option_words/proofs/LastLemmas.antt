@@ -1,7 +1,6 @@
 -- The last option of a letter.
-use Rattle.std.proofs.Common.{◌≡◌, ℕ, Bool, true, false, ◌||◌, cond, List, [], ◌∷◌, ◌++◌, Option, Some, None, refl, ◌∙◌, ap}
-use Rattle.option_words.specs.declared.reading.Item.{Item}
-use Rattle.option_words.specs.Values.{Meaning, is_given, is_of, last_of, later}
+use Rattle.std.proofs.Common.{◌≡◌, Bool, true, false, ◌||◌, cond, [], ◌∷◌, Some, None, refl, ◌∙◌, ap}
+use Rattle.option_words.specs.Values.{is_given, is_of, later}
 use Rattle.option_words.specs.ValueLaws.{LastCounts, NoneCounts}
 
 neither : (a b : Bool) → (a || b) ≡ false → (a ≡ false) × (b ≡ false)

@@ -1,12 +1,12 @@
 -- What options set, one after the other.
-use Rattle.std.proofs.Common.{◌≡◌, ℕ, ◌+◌, ◌<◌, ◌≤◌, Bool, true, false, cond, List, [], ◌∷◌, length, drop, get_or, Option, Some, None, Result, Ok, Err, IfOk, refl, ◌∙◌, ap, subst, arith}
+use Rattle.std.proofs.Common.{◌≡◌, ℕ, ◌+◌, ◌<◌, ◌≤◌, Bool, true, false, cond, List, [], ◌∷◌, length, drop, get_or, Option, Some, Result, Ok, Err, refl, ◌∙◌, ap, subst, arith}
 use Rattle.std.proofs.lemmas.List.{drop_more, at_drop_all}
 use Rattle.std.specs.Option.{ok_or, option_and_then}
 use Rattle.std.specs.Result.{result_ok}
 use Rattle.size_suffixes.specs.Size.{size}
 use Rattle.option_words.specs.declared.reading.Item.{Item}
 use Rattle.option_words.proofs.ValueLemmas.{in_range, or_part, then_part}
-use Rattle.option_words.specs.Values.{Meaning, default_sector, is_of, sector_of, set_in_turn, value_of, with_sector, within_range, word_at}
+use Rattle.option_words.specs.Values.{Meaning, default_sector, is_of, sector_of, set_in_turn, value_of, with_sector, word_at}
 
 module _ {O : Type 0} (f : O → Item → Result O ℕ) where
   -- one option more

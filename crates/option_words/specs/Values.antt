@@ -1,5 +1,5 @@
 -- What the values of options say, for any program, and which of them count.
-use Rattle.std.specs.Prelude.{ℕ, ◌≤◌, Bool, true, false, not, ◌&&◌, nat_eq, nat_le, List, [], ◌∷◌, length, map, drop, find, slice_get, Option, Some, None, Result, Ok, Err, ok_or, option_and_then, if◌then◌else◌}
+use Rattle.std.specs.Prelude.{ℕ, ◌≤◌, Bool, false, not, ◌&&◌, nat_eq, nat_le, List, [], ◌∷◌, length, map, drop, find, slice_get, Option, Some, None, Result, Ok, Err, ok_or, option_and_then, if◌then◌else◌}
 use Rattle.std.specs.Result.{result_ok}
 use Rattle.std.specs.List.{list_any}
 use Rattle.size_suffixes.specs.Number.{number}

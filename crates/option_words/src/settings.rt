@@ -104,8 +104,8 @@ pub fn read_settings<O: Settings>(
     Ok(options)
 }
 
-/// What all options ask for, or the word of the first bad value: those that give the sector come first, then all in their
-/// order.
+/// What all options ask for, or the word of the first bad value. Those that give the sector come first, then all in
+/// their order.
 pub fn read_options<O: Settings>(
     table: &OptionTable,
     words: &Words,
