@@ -11,9 +11,10 @@ use program_advice::line::{Line, line_of};
 use program_advice::mapfile::{line_on_map, line_on_memory};
 use program_advice::site::{SiteFiles, fault_cause};
 use program_advice::usage::{Manual, line_on_words};
+use program_promise::operand::Operand;
 use rescue_rules::stop::Limit;
 use task_files::checked::PROGRAM;
-use task_files::ending::{Ending, Operand, Which};
+use task_files::ending::{Ending, Which};
 
 /// What is told of the arguments.
 fn manual() -> Manual {

@@ -15,7 +15,7 @@ use Rattle.work_rules.proofs.AnswerLemmas.{Stops, IsRefused, Starved, Unopened, 
 use Rattle.program_promise.specs.Kinds.{Asked, Brought, Failed, IsWorkKind}
 use Rattle.ddrescue_words.specs.Options.{cluster_of}
 use Rattle.ddrescue_words.specs.Command.{Command, Task, Rescue, Fill, Generate, Sample}
-use Rattle.task_files.specs.declared.ending.Operand.{Operand}
+use Rattle.program_promise.specs.declared.operand.Operand.{Operand}
 use Rattle.task_files.specs.declared.ending.Ending.{Ending}
 use Rattle.task_files.specs.declared.ending.Ending.TheVariants.{Done, SameName, SourceFault, SiteFault, NoMemory}
 use Rattle.task_files.specs.declared.ending.Which.{Which}

@@ -26,7 +26,7 @@ use Rattle.program_promise.specs.Causes.{changes_of}
 use Rattle.program_promise.specs.World.{WorldState, with_console}
 use Rattle.program_promise.specs.Program.{line_by}
 use Rattle.program_promise.specs.Promise.{DoneFor, Worked}
-use Rattle.task_files.specs.declared.ending.Operand.{Operand}
+use Rattle.program_promise.specs.declared.operand.Operand.{Operand}
 use Rattle.task_files.specs.declared.ending.Ending.{Ending}
 use Rattle.task_files.specs.declared.ending.Ending.TheVariants.{Usage, SiteFault}
 use Rattle.task_files.specs.Names.{first_same, AreNamedApart, program_name}

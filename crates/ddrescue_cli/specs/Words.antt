@@ -4,7 +4,7 @@ use Rattle.option_words.specs.declared.fault.WordFault.TheVariants.{NoMemory as 
 use Rattle.option_words.specs.declared.fault.UsageFault.{UsageFault}
 use Rattle.option_words.specs.declared.fault.UsageFault.TheVariants.{Word, BadValue, Conflict, Modes, Operands, PlaceTooLarge}
 use Rattle.ddrescue_words.specs.Command.{Command, Task, Rescue, Fill, Generate, Sample}
-use Rattle.task_files.specs.declared.ending.Operand.{Operand}
+use Rattle.program_promise.specs.declared.operand.Operand.{Operand}
 use Rattle.task_files.specs.declared.ending.Ending.{Ending}
 use Rattle.task_files.specs.declared.ending.Ending.TheVariants.{Done, SameName, NoMemory}
 use Rattle.task_files.specs.Names.{first_same}

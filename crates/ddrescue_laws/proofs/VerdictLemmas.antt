@@ -18,7 +18,7 @@ use Rattle.work_rules.proofs.PartLemmas.{works_as}
 use Rattle.work_rules.proofs.VerdictLemmas.{one_verdict}
 use Rattle.ddrescue_words.specs.declared.options.Options.{Options}
 use Rattle.ddrescue_words.specs.Command.{Command}
-use Rattle.task_files.specs.declared.ending.Operand.{Operand}
+use Rattle.program_promise.specs.declared.operand.Operand.{Operand}
 use Rattle.task_files.specs.declared.ending.Ending.{Ending}
 use Rattle.task_files.specs.declared.ending.Ending.TheVariants.{Done, SameName, MapRefused}
 use Rattle.task_files.specs.declared.ending.Which.{Which}

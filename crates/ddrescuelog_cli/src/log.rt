@@ -27,18 +27,10 @@ use mapfile_text::heading::{Heading, Program};
 use option_words::command_error::CommandError;
 use option_words::words::Words;
 use program_promise::answer::say_ending;
+use program_promise::heading::make_heading;
 use rescue_console::console::Console;
 use rescue_console::feed::Feed;
 use std::alloc::Global;
-
-/// The heading of a map, with the command line.
-fn make_heading(alloc: Global, words: &Words) -> Result<Heading, NoMemory>
-    ensures { IfOk result (λ h. h
-        ≡ record { program = Log; line = command_line program_name words.now; start_s = 0; now_s = 0 }) }
-{
-    let line = words.command_line(alloc, PROGRAM)?;
-    Heading::new(alloc, Program::Ddrescuelog, line.as_str())
-}
 
 /// Whether a mode removes a mapfile that is done.
 fn removes_map(mode: LogMode) -> bool
@@ -89,7 +81,7 @@ fn run<D: Site, I: Feed, P: Console>(
         (handed (D.state site.old) (I.state feed.old) (P.state console.old))
         (handed (D.state site.new) (I.state feed.new) (P.state console.new)) }
 {
-    let Ok(heading) = make_heading(alloc, words) else {
+    let Ok(heading) = make_heading(alloc, PROGRAM, words, Program::Ddrescuelog) else {
         return LogEnding::NoMemory;
     };
     match command.mode {

@@ -9,10 +9,7 @@ use map_algebra::shape::Shape;
 pub(crate) fn output_from(options: &LogOptions) -> u64
     ensures { result ≡ output_from options.now }
 {
-    match options.output_position {
-        Some(position) => position,
-        None => options.input_position,
-    }
+    options.output_position.unwrap_or(options.input_position)
 }
 
 /// The blocks of the output.

@@ -19,17 +19,9 @@ use option_words::words::Words;
 use partition_domain::domain::{make_room, print_domain};
 use partition_domain::find::find_partition;
 use program_promise::answer::say_ending;
+use program_promise::heading::make_heading;
 use rescue_console::console::{Console, ConsoleFault};
 use std::alloc::Global;
-
-/// The heading of the map, with the command line.
-fn make_heading(alloc: Global, words: &Words) -> Result<Heading, NoMemory>
-    ensures { IfOk result (λ h. h
-        ≡ record { program = Log; line = command_line program_name words.now; start_s = 0; now_s = 0 }) }
-{
-    let line = words.command_line(alloc, PROGRAM)?;
-    Heading::new(alloc, Program::Ddrescuelog, line.as_str())
-}
 
 /// Does what a command asks for. All memory is taken before the input is opened.
 fn run<S: Source, P: Console>(
@@ -43,7 +35,7 @@ fn run<S: Source, P: Console>(
     ensures { PartWorked (told_by command.now) words.now result (handed (S.state source.old) (P.state console.old))
         (handed (S.state source.new) (P.state console.new)) }
 {
-    let Ok(heading) = make_heading(alloc, words) else {
+    let Ok(heading) = make_heading(alloc, PROGRAM, words, Program::Ddrescuelog) else {
         return PartEnding::NoMemory;
     };
     let Ok(tiles) = make_room(alloc) else {

@@ -1,6 +1,6 @@
 //! The line after the message: why an answer came, by the files that the arguments name.
 use crash_site::folder::FolderSite;
-use ddrescueverify_cli::ending::{Operand, VerifyEnding};
+use ddrescueverify_cli::ending::VerifyEnding;
 use ddrescueverify_words::command::{Command, read_command};
 use ddrescueverify_words::options::ROWS;
 use faulty_source::file::FileSource;
@@ -11,6 +11,7 @@ use program_advice::line::{Line, line_of};
 use program_advice::mapfile::{line_on_map, line_on_memory};
 use program_advice::site::{SiteFiles, fault_cause};
 use program_advice::usage::{Manual, line_on_words};
+use program_promise::operand::Operand;
 use std::io;
 
 /// The line of usage.

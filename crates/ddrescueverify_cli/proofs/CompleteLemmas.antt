@@ -27,7 +27,7 @@ use Rattle.rescue_verify.specs.Comparing.{ComparisonPlan, HaltsAt, tally_of}
 use Rattle.rescue_verify.proofs.PieceLemmas.{asks_push, none_is_read_twice}
 use Rattle.ddrescueverify_words.specs.declared.options.VerifyOptions.{VerifyOptions}
 use Rattle.ddrescueverify_words.specs.Command.{Command}
-use Rattle.ddrescueverify_cli.specs.declared.ending.Operand.{Operand}
+use Rattle.program_promise.specs.declared.operand.Operand.{Operand}
 use Rattle.ddrescueverify_cli.specs.declared.ending.Which.TheVariants.{RunMap}
 use Rattle.ddrescueverify_cli.specs.declared.ending.VerifyEnding.{VerifyEnding}
 use Rattle.ddrescueverify_cli.specs.declared.ending.VerifyEnding.TheVariants.{Usage, SameName, MapRefused, NoMemory}

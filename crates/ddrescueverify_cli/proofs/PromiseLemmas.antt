@@ -23,7 +23,7 @@ use Rattle.program_promise.specs.Promise.{IsDone}
 use Rattle.program_promise.proofs.GrammarLemmas.{IsRefusedBy, refused_by}
 use Rattle.program_promise.proofs.PromiseLemmas.{asked}
 use Rattle.program_promise.specs.Rows.{usage_kind}
-use Rattle.ddrescueverify_cli.specs.declared.ending.Operand.{Operand}
+use Rattle.program_promise.specs.declared.operand.Operand.{Operand}
 use Rattle.ddrescueverify_cli.specs.declared.ending.VerifyEnding.{VerifyEnding}
 use Rattle.ddrescueverify_cli.specs.declared.ending.VerifyEnding.TheVariants.{Usage, SameName, NoMemory}
 use Rattle.ddrescueverify_cli.specs.Answers.{drafting_left, row_of}

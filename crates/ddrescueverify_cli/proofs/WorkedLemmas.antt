@@ -21,15 +21,15 @@ use Rattle.ddrescueverify_words.specs.Command.{Command}
 use Rattle.program_promise.specs.World.{WorldState}
 use Rattle.program_promise.specs.Program.{line_by}
 use Rattle.program_promise.specs.Promise.{DoneFor}
-use Rattle.ddrescueverify_cli.specs.declared.ending.Operand.{Operand}
-use Rattle.ddrescueverify_cli.specs.declared.ending.Operand.TheVariants.{Infile, Outfile, Mapfile, Draft}
+use Rattle.program_promise.specs.declared.operand.Operand.{Operand}
+use Rattle.program_promise.specs.declared.operand.Operand.TheVariants.{Infile, Outfile, Mapfile, Draft}
 use Rattle.ddrescueverify_cli.specs.declared.ending.VerifyEnding.{VerifyEnding}
 use Rattle.ddrescueverify_cli.specs.declared.ending.VerifyEnding.TheVariants.{SameName, NoMemory}
 use Rattle.ddrescueverify_cli.specs.Answers.{is_saved}
 use Rattle.ddrescueverify_cli.specs.Counting.{WorkCause, drafting_after}
 use Rattle.ddrescueverify_cli.specs.Ddrescueverify.{PutsAs, VerifyWorked, handed, verify_program}
 use Rattle.ddrescueverify_cli.specs.Laws.{VerifyWorks}
-use Rattle.ddrescueverify_cli.specs.Names.{first_same}
+use Rattle.program_promise.specs.Operands.{first_same}
 use Rattle.ddrescueverify_cli.specs.Outside.{Outside, found_in}
 use Rattle.ddrescueverify_cli.specs.Refusals.{NamesRefused, same_of}
 use Rattle.ddrescueverify_cli.specs.Reporting.{line_of_tally}

@@ -9,12 +9,12 @@ use Rattle.save_resume.specs.Resuming.{IsLikeNone, IsRefusedFor}
 use Rattle.option_words.specs.declared.fault.UsageFault.TheVariants.{PlaceTooLarge}
 use Rattle.ddrescueverify_words.specs.declared.options.VerifyOptions.{VerifyOptions}
 use Rattle.ddrescueverify_words.specs.Command.{Command, Asks}
-use Rattle.ddrescueverify_cli.specs.declared.ending.Operand.{Operand}
+use Rattle.program_promise.specs.declared.operand.Operand.{Operand}
 use Rattle.ddrescueverify_cli.specs.declared.ending.Which.TheVariants.{RunMap}
 use Rattle.ddrescueverify_cli.specs.declared.ending.VerifyEnding.{VerifyEnding}
 use Rattle.ddrescueverify_cli.specs.declared.ending.VerifyEnding.TheVariants.{Usage, SameName, NoMap, NoOutput, MapRefused, NoMemory}
 use Rattle.ddrescueverify_cli.specs.Asked.{IsBeyond}
-use Rattle.ddrescueverify_cli.specs.Names.{first_same}
+use Rattle.program_promise.specs.Operands.{first_same}
 
 -- the first two files of a command that have one name, in the order infile, outfile, mapfile, draft
 abbrev pub same_of : Command → Option (Operand × Operand)

@@ -28,7 +28,7 @@ use Rattle.ddrescueverify_cli.specs.declared.ending.Which.TheVariants.{RunMap}
 use Rattle.ddrescueverify_cli.specs.declared.open.LoadedMap.{LoadedMap}
 use Rattle.ddrescueverify_cli.specs.declared.plan.CheckedCommand.{CheckedCommand}
 use Rattle.ddrescueverify_cli.specs.Asked.{IsBeyond, heading_of, plan_of}
-use Rattle.ddrescueverify_cli.specs.Names.{first_same}
+use Rattle.program_promise.specs.Operands.{first_same}
 use Rattle.ddrescueverify_cli.specs.Outside.{Agrees, Outside}
 use Rattle.ddrescueverify_cli.specs.Work.{IsAnswer, Verifies, answer_of_halt, load_rows, opened_rows, output_rows, verify_faults}
 

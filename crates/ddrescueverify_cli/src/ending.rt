@@ -5,16 +5,7 @@ ghost use Rattle.ddrescueverify_cli.specs.Answers.{status_of_ending};
 use crash_site::site::SiteCall;
 use mapfile_text::read::MapError;
 use option_words::fault::UsageFault;
-
-/// A file that a comparison names.
-#[derive(Clone, Copy, Debug, PartialEq, Eq)]
-pub enum Operand {
-    Infile,
-    Outfile,
-    Mapfile,
-    /// The mapfile's name followed by `.tmp`.
-    Draft,
-}
+use program_promise::operand::Operand;
 
 /// A map that is named.
 #[derive(Clone, Copy, Debug, PartialEq, Eq)]

@@ -5,47 +5,21 @@ ghost use Rattle.save_resume.specs.MapNames.{names_of};
 ghost use Rattle.ddrescueverify_words.specs.Command.{told_by};
 ghost use Rattle.ddrescueverify_cli.specs.declared.ending.VerifyEnding.TheVariants.{NoMemory as OutOfMemory};
 ghost use Rattle.ddrescueverify_cli.specs.Asked.{heading_of};
-ghost use Rattle.ddrescueverify_cli.specs.Names.{first_same, program_name};
+ghost use Rattle.program_promise.specs.Operands.{first_same};
+ghost use Rattle.ddrescueverify_cli.specs.Names.{program_name};
 ghost use Rattle.ddrescueverify_cli.specs.Refusals.{NamesRefused};
 
-use crate::ending::{Operand, VerifyEnding};
-use block_list::tiles::NoMemory;
+use crate::ending::VerifyEnding;
 use ddrescueverify_words::command::Command;
 use mapfile_text::heading::{Heading, Program};
 use option_words::words::Words;
+use program_promise::heading::make_heading;
+use program_promise::operand::find_same;
 use save_resume::names::Names;
 use std::alloc::Global;
 
 /// The program's name, which begins its command line and its messages.
 pub(crate) const PROGRAM: &str = "ddrescueverify";
-
-/// The first two files that have one name.
-fn find_same(infile: &str, outfile: &str, names: &Names) -> Option<(Operand, Operand)>
-    ensures { result ≡ first_same infile.now outfile.now names.now }
-{
-    if infile == outfile {
-        return Some((Operand::Infile, Operand::Outfile));
-    }
-    if infile == names.map() {
-        Some((Operand::Infile, Operand::Mapfile))
-    } else if infile == names.draft() {
-        Some((Operand::Infile, Operand::Draft))
-    } else if outfile == names.map() {
-        Some((Operand::Outfile, Operand::Mapfile))
-    } else if outfile == names.draft() {
-        Some((Operand::Outfile, Operand::Draft))
-    } else {
-        None
-    }
-}
-
-/// The heading of the mapfile, with the command line.
-fn make_heading(alloc: Global, words: &Words) -> Result<Heading, NoMemory>
-    ensures { IfOk result (λ h. h ≡ heading_of (command_line program_name words.now)) }
-{
-    let line = words.command_line(alloc, PROGRAM)?;
-    Heading::new(alloc, Program::Ddrescuelog, line.as_str())
-}
 
 /// What a comparison needs before it opens a file.
 #[derive(Drop)]
@@ -75,7 +49,7 @@ pub(crate) fn check_command<'a>(
     if let Some((first, second)) = find_same(command.infile, command.outfile, &names) {
         return Err(VerifyEnding::SameName { first, second });
     }
-    let Ok(heading) = make_heading(alloc, words) else {
+    let Ok(heading) = make_heading(alloc, PROGRAM, words, Program::Ddrescuelog) else {
         return Err(VerifyEnding::NoMemory);
     };
     Ok(CheckedCommand {

@@ -7,7 +7,7 @@ ghost use Rattle.rescue_verify.specs.Across.{across};
 ghost use Rattle.rescue_verify.specs.Comparing.{Compares};
 ghost use Rattle.ddrescueverify_words.specs.Command.{AreInLimits, AreRefused, told_by};
 ghost use Rattle.program_promise.specs.World.{told};
-ghost use Rattle.ddrescueverify_cli.specs.declared.ending.Operand.{Operand};
+ghost use Rattle.program_promise.specs.declared.operand.Operand.{Operand};
 ghost use Rattle.ddrescueverify_cli.specs.Asked.{IsBeyond, output_from, plan_of};
 ghost use Rattle.ddrescueverify_cli.specs.Counting.{WorkCause, drafting_after};
 ghost use Rattle.ddrescueverify_cli.specs.Ddrescueverify.{Ddrescueverify, VerifyDone, VerifyWorked, handed};
@@ -41,10 +41,7 @@ use std::alloc::Global;
 fn output_from(options: &VerifyOptions) -> u64
     ensures { result ≡ output_from options.now }
 {
-    match options.output_position {
-        Some(position) => position,
-        None => options.input_position,
-    }
+    options.output_position.unwrap_or(options.input_position)
 }
 
 /// The answer of a comparison that stopped.

@@ -5,6 +5,7 @@ pub mod Causes
 pub mod WordFaults
 pub mod Program
 pub mod Saying
+pub mod Operands
 pub mod Promise
 pub mod Spoken
 pub mod WellMade

@@ -3,3 +3,5 @@
 #![tactic(auto)]
 
 pub mod answer;
+pub mod heading;
+pub mod operand;

@@ -9,8 +9,8 @@ use Rattle.rescue_core.specs.RunState.{names_in}
 use Rattle.ddrescue_words.specs.Command.{Command, Task}
 use Rattle.ddrescue_words.specs.Asking.{IsAsked}
 use Rattle.save_resume.proofs.NameLemmas.{apart_draft, ne_of}
-use Rattle.task_files.specs.declared.ending.Operand.{Operand}
-use Rattle.task_files.specs.declared.ending.Operand.TheVariants.{Infile, Outfile, Mapfile, Draft}
+use Rattle.program_promise.specs.declared.operand.Operand.{Operand}
+use Rattle.program_promise.specs.declared.operand.Operand.TheVariants.{Infile, Outfile, Mapfile, Draft}
 use Rattle.task_files.specs.declared.ending.Ending.{Ending}
 use Rattle.task_files.specs.declared.ending.Ending.TheVariants.{SameName}
 use Rattle.task_files.specs.Names.{first_same, AreNamedApart}

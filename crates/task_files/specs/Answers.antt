@@ -16,7 +16,7 @@ use Rattle.console_texts.specs.Texts.{numbered_text, error_text, fault_text, mes
 use Rattle.program_promise.specs.Kinds.{Failure, AtOpen, AtRead, AtCall, AtCallAfterRead, is_silent_kind}
 use Rattle.program_promise.specs.Rows.{AnswerRow, asked_row, brought_row, failed_row, only_where, starved_row, usage_row}
 use Rattle.program_promise.specs.Causes.{changes_of}
-use Rattle.task_files.specs.declared.ending.Operand.{Operand}
+use Rattle.program_promise.specs.declared.operand.Operand.{Operand}
 use Rattle.task_files.specs.declared.ending.Which.{Which}
 use Rattle.task_files.specs.declared.ending.Which.TheVariants.{DomainMap, TestMap, RunMap}
 use Rattle.task_files.specs.declared.ending.Ending.{Ending}

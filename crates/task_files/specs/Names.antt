@@ -2,19 +2,14 @@
 use Rattle.std.specs.Prelude.{◌≡◌, ℕ, false, List, Option, Some, None, if◌then◌else◌, codes}
 use Rattle.std.specs.Str.{bytes_eq}
 use Rattle.save_resume.specs.MapNames.{MapNames}
-use Rattle.task_files.specs.declared.ending.Operand.{Operand}
-use Rattle.task_files.specs.declared.ending.Operand.TheVariants.{Infile, Outfile, Mapfile, Draft}
+use Rattle.program_promise.specs.declared.operand.Operand.{Operand}
+use Rattle.program_promise.specs.declared.operand.Operand.TheVariants.{Infile, Outfile}
+use Rattle.program_promise.specs.Operands.{first_same as first_same_with}
 
--- the first two of an infile, an outfile, a mapfile and its draft that have one name; the last two never do
+-- the first two of an infile and an outfile, and of a mapfile and its draft if there is one, that have one name
 abbrev pub first_same : (i o : List ℕ) → Option MapNames → Option (Operand × Operand)
 first_same i o None = if bytes_eq i o then Some (Infile, Outfile) else None
-first_same i o (Some n) =
-    if bytes_eq i o then Some (Infile, Outfile)
-    else if bytes_eq i n.map then Some (Infile, Mapfile)
-    else if bytes_eq i n.draft then Some (Infile, Draft)
-    else if bytes_eq o n.map then Some (Outfile, Mapfile)
-    else if bytes_eq o n.draft then Some (Outfile, Draft)
-    else None
+first_same i o (Some n) = first_same_with i o n
 
 -- an outfile has another name than a mapfile and its draft
 abbrev pub AreNamedApart : (outfile : List ℕ) → Option MapNames → Type 0

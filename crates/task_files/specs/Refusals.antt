@@ -7,7 +7,7 @@ use Rattle.mapfile_text.specs.declared.read.MapError.TheVariants.{NoStatusLine}
 use Rattle.crash_site.specs.Files.{File}
 use Rattle.save_resume.specs.Resuming.{IsRefusedFor}
 use Rattle.option_words.specs.declared.fault.UsageFault.TheVariants.{PlaceTooLarge}
-use Rattle.task_files.specs.declared.ending.Operand.{Operand}
+use Rattle.program_promise.specs.declared.operand.Operand.{Operand}
 use Rattle.task_files.specs.declared.ending.Which.{Which}
 use Rattle.task_files.specs.declared.ending.Which.TheVariants.{RunMap}
 use Rattle.task_files.specs.declared.ending.Ending.{Ending}

@@ -9,11 +9,13 @@ ghost use Rattle.task_files.specs.Asked.{names_by};
 ghost use Rattle.task_files.specs.Refusals.{NamesRefused};
 ghost use Rattle.task_files.specs.declared.ending.Ending.TheVariants.{NoMemory as OutOfMemory};
 
-use crate::ending::{Ending, Operand};
+use crate::ending::Ending;
 use block_list::tiles::NoMemory;
 use ddrescue_words::command::Command;
 use mapfile_text::heading::{Heading, Program};
 use option_words::words::Words;
+use program_promise::heading::make_heading;
+use program_promise::operand::{self, Operand};
 use save_resume::names::Names;
 use std::alloc::Global;
 
@@ -24,29 +26,16 @@ pub const PROGRAM: &str = "ddrescue";
 fn find_same(infile: &str, outfile: &str, names: &Option<Names>) -> Option<(Operand, Operand)>
     ensures { result ≡ first_same infile.now outfile.now names.now }
 {
-    if infile == outfile {
-        return Some((Operand::Infile, Operand::Outfile));
+    match names {
+        Some(names) => operand::find_same(infile, outfile, names),
+        None => {
+            if infile == outfile {
+                Some((Operand::Infile, Operand::Outfile))
+            } else {
+                None
+            }
+        }
     }
-    let Some(names) = names else { return None };
-    if infile == names.map() {
-        Some((Operand::Infile, Operand::Mapfile))
-    } else if infile == names.draft() {
-        Some((Operand::Infile, Operand::Draft))
-    } else if outfile == names.map() {
-        Some((Operand::Outfile, Operand::Mapfile))
-    } else if outfile == names.draft() {
-        Some((Operand::Outfile, Operand::Draft))
-    } else {
-        None
-    }
-}
-
-/// The heading of the mapfile, with the command line.
-fn make_heading(alloc: Global, words: &Words) -> Result<Heading, NoMemory>
-    ensures { IfOk result (λ h. h ≡ heading_at (command_line program_name words.now) 0 0) }
-{
-    let line = words.command_line(alloc, PROGRAM)?;
-    Heading::new(alloc, Program::Ddrescue, line.as_str())
 }
 
 /// The names of a mapfile and its draft, if there is one.
@@ -92,7 +81,7 @@ pub fn check_command<'a>(
     if let Some((first, second)) = find_same(command.infile, command.outfile, &names) {
         return Err(Ending::SameName { first, second });
     }
-    let Ok(heading) = make_heading(alloc, words) else {
+    let Ok(heading) = make_heading(alloc, PROGRAM, words, Program::Ddrescue) else {
         return Err(Ending::NoMemory);
     };
     Ok(CheckedCommand {

@@ -6,17 +6,8 @@ ghost use Rattle.task_files.specs.Work.{answer_of};
 use crash_site::site::SiteCall;
 use mapfile_text::read::MapError;
 use option_words::fault::UsageFault;
+use program_promise::operand::Operand;
 use rescue_rules::stop::{Limit, RunEnd, Stop};
-
-/// A file that a rescue names.
-#[derive(Clone, Copy, Debug, PartialEq, Eq)]
-pub enum Operand {
-    Infile,
-    Outfile,
-    Mapfile,
-    /// The mapfile's name followed by `.tmp`.
-    Draft,
-}
 
 /// A mapfile that a rescue reads.
 #[derive(Clone, Copy, Debug, PartialEq, Eq)]

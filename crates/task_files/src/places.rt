@@ -10,10 +10,7 @@ use rescue_domain::places;
 pub fn output_from(options: &Options) -> u64
     ensures { result ≡ output_from options.now }
 {
-    match options.output_position {
-        Some(position) => position,
-        None => options.input_position,
-    }
+    options.output_position.unwrap_or(options.input_position)
 }
 
 /// Whether the positions that are asked for of an input of this length all end in the output below 2^63.
