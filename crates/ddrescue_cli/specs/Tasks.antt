@@ -37,7 +37,7 @@ pub record TaskOutside : Type 0 where
   pub pieces : List Swept
   pub swept : RunEnd
 
--- the same, with what was done there
+-- what was outside of a task, with what was done there
 abbrev pub with_did : TaskOutside → Deeds → Outside
 with_did o did = record { found = o.found; end = o.end; maps = o.maps; did = did; lines = o.lines }
 
@@ -48,14 +48,14 @@ asked_by c line o = setting_of c line o.end o.maps
 abbrev pub filling_by : Command → (line : List ℕ) → TaskOutside → Setting
 filling_by c line o = fill_setting c line o.top o.maps
 
--- the steps of a task, row by row,
+-- the steps of a task, row by row
 abbrev pub task_rows : Task → TaskOutside → List (WorkStep Ending)
 task_rows (Rescue c) o = rescue_rows c o.found o.end
 task_rows (Fill types c) o = fill_rows c o.found o.end
 task_rows (Generate c) o = generate_rows c o.found o.end
 task_rows (Sample kib quiet) o = sample_rows
 
--- and what is run after them
+-- what a task runs after its steps
 abbrev pub TaskRuns : Task → (line : List ℕ) → TaskOutside → Ending → Deeds → Type 0
 TaskRuns (Rescue c) line o = Rescues (asked_by c line o) o.found.mapfile o.lines
 TaskRuns (Fill types c) line o =

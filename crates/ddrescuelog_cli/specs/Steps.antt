@@ -63,7 +63,7 @@ DidReadNamed which mode name file (Ok tiles) calls =
     HasStatuses name mode file (statuses_in tiles) × WentThrough (map_rows which mode name file) calls
 DidReadNamed which mode name file (Err e) calls = StoppedIn log_faults (map_rows which mode name file) e calls
 
--- and again a file and calls
+-- what the read of a map that may be named did, by a file and calls
 pub record ReadsNamed (which : Which) (mode : Mode) (name : Option (List ℕ)) (result : Result (Option Tiled) LogEnding)
     (old new : SiteState) : Type 0 where
   pub file : Option File

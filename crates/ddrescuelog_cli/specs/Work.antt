@@ -126,7 +126,7 @@ abbrev pub first_rows : (new : Bool) → Command → Found → List (WorkStep Lo
 first_rows false c found = Take ∷ read_rows c found
 first_rows true c found = Take ∷ []
 
--- and what is run after them
+-- what is run after the first rows
 abbrev pub RunsAs : (new : Bool) → Command → (line list : List ℕ) → Found → Maps → LogEnding → Deeds → Type 0
 RunsAs false c line list found m = WorksOver c line list m
 RunsAs true c line list found m =

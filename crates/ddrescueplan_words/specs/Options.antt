@@ -39,7 +39,7 @@ cluster_letter = 99
 abbrev pub option_letters : List ℕ
 option_letters = codes "bciKnNqrRsu"
 
--- and where a rescue's options have them, counted from 0
+-- where a rescue's table has these options, counted from 0
 abbrev pub rescue_places : List ℕ
 rescue_places = 2 ∷ 3 ∷ 10 ∷ 11 ∷ 15 ∷ 16 ∷ 18 ∷ 19 ∷ 20 ∷ 21 ∷ 23 ∷ []
 

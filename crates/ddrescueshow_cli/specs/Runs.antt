@@ -20,7 +20,7 @@ same_shown m n = nat_eq (cell_symbol m) (cell_symbol n)
 abbrev pub marks_from : Frame → (domain : ℕ → Bool) → List Status → (first count : ℕ) → List (Option Status)
 marks_from f domain statuses first count = map (mark f domain statuses) (range_with_len first count)
 
--- and what the cells of a row show
+-- what the cells of a row show
 abbrev pub marks_of : Frame → (domain : ℕ → Bool) → List Status → (row : ℕ) → List (Option Status)
 marks_of f domain statuses row = marks_from f domain statuses (row * f.width) (cells_of_row f row)
 

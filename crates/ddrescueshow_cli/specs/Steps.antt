@@ -26,7 +26,7 @@ ReadsMap which mode name result old new =
     DidPart show_faults (map_rows which mode (Some name)) (files_in old name)
     (λ (tiles : Tiled) file. IsMapOf file mode tiles.statuses) result old new
 
--- and of one that may be named
+-- what the read of a map did that may be named
 abbrev pub ReadsNamed : Which → Mode → (name : Option (List ℕ)) → Result (Option Tiled) ShowEnding
     → (old new : SiteState) → Type 0
 ReadsNamed which mode name result old new =

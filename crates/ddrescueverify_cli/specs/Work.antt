@@ -88,7 +88,7 @@ after_looks place looks d = record {
   };
 }
 
--- By a command and its command line:
+-- What a comparison does for a command, with its command line.
 module _ (c : Command) (line : List ℕ) where
   -- The comparison over a map: it looks at the first pieces, each by one read of the input and, if that was whole, one
   -- of the image, and ends after them.

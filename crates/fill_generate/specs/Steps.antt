@@ -84,7 +84,7 @@ module _ (G : Swept → Type 0) (s : Setting) (w : Sweeper) where
     pub fit : e.after < 2 ^ 64
     pub says : SpeaksOn (out_pieces (piece_lines s w m e)) heard heard' o.console o.console'
 
-  -- and with its call, and the save that was due
+  -- A piece was done, with its call and the save that was due.
   pub record DidPiece (m m' : Sweep) (heard heard' : Bool) (o : Around) : Type 0 where
     pub event : Swept
     pub takes : DoesPiece m m' heard heard' event o
@@ -113,13 +113,13 @@ module _ (G : Swept → Type 0) (s : Setting) (w : Sweeper) where
     pub fit : AreTimes (times_after es)
     pub says : SpeaksOn (out_pieces (pieces_lines s w m es)) heard heard' o.console o.console'
 
-  -- whole ones
+  -- Whole pieces one after another, with their calls.
   pub record WentOn (m m' : Sweep) (heard heard' : Bool) (o : Around) : Type 0 where
     pub events : List Swept
     pub went : SweepWent m m' heard heard' events o
     pub made : Makes (sweep_calls s w m events) o.site o.site'
 
-  -- pieces up to such a stop
+  -- Pieces one after another, up to one at which the sweep stopped.
   pub record WentUpTo (m m' : Sweep) (heard heard' : Bool) (stop : Stop) (o : Around) : Type 0 where
     pub events : List Swept
     pub went : SweepWent m m' heard heard' events o
@@ -193,7 +193,7 @@ module _ {T : Type 0} (G : Swept → Type 0) where
     pub draft_left : IfErr result (λ stop. o.site'.is_drafting ≡ drafting_at_stop stop)
     pub objects : ObjectsStay o
 
-  -- and of all pieces that are left
+  -- what comes of all pieces that are left
   pub record PiecesEnd (result : Result T Stop) (w : Sweeper) (r r' : SweepState) (o : Around) : Type 0 where
     pub stands : r' ≡ gone_to r r'
     pub went : OnOk result (WentOn G (setting_of r) w r.sweep r'.sweep r.heard r'.heard o)

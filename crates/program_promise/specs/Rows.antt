@@ -19,11 +19,11 @@ asked_row status = record { kind = Asked; status = status; text = []; also = ⊤
 abbrev pub brought_row : (status : ℕ) → (text : List ℕ) → AnswerRow
 brought_row status text = record { kind = Brought; status = status; text = text; also = ⊤ }
 
--- words that are refused, of status 1;
+-- words that are refused, of status 1
 abbrev pub wrong_row : UsageFault → AnswerRow
 wrong_row fault = record { kind = Wrong fault; status = 1; text = usage_text fault; also = ⊤ }
 
--- the same of a program that looks at places, of which one that is too large is no fault of the words;
+-- the kind of a refusal of a program that looks at places, of which one that is too large is no fault of the words
 abbrev pub usage_kind : UsageFault → Kind
 usage_kind (Word fault) = Wrong (Word fault)
 usage_kind (BadValue n) = Wrong (BadValue n)
@@ -35,11 +35,11 @@ usage_kind PlaceTooLarge = Brought
 abbrev pub usage_row : UsageFault → AnswerRow
 usage_row fault = record { kind = usage_kind fault; status = 1; text = usage_text fault; also = ⊤ }
 
--- what failed, of status 1;
+-- what failed, of status 1
 abbrev pub failed_row : Failure → (text : List ℕ) → AnswerRow
 failed_row at text = record { kind = Failed at; status = 1; text = text; also = ⊤ }
 
--- and want of memory, of status 4.
+-- want of memory, of status 4
 abbrev pub starved_row : AnswerRow
 starved_row = record { kind = Starved; status = 4; text = codes "out of memory"; also = ⊤ }
 

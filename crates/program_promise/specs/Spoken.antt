@@ -42,7 +42,7 @@ module _ {C E O : Type 0} (p : Program C E O) (lines : O → List (List ℕ)) wh
         → Utters p (lines (does.asked_for c asks).outside) t.words t.answer t.before t.after
     pub says_none : ((c : C) → AskFor p.grammar t.words c → ⊥) → Utters p [] t.words t.answer t.before t.after
 
-  -- the same before the message, of a call that is heard then or not
+  -- what is promised before the message, of a call that is heard then or not
   pub record IsSaid (words : List (List ℕ)) (e : E) (heard : Bool) (old new : WorldState) : Type 0 where
     pub quiet : Bool
     pub done : IsDone p words e quiet old (with_console new old.console)

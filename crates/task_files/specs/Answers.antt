@@ -137,7 +137,7 @@ IsRescueCall ImageRead = ⊥
 IsRescueCall MapRemove = ⊥
 IsRescueCall call = ⊤
 
--- and of a generating: none writes the output, nor removes a mapfile
+-- a call that a step of a generating makes: none writes the output, nor removes a mapfile
 abbrev pub IsGenerateCall : SiteCall → Type 0
 IsGenerateCall ImageWrite = ⊥
 IsGenerateCall MapRemove = ⊥
