@@ -15,6 +15,7 @@ rows low [] ss = []
 rows low (e ∷ es) [] = []
 rows low (e ∷ es) (s ∷ ss) = record { pos = low; size = e - low; status = s } ∷ rows e es ss
 
+-- what a row with these ends and statuses stands for
 abbrev pub row_of : Inside → Lined
 row_of r = record {
   items = rows 0 r.ends.items r.statuses.items;

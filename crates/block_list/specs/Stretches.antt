@@ -13,6 +13,7 @@ joined pos s (b ∷ bs) =
     if same s b.status then record { pos = pos; size = b.size + 1; status = s } ∷ bs
     else record { pos = pos; size = 1; status = s } ∷ b ∷ bs
 
+-- the maximal stretches of equal statuses of a map whose first position is this one, in order
 abbrev pub stretches_from : ℕ → List Status → List Block
 stretches_from pos [] = []
 stretches_from pos (s ∷ map) = joined pos s (stretches_from (pos + 1) map)

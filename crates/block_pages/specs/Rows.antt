@@ -17,6 +17,7 @@ rows [] ss end = []
 rows (p ∷ ps) [] end = []
 rows (p ∷ ps) (s ∷ ss) end = record { pos = p; size = first_or ps end - p; status = s } ∷ rows ps ss end
 
+-- the statuses of the blocks of a page, by what it keeps of them
 abbrev pub statuses_of : List KeptStatus → List Status
 statuses_of ks = map (λ (k : KeptStatus). k.status) ks
 

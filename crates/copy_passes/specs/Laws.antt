@@ -30,6 +30,7 @@ pub record GoesAlike (s : Setting) (m n : Machine) (events : List Event) : Type 
   pub run : IsRun s m events → IsRun s n events
   pub state : IsAlike s (state_after s m events) (state_after s n events)
 
+-- Alike states go on alike, whatever the events.
 abbrev pub AlikeGoAlike : Type 0
 AlikeGoAlike = (s : Setting) (m n : Machine) (events : List Event) → IsAlike s m n → GoesAlike s m n events
 

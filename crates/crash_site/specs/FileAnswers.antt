@@ -11,6 +11,7 @@ abbrev pub kind_of : Option File → Bool → ImageKind
 kind_of None make = if make then Regular else NoImage
 kind_of (Some f) make = if f.regular then Regular else Other
 
+-- an open answered that there is no file
 abbrev pub is_absent : ImageKind → Bool
 is_absent Regular = false
 is_absent Other = false

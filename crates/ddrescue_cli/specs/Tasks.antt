@@ -41,10 +41,11 @@ pub record TaskOutside : Type 0 where
 abbrev pub with_did : TaskOutside → Deeds → Outside
 with_did o did = record { found = o.found; end = o.end; maps = o.maps; did = did; lines = o.lines }
 
--- what files are asked for, and what of a filling
+-- what a command asks for, by what was outside
 abbrev pub asked_by : Command → (line : List ℕ) → TaskOutside → Setting
 asked_by c line o = setting_of c line o.end o.maps
 
+-- what a filling is asked for, by what was outside
 abbrev pub filling_by : Command → (line : List ℕ) → TaskOutside → Setting
 filling_by c line o = fill_setting c line o.top o.maps
 

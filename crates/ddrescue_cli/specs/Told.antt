@@ -16,9 +16,10 @@ handed source site clock console =
 abbrev pub Told : Type 0
 Told = ToldOf Ending
 
--- the calls come after those that the site had made
+-- calls that come after those that a site had made
 abbrev pub calls_of : SiteState → Before
 calls_of site = record { start = site.start; earlier = site.calls }
 
+-- calls that come after those that the site had made before the program was called
 abbrev pub calls_before : Told → Before
 calls_before t = calls_of t.before.site

@@ -38,14 +38,16 @@ use Rattle.ddrescue_laws.specs.InputRead.{HasRead}
 use Rattle.ddrescue_laws.specs.LeftAfter.{names_maps, IsLeft}
 use Rattle.ddrescue_cli.specs.Ddrescue.{Ddrescue}
 
--- the outside of a promise, the setting by it, and what was done there
+-- what was outside, as a promise says it
 abbrev pub outside_by : {t : Told} {c : Command} → Ddrescue t → Asks t.words c → Outside
 outside_by {t} {c} d asks =
     with_did (d.does.asked_for (Rescue c) asks).outside (d.does.asked_for (Rescue c) asks).did
 
+-- what was asked for, by what was outside
 abbrev pub setting_promised : {t : Told} {c : Command} → Ddrescue t → Asks t.words c → Setting
 setting_promised {t} {c} d asks = asked_of c t (outside_by d asks)
 
+-- what was done, as a promise says it
 abbrev pub done_by : {t : Told} {c : Command} → Ddrescue t → Asks t.words c → Gain
 done_by {t} {c} d asks = (outside_by d asks).did.gain
 

@@ -37,11 +37,12 @@ use Rattle.task_sweeps.specs.Modes.{Fills, Generates, fill_rows, fill_setting, g
 use Rattle.ddrescue_cli.specs.Ddrescue.{Ddrescue, TaskDone}
 use Rattle.ddrescue_laws.specs.Laws.{IsVerdict, NothingFailed}
 
--- the promise of a filling, and what it was asked for
+-- the promise of a filling
 abbrev pub promised_fill : {t : Told} {types : TypeSet} {c : Command} → Ddrescue t → AskTask t.words (Fill types c)
     → TaskDone (Fill types c) t
 promised_fill {t} {types} {c} d asks = d.does.asked_for (Fill types c) asks
 
+-- what a filling was asked for, by its promise
 abbrev pub filling_setting : (t : Told) {types : TypeSet} {c : Command} → TaskDone (Fill types c) t → Setting
 filling_setting t {types} {c} p = fill_setting c (command_line program_name t.words) p.outside.top p.outside.maps
 
@@ -68,22 +69,24 @@ GenerateIsDoneUnless = (t : Told) (c : Command) (d : Ddrescue t) (asks : AskTask
     → RefuseNothing (generate_rows c (promised_generate d asks).outside.found (promised_generate d asks).outside.end)
     → t.answer ≢ NoMemory → t.answer ≡ Done
 
--- An answer of a filling or of a generating that names a failed call names one that a step makes.
+-- An answer of a filling that names a failed call names one that a step makes.
 abbrev pub FillFaultsAreOfSteps : Type 0
 FillFaultsAreOfSteps = (t : Told) (types : TypeSet) (c : Command) (d : Ddrescue t) (call : SiteCall)
     (earlier : Option Stop) → AskTask t.words (Fill types c) → t.answer ≡ SiteFault call earlier → IsRescueCall call
 
+-- An answer of a generating that names a failed call names one that a step makes.
 abbrev pub GenerateFaultsAreOfSteps : Type 0
 GenerateFaultsAreOfSteps = (t : Told) (c : Command) (d : Ddrescue t) (call : SiteCall) (earlier : Option Stop)
     → AskTask t.words (Generate c) → t.answer ≡ SiteFault call earlier → IsGenerateCall call
 
 -- Where the files tell, a filling that came to no sweep leaves every file as it was, but that an absent output may be
--- made, empty; and such a generating leaves every file.
+-- made, empty.
 abbrev pub UnbegunFillLeaves : Type 0
 UnbegunFillLeaves = (t : Told) (types : TypeSet) (c : Command) (d : Ddrescue t) (asks : AskTask t.words (Fill types c))
     → IsTrue t.before.site.tells → (promised_fill d asks).did.gain.times ≡ []
     → AllStand (files_of t) (files_in t.after.site) ⊎ OutputMade c.outfile (files_of t) (files_in t.after.site)
 
+-- Where the files tell, a generating that came to no sweep leaves every file as it was.
 abbrev pub UnbegunGenerateLeaves : Type 0
 UnbegunGenerateLeaves = (t : Told) (c : Command) (d : Ddrescue t) (asks : AskTask t.words (Generate c))
     → IsTrue t.before.site.tells → (promised_generate d asks).did.gain.times ≡ []
@@ -96,18 +99,19 @@ pub record IsBeforeSweep (e : Ending) : Type 0 where
   pub call : (call : SiteCall) (earlier : Option Stop) → e ≡ SiteFault call earlier → IsOfOpening call
 
 -- By the answer: where the files tell, a filling with such an answer leaves every file as it was, but that an absent
--- output may be made, empty; and such a generating leaves every file.
+-- output may be made, empty.
 abbrev pub RefusedFillLeaves : Type 0
 RefusedFillLeaves = (t : Told) (types : TypeSet) (c : Command) (d : Ddrescue t) → AskTask t.words (Fill types c)
     → IsTrue t.before.site.tells → IsBeforeSweep t.answer
     → AllStand (files_of t) (files_in t.after.site) ⊎ OutputMade c.outfile (files_of t) (files_in t.after.site)
 
+-- By the answer: where the files tell, a generating with such an answer leaves every file as it was.
 abbrev pub RefusedGenerateLeaves : Type 0
 RefusedGenerateLeaves = (t : Told) (c : Command) (d : Ddrescue t) → AskTask t.words (Generate c)
     → IsTrue t.before.site.tells → IsBeforeSweep t.answer → AllStand (files_of t) (files_in t.after.site)
 
 -- A filling whose pattern comes whole has one verdict at most, by its command, its pattern's length and the files that
--- it finds, and so has a generating.
+-- it finds.
 abbrev pub FillHasOneVerdict : Type 0
 FillHasOneVerdict = (types : TypeSet) (c : Command) (found : Found) (input_end top : ℕ) (s s' : Setting)
     (buffer buffer' : List ℕ) (pieces pieces' : List Swept) (end end' : RunEnd) (lines lines' : List (List ℕ))
@@ -115,6 +119,7 @@ FillHasOneVerdict = (types : TypeSet) (c : Command) (found : Found) (input_end t
     → Fills types c found input_end top s' buffer' pieces' end' lines' e' d' → IsVerdict e → IsVerdict e'
     → e ≢ PatternUnread → e' ≢ PatternUnread → e ≡ e'
 
+-- A generating has one verdict at most, by its command and the files that it finds.
 abbrev pub GenerateHasOneVerdict : Type 0
 GenerateHasOneVerdict = (c : Command) (found : Found) (input_end : ℕ) (s s' : Setting) (pieces pieces' : List Swept)
     (end end' : RunEnd) (lines lines' : List (List ℕ)) (e e' : Ending) (d d' : Deeds)
@@ -152,6 +157,7 @@ pub record LeavesFilled (t : Told) (s : Setting) (types : TypeSet) (buffer : Lis
   pub elsewhere : (y : ℕ) → y < length (bytes_of (files_of t s.outfile)) → HasNoPiece s pieces y
       → slice_get (bytes_of (files_in t.after.site s.outfile)) y ≡ slice_get (bytes_of (files_of t s.outfile)) y
 
+-- Where the files tell, a filling that is done leaves that.
 abbrev pub DoneIsFilled : Type 0
 DoneIsFilled = (t : Told) (types : TypeSet) (c : Command) (d : Ddrescue t) (asks : AskTask t.words (Fill types c))
     → IsTrue t.before.site.tells → t.answer ≡ Done
@@ -171,6 +177,7 @@ pub record LeavesGenerated (t : Told) (s : Setting) (pieces : List Swept) : Type
       → Has statuses Finished x ⊎ ((b : ℕ) × (slice_get (bytes_of (files_of t s.outfile)) (place s x) ≡ Some b))
   pub output : bytes_of (files_in t.after.site s.outfile) ≡ bytes_of (files_of t s.outfile)
 
+-- Where the files tell, a generating that is done leaves that.
 abbrev pub DoneIsGenerated : Type 0
 DoneIsGenerated = (t : Told) (c : Command) (d : Ddrescue t) (asks : AskTask t.words (Generate c))
     → IsTrue t.before.site.tells → t.answer ≡ Done

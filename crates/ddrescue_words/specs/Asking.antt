@@ -31,6 +31,7 @@ told_by c = record {
   options = c.options;
 }
 
+-- the task that the code hands on
 abbrev pub task_by : TaskCode → Task
 task_by (RescueCode c) = Rescue (told_by c)
 task_by (FillCode types c) = Fill types (told_by c)
@@ -53,6 +54,7 @@ pub record MapOptions : Type 0 where
   pub domain : Option (List ℕ)
   pub test : Option (List ℕ)
 
+-- the names of the maps, by the last option of each letter
 abbrev pub maps_in : List (List ℕ) → List Item → MapOptions
 maps_in words items = record {
   domain = last_value option_meanings words domain_letter items;
@@ -139,6 +141,7 @@ mode_task (Some types) generates c = Fill types c
 mode_task None true c = Generate c
 mode_task None false c = Rescue c
 
+-- the task of a command by its options, or its fault
 abbrev pub files_task : Options → Result Command UsageFault → Result Task UsageFault
 files_task o (Ok c) = Ok (mode_task o.fill o.generate c)
 files_task o (Err fault) = Err fault
@@ -176,6 +179,7 @@ task_from words items (Ok o) operands =
     else unless_empty (empty_operand words operands)
     (unless_conflict (conflict_in (is_some o.sample) items) (task_with words items o o.sample operands))
 
+-- what words ask for by their options and operands, or their first fault
 abbrev pub task_in : List (List ℕ) → List Item → (operands : List ℕ) → Result Task UsageFault
 task_in words items operands = task_from words items (options_in words items) operands
 

@@ -32,23 +32,26 @@ cluster_limit = 16777216
 abbrev pub whole_sectors : (sector : ℕ) → ℕ → ℕ
 whole_sectors sector n = (n + (sector - 1)) / sector * sector
 
+-- a size rounded up to whole sectors, by options
 abbrev pub in_sectors : Options → ℕ → ℕ
 in_sectors o n = whole_sectors o.sector n
 
 -- ---- how far copying skips
 
--- how far copying skips after a failed read in bytes, at first and at most, if no option says it
+-- how far copying skips at first after a failed read, in bytes, if no option says it
 abbrev pub default_skip : ℕ
 default_skip = 65536
 
+-- how far it skips at most, in bytes, if no option says it
 abbrev pub default_skip_max : ℕ
 default_skip_max = 2 ^ 30
 
--- the parts of a text between its commas
+-- parts of a text, the first of which begins with one character more
 abbrev pub with_first : ℕ → List (List ℕ) → List (List ℕ)
 with_first c [] = (c ∷ []) ∷ []
 with_first c (part ∷ parts) = (c ∷ part) ∷ parts
 
+-- the parts of a text between its commas
 abbrev pub comma_parts : List ℕ → List (List ℕ)
 comma_parts [] = [] ∷ []
 comma_parts (c ∷ text) = if nat_eq c 44 then [] ∷ comma_parts text else with_first c (comma_parts text)
@@ -66,6 +69,7 @@ skips_given (Some first) None = Some (first, max first default_skip_max)
 skips_given None (Some most) = Some (min most default_skip, most)
 skips_given (Some first) (Some most) = if nat_le first most then Some (first, most) else None
 
+-- the skip sizes by the parts of a value: one of them or two
 abbrev pub skips_in_parts : (sector : ℕ) → List (List ℕ) → Option (ℕ × ℕ)
 skips_in_parts sector [] = None
 skips_in_parts sector (first ∷ []) = option_and_then (λ f. skips_given f None) (size_if_given sector first)
@@ -92,20 +96,24 @@ area_limit_of (c ∷ text) =
 
 -- ---- the rows
 
--- The letters of other options that are read by themselves. The size of a cluster (`-c`) is checked again after all
--- others. `-F` and `-G` are modes, which don't go together and not with `-H`; `-H` and `-m` name maps.
+-- Some options are read by themselves, too. The letter of the one that gives the size of a cluster (`-c`), which is
+-- checked again after all others.
 abbrev pub cluster_letter : ℕ
 cluster_letter = 99
 
+-- the letter of fill mode (`-F`)
 abbrev pub fill_letter : ℕ
 fill_letter = 70
 
+-- the letter of generate mode (`-G`), which goes with no other mode
 abbrev pub generate_letter : ℕ
 generate_letter = 71
 
+-- the letter of test mode (`-H`), which names a map
 abbrev pub test_letter : ℕ
 test_letter = 72
 
+-- the letter of the option that names the domain map (`-m`)
 abbrev pub domain_letter : ℕ
 domain_letter = 109
 

@@ -7,10 +7,11 @@ use Rattle.program_promise.specs.Causes.{changes_of}
 use Rattle.ddrescuelog_cli.specs.declared.ending.LogEnding.{LogEnding}
 use Rattle.ddrescuelog_cli.specs.Answers.{TakesAs, drafting_left, row_of}
 
--- the count of failed calls on the files, and that of failed takes, after an answer
+-- the count of failed calls on the files, after an answer
 abbrev pub site_count : LogEnding → ℕ → ℕ
 site_count e faults = (changes_of (row_of e).kind).calls faults
 
+-- the count of failed takes, after an answer
 abbrev pub feed_count : LogEnding → ℕ → ℕ
 feed_count e faults = (changes_of (row_of e).kind).takes faults
 

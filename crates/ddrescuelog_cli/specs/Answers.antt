@@ -59,10 +59,11 @@ status_of_ending e = (row_of e).status
 abbrev pub is_silent : LogEnding → Bool
 is_silent e = is_silent_kind (row_of e).kind
 
--- the text of an answer, and its message on standard error
+-- the text of an answer
 abbrev pub text_of_ending : LogEnding → List ℕ
 text_of_ending e = (row_of e).text
 
+-- the message on standard error for an answer
 abbrev pub message : LogEnding → List ℕ
 message e = message_of program_name (text_of_ending e)
 
@@ -155,6 +156,7 @@ means fits takes = record { fits = fits; takes = takes; drafting = false }
 abbrev pub never : (old new : FeedState) → Type 0
 never old new = ⊥
 
+-- a command creates a map
 abbrev pub IsCreating : Command → Type 0
 IsCreating c = creates c.mode ≡ true
 
@@ -176,9 +178,11 @@ meaning_of FeedFault = means IsCreating TookFront
 meaning_of ConsoleFault = means (λ c. prints c.mode ≡ true) never
 meaning_of NoMemory = means (λ c. ⊤) TookFront
 
+-- an answer may come for a command
 abbrev pub FitsCommand : LogEnding → Command → Type 0
 FitsCommand e c = (meaning_of e).fits c
 
+-- what a map to be created took of the feed by the time of an answer
 abbrev pub TakesAs : LogEnding → (old new : FeedState) → Type 0
 TakesAs e old new = (meaning_of e).takes old new
 
@@ -187,5 +191,6 @@ abbrev pub TakesFeed : (creates_map : Bool) → LogEnding → (old new : FeedSta
 TakesFeed true e old new = TakesAs e old new
 TakesFeed false e old new = Untaken old new
 
+-- a draft is left begun after an answer
 abbrev pub drafting_left : LogEnding → Bool
 drafting_left e = (meaning_of e).drafting

@@ -133,6 +133,7 @@ RunsAs true c line list found m =
     UnlessThere c.options.forced c.mapfile found.mapfile
     (Works log_faults (named_rows c found) (WorksOver c line list m))
 
+-- the work by whether a map is created: the first rows, and what is run after them
 abbrev pub WorksAs : (new : Bool) → Command → (line list : List ℕ) → Found → Maps → LogEnding → Deeds → Type 0
 WorksAs new c line list found m = Works log_faults (first_rows new c found) (RunsAs new c line list found m)
 

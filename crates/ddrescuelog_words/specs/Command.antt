@@ -64,11 +64,12 @@ with_mode words items o None operands = Err (Modes (modes_given items))
 with_mode words items o (Some m) operands =
     if nat_eq (modes_given items) 1 then with_operand words items o m operands else Err (Modes (modes_given items))
 
--- the word in which the last value of the size begins
+-- the word in which the value of an option begins, or 0 if there is no option
 abbrev pub size_word_by : Option Item → ℕ
 size_word_by None = 0
 size_word_by (Some i) = word_at i.value
 
+-- the word in which the last value of the size begins
 abbrev pub size_word : List Item → ℕ
 size_word items = size_word_by (last_of option_meanings size_letter items)
 
@@ -90,6 +91,7 @@ command_by words items (Ok o) operands =
     unless_too_long (size_word items)
     (unless_empty (empty_operand words operands) (with_mode words items o o.mode operands))
 
+-- what options and operands that were read from the words ask for, or their first fault
 abbrev pub command_in : List (List ℕ) → List Item → (operands : List ℕ) → Result Command UsageFault
 command_in words items operands = command_by words items (options_in words items) operands
 

@@ -10,10 +10,11 @@ use Rattle.ddrescuelog_words.specs.declared.options.LogOptions.{LogOptions}
 use Rattle.ddrescuelog_words.specs.Options.{no_options}
 use Rattle.ddrescuelog_words.specs.Command.{Command, command_in}
 
--- an option of a row, counted from 0, in a word: with no value, or with one that begins in a word at a byte
+-- an option of a row, counted from 0, in a word, with no value
 abbrev pub alone : (row word : ℕ) → Item
 alone row word = record { row = row; word = word; value = None }
 
+-- an option of a row, counted from 0, in a word, with a value that begins in a word at a byte
 abbrev pub valued : (row word begins from : ℕ) → Item
 valued row word begins from = record { row = row; word = word; value = Some (record { word = begins; from = from }) }
 

@@ -24,11 +24,11 @@ abbrev pub mode : (letter : ℕ) → List ℕ → Takes → (Option (List ℕ) �
 mode letter name takes read =
     record { letter = Some letter; name = name; takes = takes; sets = λ block o value. as_mode o (read value) }
 
--- The letters of other options that are read by themselves. `-m` names the map of the positions that are examined, and
--- `-s` is checked again after all others if a map is to be made.
+-- the letter of `-m`, which names the map of the positions that are examined; it is read by itself
 abbrev pub domain_letter : ℕ
 domain_letter = 109
 
+-- the letter of `-s`, which is read by itself, and checked again after all others if a map is to be made
 abbrev pub size_letter : ℕ
 size_letter = 115
 

@@ -12,6 +12,7 @@ use Rattle.ddrescuepart_cli.specs.declared.ending.PartEnding.{PartEnding}
 use Rattle.ddrescuepart_cli.specs.declared.ending.PartEnding.TheVariants.{Done, Usage, SourceFault, SourceLost, Refused, ConsoleFault, NoMemory}
 use Rattle.ddrescuepart_cli.specs.Names.{program_name}
 
+-- the row of an answer
 abbrev pub row_of : PartEnding → AnswerRow
 row_of Done = asked_row 0
 row_of (Usage fault) = wrong_row fault
@@ -44,9 +45,10 @@ status_of_ending e = (row_of e).status
 abbrev pub is_silent : PartEnding → Bool
 is_silent e = is_silent_kind (row_of e).kind
 
--- the text on an answer, and the message on standard error
+-- the text of an answer
 abbrev pub text_of_ending : PartEnding → List ℕ
 text_of_ending e = (row_of e).text
 
+-- the message on standard error for an answer
 abbrev pub message : PartEnding → List ℕ
 message e = message_of program_name (text_of_ending e)

@@ -40,7 +40,7 @@ ending_of Whole = Done
 ending_of (Lost Memory) = NoMemory
 ending_of (Lost Console) = ConsoleFault
 
--- the exit status
+-- the exit status of an answer
 abbrev pub status_of_ending : PlanEnding → ℕ
 status_of_ending e = (row_of e).status
 
@@ -48,9 +48,10 @@ status_of_ending e = (row_of e).status
 abbrev pub is_silent : PlanEnding → Bool
 is_silent e = is_silent_kind (row_of e).kind
 
--- the text on an answer, and the message on standard error
+-- the text on an answer
 abbrev pub text_of_ending : PlanEnding → List ℕ
 text_of_ending e = (row_of e).text
 
+-- the message on standard error for an answer: the program's name, and the text
 abbrev pub message : PlanEnding → List ℕ
 message e = message_of program_name (text_of_ending e)

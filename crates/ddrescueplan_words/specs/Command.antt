@@ -59,6 +59,7 @@ command_by words items (Err n) operands = Err (BadValue n)
 command_by words items (Ok o) operands =
     if is_too_large o.rescue then Err (BadValue (cluster_word items)) else command_with words o operands
 
+-- what words ask for by their options and operands, or their first fault
 abbrev pub command_in : List (List ℕ) → List Item → (operands : List ℕ) → Result Command UsageFault
 command_in words items operands = command_by words items (options_in words items) operands
 

@@ -9,11 +9,12 @@ use Rattle.ddrescue_words.specs.declared.options.Options.{Options}
 use Rattle.ddrescue_words.specs.Options.{option_rows as rescue_rows, no_options as no_rescue_options}
 use Rattle.ddrescueplan_words.specs.declared.options.PlanOptions.{PlanOptions}
 
--- what the option of a row is named, and whether it takes a value
+-- what the option of a row is named
 abbrev pub name_in : Option (OptionRow Options) → List ℕ
 name_in None = codes ""
 name_in (Some r) = r.name
 
+-- whether the option of a row takes a value
 abbrev pub takes_in : Option (OptionRow Options) → Takes
 takes_in None = Never
 takes_in (Some r) = r.takes
@@ -35,7 +36,7 @@ option_row letter = record {
 abbrev pub cluster_letter : ℕ
 cluster_letter = 99
 
--- the options
+-- the letters of the options
 abbrev pub option_letters : List ℕ
 option_letters = codes "bciKnNqrRsu"
 
@@ -43,6 +44,7 @@ option_letters = codes "bciKnNqrRsu"
 abbrev pub rescue_places : List ℕ
 rescue_places = 2 ∷ 3 ∷ 10 ∷ 11 ∷ 15 ∷ 16 ∷ 18 ∷ 19 ∷ 20 ∷ 21 ∷ 23 ∷ []
 
+-- the options, one a row
 abbrev pub option_rows : List (OptionRow PlanOptions)
 option_rows = map option_row option_letters
 

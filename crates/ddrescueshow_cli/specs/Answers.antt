@@ -46,9 +46,10 @@ status_of_ending e = (row_of e).status
 abbrev pub is_silent : ShowEnding → Bool
 is_silent e = is_silent_kind (row_of e).kind
 
--- the text on an answer, and the message on standard error
+-- the text of an answer
 abbrev pub text_of_ending : ShowEnding → List ℕ
 text_of_ending e = (row_of e).text
 
+-- the message on standard error for an answer
 abbrev pub message : ShowEnding → List ℕ
 message e = message_of program_name (text_of_ending e)

@@ -28,17 +28,19 @@ frame_of o end = record {
   width = o.width;
 }
 
--- how many cells a picture has, and how many rows of them
+-- how many cells a picture has
 abbrev pub cells_in : Frame → ℕ
 cells_in f = div_ceil (f.to - f.from) f.cell
 
+-- how many rows of cells a picture has
 abbrev pub rows_in : Frame → ℕ
 rows_in f = div_ceil (cells_in f) f.width
 
--- where a cell begins, counted from 0, and where it ends; the last one may be shorter
+-- where a cell begins; cells are counted from 0
 abbrev pub begin_of : Frame → (k : ℕ) → ℕ
 begin_of f k = f.from + k * f.cell
 
+-- where a cell ends; cells are counted from 0, and the last one may be shorter
 abbrev pub end_of : Frame → (k : ℕ) → ℕ
 end_of f k = min f.to (begin_of f k + f.cell)
 

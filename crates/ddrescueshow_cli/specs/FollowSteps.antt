@@ -33,6 +33,7 @@ pub data LosesText (terminal : Bool) (line : List ℕ) (e : FollowEnding) (known
   Unput : (known' : Known) → e ≡ ConsoleFault → PutsText terminal line false known known' console console'
       → LosesText terminal line e known console console'
 
+-- how far a call has come that has this follower and this console
 abbrev pub stage_of : Follower → ConsoleState → Stage
 stage_of f console = record { line = f.line.items; known = f.teller.known; console = console }
 

@@ -24,7 +24,7 @@ follow_status FeedFault = 1
 follow_status ConsoleFault = 1
 follow_status NoMemory = 4
 
--- the message on standard error
+-- the text of an answer
 abbrev pub follow_text : FollowEnding → List ℕ
 follow_text Done = []
 follow_text NotAlone = codes "--progress takes no other argument"
@@ -32,10 +32,11 @@ follow_text FeedFault = codes "cannot read standard input"
 follow_text ConsoleFault = codes "cannot write standard output"
 follow_text NoMemory = codes "out of memory"
 
+-- the message on standard error for an answer
 abbrev pub follow_message : FollowEnding → List ℕ
 follow_message e = message_of program_name (follow_text e)
 
--- what becomes of the count of takes that failed, and of that of puts on standard output that did
+-- what becomes of the count of takes that failed
 abbrev pub takes_after : FollowEnding → ℕ → ℕ
 takes_after Done n = n
 takes_after NotAlone n = n
@@ -43,6 +44,7 @@ takes_after FeedFault n = raised n
 takes_after ConsoleFault n = n
 takes_after NoMemory n = n
 
+-- what becomes of the count of puts on standard output that failed
 abbrev pub puts_after : FollowEnding → ℕ → ℕ
 puts_after Done n = n
 puts_after NotAlone n = n

@@ -37,6 +37,7 @@ pub record CellsTile (f : Frame) : Type 0 where
       → (k : ℕ) × (k < cells_in f) × IsInCell f x k × ((other : ℕ) → IsInCell f x other → other ≡ k)
   pub none : (x k : ℕ) → IsInCell f x k → (f.from ≤ x) × (x < f.to)
 
+-- Each position of what a picture shows is in one of its cells, for every picture.
 abbrev pub AllCellsTile : Type 0
 AllCellsTile = (f : Frame) → IsFrame f → CellsTile f
 
@@ -51,10 +52,11 @@ pub record IsLeastCell (o : ShowOptions) (end : ℕ) : Type 0 where
       → end_shown o.input_position o.size end ≤ o.input_position + o.sector * fewer * (o.width * o.rows)
       → sectors ≤ fewer
 
+-- The cells of a picture are as small as its rows allow, for all options within their limits.
 abbrev pub CellsAreLeast : Type 0
 CellsAreLeast = (o : ShowOptions) (end : ℕ) → AreInLimits o → IsLeastCell o end
 
--- how bad a mark is, and a status
+-- how bad a status is
 abbrev pub badness : Status → ℕ
 badness Finished = 1
 badness NonTried = 2
@@ -62,6 +64,7 @@ badness NonTrimmed = 3
 badness NonScraped = 4
 badness BadSector = 5
 
+-- how bad a mark is: as bad as its status, and 0 if it has none
 abbrev pub badness_of : Option Status → ℕ
 badness_of None = 0
 badness_of (Some s) = badness s
@@ -140,6 +143,7 @@ abbrev pub small_map : List Status
 small_map =
     Finished ∷ Finished ∷ Finished ∷ Finished ∷ BadSector ∷ Finished ∷ Finished ∷ Finished ∷ Finished ∷ NonTried ∷ []
 
+-- the options of the small picture: sectors of one byte, four cells a row, and two rows
 abbrev pub small_options : ShowOptions
 small_options = record {
   sector = 1;
@@ -153,6 +157,7 @@ small_options = record {
   quiet = false;
 }
 
+-- the runs of cells in a row of the small picture
 abbrev pub small_runs : (row : ℕ) → List Run
 small_runs row = runs_of (marks_of (frame_of small_options 10) (λ x. true) small_map row)
 

@@ -26,6 +26,7 @@ is_colored Auto terminal = terminal
 is_colored Always terminal = true
 is_colored Never terminal = false
 
+-- the form of a picture: SVG if that is asked for, and else text, in color or plain
 abbrev pub form_of : ShowOptions → (terminal : Bool) → Form
 form_of o terminal = if o.svg then Svg else if is_colored o.coloring terminal then Colored else Plain
 
@@ -52,6 +53,7 @@ rescued_text rescued size =
 abbrev pub bad_text : Count → List ℕ
 bad_text bad = decimal bad.bytes ++ codes " B bad in " ++ decimal bad.areas ++ codes " areas"
 
+-- `99.07 % of 67108864 B rescued, 20480 B bad in 5 areas`
 abbrev pub figures_text : Summary → List ℕ
 figures_text s = rescued_text (line_of s 4).bytes s.domain ++ bad_text (line_of s 3)
 
@@ -66,7 +68,7 @@ abbrev pub sequence : List ℕ → List ℕ
 sequence number = 27 ∷ codes "[" ++ number ++ codes "m"
 
 -- the background of a cell, in the colors of ddrescueview: finished is green, non-tried gray, non-trimmed yellow,
--- non-scraped blue and bad red; and the end of it
+-- non-scraped blue and bad red
 abbrev pub color_of : Option Status → List ℕ
 color_of None = sequence (codes "49")
 color_of (Some Finished) = sequence (codes "42")
@@ -75,6 +77,7 @@ color_of (Some NonTrimmed) = sequence (codes "43")
 color_of (Some NonScraped) = sequence (codes "44")
 color_of (Some BadSector) = sequence (codes "41")
 
+-- the sequence that ends a color
 abbrev pub uncolored : List ℕ
 uncolored = sequence (codes "0")
 
@@ -82,13 +85,15 @@ uncolored = sequence (codes "0")
 abbrev pub block : Option Status → (count : ℕ) → List ℕ
 block shown count = color_of shown ++ replicate count 32 ++ uncolored
 
--- what the colors mean
+-- a cell in the color of a status, and what it means
 abbrev pub color_text : Status → (name : List ℕ) → List ℕ
 color_text status name = block (Some status) 1 ++ name
 
+-- what the colors of finished and non-tried cells mean
 abbrev pub tried_colors : List ℕ
 tried_colors = color_text Finished (codes " finished, ") ++ color_text NonTried (codes " non-tried, ")
 
+-- what the colors of failed cells mean, and what a blank one does
 abbrev pub failed_colors : List ℕ
 failed_colors =
     color_text NonTrimmed (codes " non-trimmed, ") ++ color_text NonScraped (codes " non-scraped, ")
@@ -100,7 +105,7 @@ failed_colors =
 abbrev pub padded : (len : ℕ) → ℕ → List ℕ
 padded len n = replicate (len - length (decimal n)) 32 ++ decimal n ++ codes " "
 
--- how it begins: the figures, and the size of a cell
+-- how a picture begins: the figures, and the size of a cell
 abbrev pub head_text : Form → Frame → Summary → List ℕ
 head_text Svg f s = svg_head f (figures_text s) (cell_text f)
 head_text Plain f s = (figures_text s ++ codes "\n") ++ cell_text f ++ codes "\n"
@@ -124,11 +129,12 @@ end_text Svg = codes "</g>\n"
 end_text Plain = codes "\n"
 end_text Colored = codes "\n"
 
+-- a row of a picture: the position of its first cell, its runs of cells, and its end
 abbrev pub row_text : Form → Frame → (domain : ℕ → Bool) → List Status → (row : ℕ) → List ℕ
 row_text form f domain statuses row =
     front_text form f row ++ flat_map (run_text form) (runs_of (marks_of f domain statuses row)) ++ end_text form
 
--- how it ends: what the cells mean
+-- how a picture ends: what the cells mean
 abbrev pub foot_text : Form → Frame → List ℕ
 foot_text Svg f = svg_foot f
 foot_text Plain f =
@@ -137,6 +143,7 @@ foot_text Colored f = tried_colors ++ failed_colors
 
 -- ---- all of it
 
+-- a whole picture: the figures, its rows, and what the cells mean
 abbrev pub picture_text : Form → Frame → (domain : ℕ → Bool) → List Status → List ℕ
 picture_text form f domain statuses =
     head_text form f (summary_of domain statuses)

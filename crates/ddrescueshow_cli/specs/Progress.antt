@@ -25,21 +25,24 @@ abbrev pub where_text : Head → List ℕ
 where_text (Phase current pass) = phase_text current ++ codes " " ++ decimal pass
 where_text (Last done) = last_front done
 
--- how much is rescued: the share of the domain, if its size is known, and else the bytes
+-- how much is rescued, in bytes
 abbrev pub bytes_text : (rescued : ℕ) → List ℕ
 bytes_text rescued = codes ", " ++ decimal rescued ++ codes " B rescued"
 
+-- how much is rescued, as a share of the domain
 abbrev pub share_part : (rescued size : ℕ) → List ℕ
 share_part rescued size = codes ", " ++ share_text (share rescued size) ++ codes " %"
 
+-- how much is rescued: the share of the domain, if its size is known, and else the bytes
 abbrev pub done_text : (size : Option ℕ) → (rescued : ℕ) → List ℕ
 done_text None rescued = bytes_text rescued
 done_text (Some size) rescued = if nat_lt size rescued then bytes_text rescued else share_part rescued size
 
--- what failed, and how often a read did
+-- how many bytes failed, and in how many areas
 abbrev pub failed_text : Count → List ℕ
 failed_text n = codes ", " ++ decimal n.bytes ++ codes " B failed in " ++ decimal n.areas ++ codes " areas"
 
+-- how often a read failed
 abbrev pub errors_text : ℕ → List ℕ
 errors_text n = codes ", " ++ decimal n ++ codes " errors"
 
@@ -54,11 +57,12 @@ time_text seconds =
     codes ", " ++ decimal (seconds / 3600) ++ codes ":" ++ decimal (seconds / 600 % 6)
     ++ decimal (seconds / 60 % 10) ++ codes " left"
 
--- in which the rest of the domain is rescued at a rate, if there is one
+-- the time in which the rest of the domain is rescued at a rate, if there is one
 abbrev pub left_by : (size rescued rate : ℕ) → List ℕ
 left_by size rescued rate =
     if nat_eq rate 0 then [] else if nat_lt rescued size then time_text ((size - rescued) / rate) else []
 
+-- the time that is left, if the size of the domain and the rate are known
 abbrev pub left_text : (size rate : Option ℕ) → (rescued : ℕ) → List ℕ
 left_text None rate rescued = []
 left_text (Some size) None rescued = []
@@ -70,7 +74,7 @@ progress_text size rate f =
     fit (fit (fit (fit (fit (where_text f.head) (done_text size f.rescued)) (failed_text f.failed))
     (errors_text f.errors)) (rate_text rate)) (left_text size rate f.rescued)
 
--- It fits.
+-- Each line of progress fits into the columns.
 abbrev pub ProgressFits : Type 0
 ProgressFits = (size rate : Option ℕ) (f : Figures) → IsHead f.head → length (progress_text size rate f) ≤ columns
 

@@ -36,10 +36,11 @@ pub record PutLine : Type 0 where
   pub line : List ℕ
   pub text : List ℕ
 
--- the lines joined, and the texts in order
+-- the lines that came, joined
 abbrev pub lines_of : List PutLine → List ℕ
 lines_of puts = flat_map (λ p. p.line) puts
 
+-- what was put of each line, in order
 abbrev pub texts_of : List PutLine → List (List ℕ)
 texts_of puts = map (λ p. p.text) puts
 
@@ -67,10 +68,11 @@ pub record Stage : Type 0 where
   pub known : Known
   pub console : ConsoleState
 
--- before the first line
+-- what is known before the first line
 abbrev pub known_at_first : Known
 known_at_first = record { is_up = false; size = None }
 
+-- how far a call has come before the first line
 abbrev pub first_stage : ConsoleState → Stage
 first_stage console = record { line = []; known = known_at_first; console = console }
 
@@ -149,6 +151,7 @@ pub record HasAllLines (terminal : Bool) (feed : FeedState) (console console' : 
   pub follows : Follows terminal puts known_at_first known
   pub out : console'.out.text ≡ console.out.text ++ flat_map (λ text. text) (texts_of puts ++ end_texts known)
 
+-- After `Done`, all lines of the feed are on standard output, if the feed and the console tell what they did.
 abbrev pub AllLinesArePut : Type 0
 AllLinesArePut = (terminal : Bool) (feed feed' : FeedState) (console console' : ConsoleState) → IsTrue feed.tells
     → IsTrue console.tells → PutsAll terminal Done feed feed' console console'

@@ -10,19 +10,20 @@ use Rattle.ddrescueshow_cli.specs.Runs.{run_at}
 
 -- ---- the head
 
--- how wide and how high a picture is: there is room for the positions of the rows at the left, for the text at the top,
--- and for the legend at the bottom
+-- how wide a picture is, with room for the positions of the rows at the left
 abbrev pub svg_width : Frame → ℕ
 svg_width f = max (10 * f.width) 720 + 180
 
+-- how high a picture is, with room for the text at the top and for the legend at the bottom
 abbrev pub svg_height : Frame → ℕ
 svg_height f = 16 * rows_in f + 220
 
--- a cell of this color with a shape on it
+-- the end of a pattern: a cell of this color with a shape on it
 abbrev pub fill_text : (color shape : List ℕ) → List ℕ
 fill_text color shape =
     color ++ codes "' d='M0 0h10v16H0z'/><path stroke='#000' stroke-width='2' d='" ++ shape ++ codes "'/></pattern>\n"
 
+-- a pattern with a name: a cell of this color with a shape on it
 abbrev pub pattern_text : (name color shape : List ℕ) → List ℕ
 pattern_text name color shape =
     codes "<pattern id='" ++ name ++ codes "' width='10' height='16' patternUnits='userSpaceOnUse'><path fill='"
@@ -43,15 +44,17 @@ svg_open f =
     codes "<svg xmlns='http://www.w3.org/2000/svg' viewBox='-160 -60 " ++ decimal (svg_width f) ++ codes " "
     ++ decimal (svg_height f) ++ codes "' font-family='monospace' font-size='12'>\n<title>"
 
--- the title, with white ground for the largest picture; how statuses are filled; and both lines of text
+-- where the picture is, and its title, with white ground for the largest picture
 abbrev pub svg_top : Frame → (figures : List ℕ) → List ℕ
 svg_top f figures =
     svg_open f ++ figures ++ codes "</title>\n<path fill='#fff' d='M-160-60h11000v17000h-11000z'/>\n"
 
+-- both lines of text at the top: the figures, and the size of a cell
 abbrev pub svg_lines : (figures cell : List ℕ) → List ℕ
 svg_lines figures cell =
     (codes "<text y='-40'>" ++ figures ++ codes "</text>\n") ++ codes "<text y='-20'>" ++ cell ++ codes "</text>\n"
 
+-- the whole head: the title, how statuses are filled, and both lines of text
 abbrev pub svg_head : Frame → (figures cell : List ℕ) → List ℕ
 svg_head f figures cell = svg_top f figures ++ svg_style ++ svg_lines figures cell
 
@@ -83,23 +86,26 @@ rect_text r =
 
 -- ---- the legend
 
--- a line of it: a cell, and what that means
+-- the end of a line of the legend: what its cell means
 abbrev pub name_text : (name : List ℕ) → List ℕ
 name_text name = codes "<text x='20' y='12'>" ++ name ++ codes "</text></g>\n"
 
+-- a line of the legend: a cell, and what that means
 abbrev pub meaning_text : (y : ℕ) → Option Status → (name : List ℕ) → List ℕ
 meaning_text y shown name = group_text y ++ rect_text (run_at 0 shown) ++ name_text name
 
--- all of it, under the rows
+-- the lines of the legend for finished, non-tried and non-trimmed cells
 abbrev pub first_meanings : List ℕ
 first_meanings =
     meaning_text 20 (Some Finished) (codes "finished") ++ meaning_text 40 (Some NonTried) (codes "non-tried")
     ++ meaning_text 60 (Some NonTrimmed) (codes "non-trimmed")
 
+-- the lines of the legend for non-scraped and bad cells, and for what isn't in the domain
 abbrev pub other_meanings : List ℕ
 other_meanings =
     meaning_text 80 (Some NonScraped) (codes "non-scraped") ++ meaning_text 100 (Some BadSector) (codes "bad-sector")
     ++ meaning_text 120 None (codes "blank: not in the domain")
 
+-- the whole legend, under the rows, and the end of the picture
 abbrev pub svg_foot : Frame → List ℕ
 svg_foot f = group_text (16 * rows_in f) ++ first_meanings ++ other_meanings ++ codes "</g>\n</svg>\n"

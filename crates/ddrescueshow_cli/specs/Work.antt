@@ -58,6 +58,7 @@ map_rows which mode name file = Read name file ∷ Look (MapIsRefused which mode
 abbrev pub is_too_large : ShowOptions → Bool
 is_too_large o = o.svg && nat_lt 16000 (o.width * o.rows)
 
+-- a picture is refused, since it would be too large
 abbrev pub IsTooLarge : ShowOptions → ShowEnding → Type 0
 IsTooLarge o e = (is_too_large o ≡ true) × (e ≡ TooManyCells)
 

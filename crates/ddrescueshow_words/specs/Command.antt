@@ -46,6 +46,7 @@ command_by words items (Err n) operands = Err (BadValue n)
 command_by words items (Ok o) operands =
     unless_empty (empty_operand words operands) (command_with words items o operands)
 
+-- what options and operands that were read from the words ask for, or their first fault
 abbrev pub command_in : List (List ℕ) → List Item → (operands : List ℕ) → Result Command UsageFault
 command_in words items operands = command_by words items (options_in words items) operands
 

@@ -55,10 +55,11 @@ svg_row = record {
   sets = λ sector o value. Some (record o { svg = true });
 }
 
--- how many rows of cells there are at most, and how many cells a row has
+-- how many rows of cells there are at most
 abbrev pub rows_row : OptionRow ShowOptions
 rows_row = unlettered (codes "rows") (λ o value. option_map (λ n. record o { rows = n }) (count_by value))
 
+-- how many cells a row has
 abbrev pub width_row : OptionRow ShowOptions
 width_row = unlettered (codes "width") (λ o value. option_map (λ n. record o { width = n }) (count_by value))
 

@@ -62,14 +62,15 @@ status_of_ending e = (row_of e).status
 abbrev pub is_silent : VerifyEnding → Bool
 is_silent e = is_silent_kind (row_of e).kind
 
--- the text of an answer, and its message on standard error
+-- the text of an answer
 abbrev pub text_of_ending : VerifyEnding → List ℕ
 text_of_ending e = (row_of e).text
 
+-- the message on standard error for an answer
 abbrev pub message : VerifyEnding → List ℕ
 message e = message_of program_name (text_of_ending e)
 
--- The map is saved before an answer of this kind: only the line is put after the save.
+-- The map is saved before this failure: only the line is put after the save.
 abbrev pub is_saved_failing : Failure → Bool
 is_saved_failing AtOpen = false
 is_saved_failing AtRead = false
@@ -78,6 +79,7 @@ is_saved_failing AtCallAfterRead = false
 is_saved_failing AtTake = false
 is_saved_failing AtPut = true
 
+-- the map is saved before an answer of this kind
 abbrev pub is_saved_kind : Kind → Bool
 is_saved_kind Asked = true
 is_saved_kind Brought = false
@@ -85,5 +87,6 @@ is_saved_kind (Wrong fault) = false
 is_saved_kind (Failed at) = is_saved_failing at
 is_saved_kind Starved = false
 
+-- the map is saved before this answer
 abbrev pub is_saved : VerifyEnding → Bool
 is_saved e = is_saved_kind (row_of e).kind

@@ -41,6 +41,7 @@ plan_of o end statuses = record {
 abbrev pub shown_for : MapState → (differing : ℕ) → MapState
 shown_for loaded differing = if nat_eq differing 0 then loaded else record { pos = 0; current = Copying; pass = 1 }
 
+-- what a saved map shows after the looks at all pieces, by how many bytes differ in them
 abbrev pub shown_by : MapState → List Look → MapState
 shown_by loaded looks = shown_for loaded (differing_bytes looks)
 

@@ -14,7 +14,7 @@ pub record CountsRise (c : Changes) (source source' : SourceState) (site site' :
   pub losses : source'.losses ≡ c.reads source.losses
   pub site_faults : site'.faults ≡ c.calls site.faults
 
--- a failure before the line is put, and a kind of an answer there: never what only words lead to, or a whole comparison
+-- a failure before the line is put
 abbrev pub IsStopFailure : Failure → Type 0
 IsStopFailure AtOpen = ⊤
 IsStopFailure AtRead = ⊤
@@ -23,6 +23,7 @@ IsStopFailure AtCallAfterRead = ⊤
 IsStopFailure AtTake = ⊥
 IsStopFailure AtPut = ⊥
 
+-- a kind of answer before the line is put: never what only words lead to, or a whole comparison
 abbrev pub IsStopKind : Kind → Type 0
 IsStopKind Asked = ⊥
 IsStopKind Brought = ⊤

@@ -21,15 +21,16 @@ line_of_tally t =
 abbrev pub IsOnePut : (old new : ConsoleState) → Type 0
 IsOnePut old new = IsTrue old.is_planned → new.plan ≡ with_call old.plan
 
--- The line is put, in one put, unless nothing is to be said; or the console failed at that.
+-- The line is put, in one put, unless nothing is to be put.
 abbrev pub PutsLine : (quiet : Bool) → (line : List ℕ) → (old new : ConsoleState) → Type 0
 PutsLine true line old new = new ≡ old
 PutsLine false line old new = Puts Out line old new × IsOnePut old new
 
+-- The console failed at the one put of the line, of which a part may be there.
 abbrev pub FailsLine : (quiet : Bool) → (line : List ℕ) → (old new : ConsoleState) → Type 0
 FailsLine quiet line old new = (quiet ≡ false) × PutsPart Out line old new × IsOnePut old new
 
--- What is answered, by that.
+-- What is answered after a comparison: what its numbers mean, or that the console failed at their line.
 abbrev pub Reports : Tally → (quiet : Bool) → VerifyEnding → (old new : ConsoleState) → Type 0
 Reports t quiet e old new =
     ((e ≡ answer_of_tally t) × PutsLine quiet (line_of_tally t) old new)

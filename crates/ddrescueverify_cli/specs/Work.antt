@@ -59,10 +59,11 @@ answer_of_halt ImageFault = SiteFault ImageRead
 abbrev pub answer_of_tally : Tally → VerifyEnding
 answer_of_tally t = if nat_eq t.differing 0 then Done else Differs t.differing
 
--- the map is saved, and the numbers are put on the console, which fails only where something is to be said
+-- an answer after the map is saved: what the numbers mean, or that the console failed, if a line was to be put
 abbrev pub IsAnswer : (quiet : Bool) → Tally → VerifyEnding → Type 0
 IsAnswer quiet t e = (e ≡ answer_of_tally t) ⊎ ((quiet ≡ false) × (e ≡ ConsoleFault))
 
+-- the end after the map is saved: the answer, and nothing more is done on the files
 abbrev pub EndsSaved : (quiet : Bool) → Tally → VerifyEnding → Deeds → Type 0
 EndsSaved quiet t e d = IsAnswer quiet t e × IsIdle d
 

@@ -44,6 +44,7 @@ abbrev pub command_by : List (List ℕ) → Result VerifyOptions ℕ → (operan
 command_by words (Err n) operands = Err (BadValue n)
 command_by words (Ok o) operands = unless_empty (empty_operand words operands) (command_with words o operands)
 
+-- what options and operands that were read from the words ask for, or their first fault
 abbrev pub command_in : List (List ℕ) → List Item → (operands : List ℕ) → Result Command UsageFault
 command_in words items operands = command_by words (options_in words items) operands
 

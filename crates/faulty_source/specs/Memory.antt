@@ -22,6 +22,7 @@ is_bad_at x r = nat_le r.from x && nat_lt x r.to && fails_still r.attempts
 abbrev pub is_bad : List BadRange → ℕ → Bool
 is_bad bad x = list_any (is_bad_at x) bad
 
+-- the attempts that still fail after one more; without a number they fail for ever
 abbrev pub one_less : Option ℕ → Option ℕ
 one_less None = None
 one_less (Some n) = Some (n - 1)
@@ -41,7 +42,7 @@ pub record ReadGives (end : ℕ) (bad : List BadRange) (pos asked : ℕ) (got : 
   pub failed : is_end got ≡ false → count_of got < asked
       → (pos + count_of got < end) × (is_bad bad (pos + count_of got) ≡ true)
 
--- the bad ranges after that read
+-- the bad ranges after a read that gave this
 abbrev pub bad_after : List BadRange → (pos asked : ℕ) → Got → List BadRange
 bad_after bad pos asked got =
     if nat_lt (count_of got) asked && not (is_end got) then met bad (pos + count_of got) else bad

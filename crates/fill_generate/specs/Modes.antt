@@ -21,10 +21,11 @@ abbrev pub current_in : SweepMode → Current
 current_in (Fill types) = Filling
 current_in Generate = Generating
 
--- the positions of a domain that are taken
+-- the test for the positions of a domain that are taken
 abbrev pub is_taken : SweepMode → (domain : ℕ → Bool) → List Status → ℕ → Bool
 is_taken mode domain map x = passing (takes_in mode) domain map x
 
+-- a position of a domain is taken
 abbrev pub IsTakenIn : SweepMode → (domain : ℕ → Bool) → List Status → ℕ → Type 0
 IsTakenIn mode domain map x = is_taken mode domain map x ≡ true
 

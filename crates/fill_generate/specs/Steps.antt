@@ -49,13 +49,14 @@ pub record IsFound (r : SweepState) (p : Piece) : Type 0 where
 abbrev pub heard_as : SweepState → Bool → SweepState
 heard_as r heard = record r { heard = heard }
 
--- the line after a piece, if one is due at this time, and the save
+-- the line after a piece, if one is due at this time
 abbrev pub line_after : (r r' : SweepState) → (after : ℕ) → List (List ℕ)
 line_after r r' after =
     if is_line_due r.sweep.tally.said (current_in r.mode) (after / 1000)
     then report_text (phase_front r'.sweep.tally.shown) (sweep_report (setting_of r) r'.sweep) ∷ []
     else []
 
+-- the calls of the save after a piece, if one is due at this time
 abbrev pub save_after : (r r' : SweepState) → (after : ℕ) → List Call
 save_after r r' after =
     if nat_le (r.sweep.tally.due_at + save_interval) after

@@ -29,6 +29,7 @@ pub record SweepState : Type 0 where
 abbrev pub setting_for : Settings → List Range → MapNames → List ℕ → Setting
 setting_for settings domain names line = setting_with settings domain (Some names) line
 
+-- what a sweep's settings, its domain, its names and its command line ask for
 abbrev pub setting_of : SweepState → Setting
 setting_of r = setting_for r.settings r.domain r.names r.line
 

@@ -24,6 +24,7 @@ new_type new i = status_of_symbol (slice_index_or new (min i (length new - 1)) 0
 abbrev pub becomes : (old new : List ℕ) → Status → Status
 becomes old new s = unwrap_or (option_and_then (new_type new) (position (nat_eq (symbol s)) old)) s
 
+-- the change of each old type to the new type at its place, or to the last new type
 abbrev pub change_by : (old new : List ℕ) → TypeChange
 change_by old new = record {
   non_tried = becomes old new NonTried;
@@ -33,13 +34,14 @@ change_by old new = record {
   finished = becomes old new Finished;
 }
 
--- old types, a comma, new types; nothing else is a change
+-- the change that the parts of a text between its commas ask for: old types, and new types; nothing else is a change
 abbrev pub change_in : (parts : List (List ℕ)) → Option TypeChange
 change_in (old ∷ new ∷ []) = if is_types old && is_types new then Some (change_by old new) else None
 change_in [] = None
 change_in (old ∷ []) = None
 change_in (old ∷ new ∷ third ∷ more) = None
 
+-- the change that a text asks for: old types, a comma, new types
 abbrev pub change_of : List ℕ → Option TypeChange
 change_of text = change_in (slice_split (λ c. nat_eq c 44) text)
 

@@ -31,18 +31,19 @@ LinesAddUp =
     (domain : ℕ → Bool) (statuses : List Status)
     → sum_by (λ (c : Count). c.bytes) (summary_of domain statuses).lines ≡ (summary_of domain statuses).domain
 
--- In the domain, and finishes what both maps finish, or what either does;
+-- In the domain, `and` finishes what both maps finish.
 abbrev pub AndFinishesBoth : Type 0
 AndFinishesBoth =
     (domain : ℕ → Bool) (first second : List Status) (x : ℕ) → domain x ≡ true
     → is_finished_at (combined_map And domain first second) x ≡ (is_finished_at first x && is_finished_at second x)
 
+-- In the domain, `or` finishes what either map finishes.
 abbrev pub OrFinishesEither : Type 0
 OrFinishesEither =
     (domain : ℕ → Bool) (first second : List Status) (x : ℕ) → domain x ≡ true
     → is_finished_at (combined_map Or domain first second) x ≡ (is_finished_at first x || is_finished_at second x)
 
--- and no operation changes a position outside of it
+-- No operation changes a position outside of the domain.
 abbrev pub OtherPositionsStand : Type 0
 OtherPositionsStand =
     (op : Op) (domain : ℕ → Bool) (first second : List Status) (x : ℕ) → domain x ≡ false

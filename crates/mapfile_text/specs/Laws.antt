@@ -11,7 +11,7 @@ use Rattle.mapfile_text.specs.MapText.{IsMapText, MapFault}
 use Rattle.mapfile_text.specs.declared.check.MapShape.{MapShape}
 use Rattle.mapfile_text.specs.Checking.{IsMapShape}
 
--- two readings of one text are the same
+-- two readings are the same: their states, first positions and statuses, and whether they list a block
 pub record SameReading (state state' : MapState) (first first' : ℕ) (listed listed' : Bool)
     (statuses statuses' : List Status) : Type 0 where
   pub state_is : state ≡ state'
@@ -19,6 +19,7 @@ pub record SameReading (state state' : MapState) (first first' : ℕ) (listed li
   pub listed_is : listed ≡ listed'
   pub statuses_is : statuses ≡ statuses'
 
+-- two readings of one text in one mode are the same
 abbrev pub HasOneReading : Type 0
 HasOneReading = (text : List ℕ) (mode : Mode) (state state' : MapState) (first first' : ℕ) (listed listed' : Bool)
     (statuses statuses' : List Status)
@@ -36,7 +37,7 @@ abbrev pub MapHasNoFault : Type 0
 MapHasNoFault = (text : List ℕ) (mode : Mode) (state : MapState) (first : ℕ) (listed : Bool) (statuses : List Status)
     (e : MapError) → IsMapText text mode state first listed statuses → MapFault text mode e → ⊥
 
--- a text that is none has one fault
+-- a text that is no map has one fault
 abbrev pub HasOneFault : Type 0
 HasOneFault = (text : List ℕ) (mode : Mode) (e e' : MapError) → MapFault text mode e → MapFault text mode e' → e ≡ e'
 

@@ -29,6 +29,7 @@ pub record Line : Type 0 where
   pub number : ℕ
   pub fields : List (List ℕ)
 
+-- lines, each with its fields, numbered in order from this number on
 abbrev pub numbered_lines : ℕ → List (List ℕ) → List Line
 numbered_lines n [] = []
 numbered_lines n (l ∷ ls) = record { number = n; fields = fields l } ∷ numbered_lines (n + 1) ls

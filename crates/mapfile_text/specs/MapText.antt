@@ -46,6 +46,7 @@ Lists mode (l ∷ ls) first listed statuses =
     × (statuses ≡ replicate first NonTried ++ (replicate block.size block.status ++ rest))
     × Continues mode (block.pos + block.size) ls rest
 
+-- Lines are a map: the first is a status line, and the others are block lines that list these statuses.
 abbrev pub AreMapLines : Mode → List Line → MapState → ℕ → Bool → List Status → Type 0
 AreMapLines mode [] state first listed statuses = ⊥
 AreMapLines mode (l ∷ ls) state first listed statuses = IsStateLine l state × Lists mode ls first listed statuses
@@ -96,6 +97,7 @@ ListsFault mode [] e = ⊥
 ListsFault mode (l ∷ ls) e =
     BlockFault l e ⊎ ((block : Block) × IsBlockLine l block × ContinuesFault mode (block.pos + block.size) ls e)
 
+-- why lines are no map: there is none, or the first one that breaks a rule
 abbrev pub MapLinesFault : Mode → List Line → MapError → Type 0
 MapLinesFault mode [] e = e ≡ NoStatusLine
 MapLinesFault mode (l ∷ ls) e = StateFault l e ⊎ ((state : MapState) × IsStateLine l state × ListsFault mode ls e)

@@ -29,6 +29,7 @@ hexadecimal n = codes "0x" ++ at_least_eight (digits 16 true n)
 abbrev pub shown_byte : ℕ → ℕ
 shown_byte b = if nat_lt b 32 then 63 else if nat_eq b 127 then 63 else b
 
+-- the name of a program, as a mapfile has it
 abbrev pub program_name : Program → List ℕ
 program_name Ddrescue = codes "ddrescue"
 program_name Ddrescuelog = codes "ddrescuelog"
@@ -44,10 +45,11 @@ time_lines Ddrescuelog start_s now_s = []
 abbrev pub program_line : Program → List ℕ
 program_line program = with_newline (codes "# Mapfile. Created by " ++ program_name program)
 
--- the line on its command line
+-- the line on the command line of the program that printed the mapfile
 abbrev pub command_heading : List ℕ → List ℕ
 command_heading line = with_newline (codes "# Command line: " ++ map shown_byte line)
 
+-- the heading: the lines on the program, on its command line and on the times
 abbrev pub heading_text : HeadingLines → List ℕ
 heading_text h = program_line h.program ++ command_heading h.line ++ time_lines h.program h.start_s h.now_s
 

@@ -18,9 +18,11 @@ state_of_clock c = record {
   plan = c.plan.items;
 }
 
+-- a channel in memory tells its text, and how often a put there failed
 abbrev pub state_of_channel : MemoryChannel → ChannelState
 state_of_channel c = record { text = c.text.items; faults = c.faults }
 
+-- a console in memory tells its two channels, the plan by which it fails, and how many puts found no memory
 abbrev pub state_of_console : MemoryConsole → ConsoleState
 state_of_console c = record {
   tells = true;
@@ -31,6 +33,7 @@ state_of_console c = record {
   starved = c.starving;
 }
 
+-- a feed in memory tells what is left of its bytes, its count of faults, and the plan by which it fails
 abbrev pub state_of_feed : MemoryFeed → FeedState
 state_of_feed f = record {
   tells = true;

@@ -21,6 +21,7 @@ call_of (DraftPublish name) = draft_publish name.items
 call_of (MapSettle name) = map_settle name.items
 call_of (MapRemove name) = map_remove name.items
 
+-- the entry that a logged call stands for: it was done, or it failed and has no answer
 abbrev pub entry_of : LoggedCall → Entry
 entry_of l = if l.failed then Failed (unanswered (call_of l.act)) else Done (call_of l.act)
 

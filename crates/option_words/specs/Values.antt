@@ -22,19 +22,20 @@ pub record OptionRow (O : Type 0) : Type 0 where
   pub takes : Takes
   pub sets : (sector : ℕ) → O → Option (List ℕ) → Option O
 
--- an option of a letter without a value, and one with a value
+-- an option of a letter without a value
 abbrev pub flag : {O : Type 0} → (letter : ℕ) → List ℕ → (O → O) → OptionRow O
 flag letter name sets =
     record { letter = Some letter; name = name; takes = Never; sets = λ sector o value. Some (sets o) }
 
+-- an option of a letter with a value
 abbrev pub valued : {O : Type 0} → (letter : ℕ) → List ℕ → (ℕ → O → Option (List ℕ) → Option O) → OptionRow O
 valued letter name sets = record { letter = Some letter; name = name; takes = Always; sets = sets }
 
--- The letters of two options that mean the same in every program: the size of a sector (`-b`), which is set before all
--- others, and that nothing be said (`-q`).
+-- The letter of the option for the size of a sector (`-b`), in every program. It is set before all others.
 abbrev pub sector_letter : ℕ
 sector_letter = 98
 
+-- the letter of the option that nothing be said (`-q`), in every program
 abbrev pub quiet_letter : ℕ
 quiet_letter = 113
 
@@ -87,7 +88,7 @@ abbrev pub value_of : List (List ℕ) → Option Spot → Option (List ℕ)
 value_of words None = None
 value_of words (Some spot) = Some (drop spot.from (word words spot.word))
 
--- the word in which it begins
+-- the word in which an option's value begins
 abbrev pub word_at : Option Spot → ℕ
 word_at None = 0
 word_at (Some spot) = spot.word

@@ -47,10 +47,11 @@ pub record IsMarkable (end : ℕ) (block : Block) : Type 0 where
   pub begins : block.pos ≤ end
   pub short : block.pos + block.size < 2 ^ 63
 
--- the indexes among all blocks between which an edit takes out blocks
+-- the index among all blocks from which on an edit takes out blocks
 abbrev pub edit_from : List (List Block) → List PageEntry → Edit → ℕ
 edit_from pages es e = before pages es e.first + e.from
 
+-- the index among all blocks before which an edit stops taking out blocks
 abbrev pub edit_to : List (List Block) → List PageEntry → Edit → ℕ
 edit_to pages es e = before pages es e.last + e.to
 

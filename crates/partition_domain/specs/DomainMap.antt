@@ -9,10 +9,11 @@ use Rattle.mapfile_text.specs.Printed.{printed}
 use Rattle.partition_domain.specs.declared.table.Partition.{Partition}
 use Rattle.partition_domain.specs.Table.{sector_size}
 
--- where a partition begins, in bytes, and how many it has
+-- where a partition begins, in bytes
 abbrev pub start_of : Partition → ℕ
 start_of p = p.first * sector_size
 
+-- how many bytes a partition has
 abbrev pub size_of : Partition → ℕ
 size_of p = p.count * sector_size
 

@@ -80,6 +80,7 @@ passes_by k c first second =
     else leads c (c.given + 1) second)
     else leads c c.given second
 
+-- what comes of a record with these entries; the chain ends if there are fewer than two
 abbrev pub link_past : (k : ℕ) → (c : Chain) → List TableEntry → Link
 link_past k c [] = End
 link_past k c (first ∷ []) = End
@@ -131,17 +132,18 @@ pub record Searched (k : ℕ) (before : List (List ℕ)) (result : Result Partit
   pub next : AreNext k before reads
   pub to : SearchFinds k (before ++ records_of reads) result
 
--- after the first record, which leads on to a chain
+-- the first record leads on to a chain, which begins at this sector
 pub record LeadsToChain (main : List ℕ) (base : ℕ) : Type 0 where
   pub e : TableEntry
   pub are : are_records main [] ≡ true
   pub is_extended : extended_entry main ≡ Some e
   pub base_is : e.first ≡ base
 
+-- what a search did after the first record
 abbrev pub SearchesAfter : (k : ℕ) → (main : List ℕ) → Result Partition SearchStop → (old new : SourceState) → Type 0
 SearchesAfter k main result old new = Searched k (main ∷ []) result old new
 
--- from the beginning
+-- what a search did from its beginning
 abbrev pub Searches : (k : ℕ) → Result Partition SearchStop → (old new : SourceState) → Type 0
 Searches k result old new = Searched k [] result old new
 

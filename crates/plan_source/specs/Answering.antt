@@ -13,7 +13,7 @@ use Rattle.rescue_domain.specs.Testing.{finished_front}
 abbrev pub there : (length pos asked : ℕ) → ℕ
 there length pos asked = min (length - pos) asked
 
--- how many of them it gives: those before the first that isn't finished
+-- how many bytes a read gives: those before the first that isn't finished
 abbrev pub given_at : (length : ℕ) → List Status → (pos asked : ℕ) → ℕ
 given_at length statuses pos asked = finished_front statuses pos (there length pos asked)
 
@@ -22,12 +22,13 @@ abbrev pub meets_end : (length : ℕ) → List Status → (pos asked : ℕ) → 
 meets_end length statuses pos asked =
     nat_eq (given_at length statuses pos asked) (there length pos asked) && nat_lt (there length pos asked) asked
 
+-- what a read gets: the bytes that it gives, and the end if it meets that
 abbrev pub got_at : (length : ℕ) → List Status → (pos asked : ℕ) → Got
 got_at length statuses pos asked =
     if meets_end length statuses pos asked then End (given_at length statuses pos asked)
     else Read (given_at length statuses pos asked)
 
--- an entry of the journal is of such a read
+-- an entry of the journal is of a read of a source with this length and test map
 pub record IsSeenIn (length : ℕ) (statuses : List Status) (e : ReadEntry) : Type 0 where
   pub given : e.given ≡ given_at length statuses e.pos e.asked
   pub ended : e.ended ≡ meets_end length statuses e.pos e.asked

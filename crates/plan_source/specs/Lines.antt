@@ -23,6 +23,7 @@ planned_entry e = record { pos = e.pos; asked = e.asked; given = e.given }
 abbrev pub line_of : PlannedRead → List ℕ
 line_of r = decimal r.pos ++ 32 ∷ [] ++ decimal r.asked ++ 32 ∷ [] ++ decimal r.given ++ 10 ∷ []
 
+-- the line of a journal's entry, as that of its planned read
 abbrev pub line_of_entry : ReadEntry → List ℕ
 line_of_entry e = line_of (planned_entry e)
 

@@ -36,10 +36,11 @@ pub record BeginsAfter (piece before now : List ℕ) : Type 0 where
   pub is : now ≡ before ++ drop (length before) now
   pub part : take (length now - length before) piece ≡ drop (length before) now
 
--- the last entry of a journal, and those before it
+-- the last entry of a journal, if it has one
 abbrev pub last_of : List ReadEntry → List ReadEntry
 last_of entries = drop (length entries - 1) entries
 
+-- the entries of a journal before the last one
 abbrev pub but_last : List ReadEntry → List ReadEntry
 but_last entries = take (length entries - 1) entries
 

@@ -17,9 +17,11 @@ pub record Changes : Type 0 where
   pub takes : ℕ → ℕ
   pub puts : ℕ → ℕ
 
+-- no count rises
 abbrev pub none_rises : Changes
 none_rises = record { opens = unchanged; reads = unchanged; calls = unchanged; takes = unchanged; puts = unchanged }
 
+-- the counts of a failure rise, by one
 abbrev pub those_rise : Failure → Changes
 those_rise AtOpen = record none_rises { opens = raised }
 those_rise AtRead = record none_rises { reads = raised }
@@ -37,6 +39,7 @@ changes_of (Wrong fault) = none_rises
 changes_of (Failed at) = those_rise at
 changes_of Starved = none_rises
 
+-- the counts of the objects changed in this way
 pub record Changed (c : Changes) (old new : WorldState) : Type 0 where
   pub opens : new.source.faults ≡ c.opens old.source.faults
   pub reads : new.source.losses ≡ c.reads old.source.losses

@@ -12,6 +12,7 @@ pub data Failure : Type 0 where
   AtTake : Failure
   AtPut : Failure
 
+-- what an answer is for
 pub data Kind : Type 0 where
   -- the answer is what was asked for, and has no message
   Asked : Kind

@@ -33,6 +33,7 @@ pub record Program (C E O : Type 0) : Type 1 where
   pub Begins : WorldState → Type 0
   pub Keeps : E → (old new : WorldState) → Type 0
 
+-- the kind of an answer
 abbrev pub kind_of : {C E O : Type 0} → Program C E O → E → Kind
 kind_of p e = (p.row e).kind
 

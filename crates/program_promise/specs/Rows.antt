@@ -6,16 +6,18 @@ use Rattle.option_words.specs.declared.fault.UsageFault.TheVariants.{Word, BadVa
 use Rattle.console_texts.specs.Texts.{usage_text}
 use Rattle.program_promise.specs.Kinds.{Failure, Kind, Asked, Brought, Wrong, Failed, Starved}
 
+-- an answer's row
 pub record AnswerRow : Type 1 where
   pub kind : Kind
   pub status : ℕ
   pub text : List ℕ
   pub also : Type 0
 
--- The rows that a program's answers have, of each kind one: what was asked for, and what is there;
+-- the row of an answer that is what was asked for
 abbrev pub asked_row : (status : ℕ) → AnswerRow
 asked_row status = record { kind = Asked; status = status; text = []; also = ⊤ }
 
+-- the row of an answer that what is there leads to
 abbrev pub brought_row : (status : ℕ) → (text : List ℕ) → AnswerRow
 brought_row status text = record { kind = Brought; status = status; text = text; also = ⊤ }
 
@@ -32,6 +34,7 @@ usage_kind (Modes given) = Wrong (Modes given)
 usage_kind (Operands given) = Wrong (Operands given)
 usage_kind PlaceTooLarge = Brought
 
+-- words that are refused by a program that looks at places, of status 1
 abbrev pub usage_row : UsageFault → AnswerRow
 usage_row fault = record { kind = usage_kind fault; status = 1; text = usage_text fault; also = ⊤ }
 

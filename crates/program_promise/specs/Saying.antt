@@ -4,6 +4,7 @@ use Rattle.fault_count.specs.Plan.{with_call}
 use Rattle.rescue_console.specs.declared.console.Channel.TheVariants.{Err}
 use Rattle.rescue_console.specs.ConsoleState.{ConsoleState, Puts, PutsPart}
 
+-- a message was put, or a beginning of it, unless the answer has none or nothing is to be said
 pub data SaysAs (silent quiet : Bool) (message : List ℕ) (old new : ConsoleState) : Type 0 where
   Silence : (silent ≡ true) ⊎ (quiet ≡ true) → new ≡ old → SaysAs silent quiet message old new
   Speech : silent ≡ false → quiet ≡ false → Puts Err message old new ⊎ PutsPart Err message old new

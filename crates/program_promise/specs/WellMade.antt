@@ -22,6 +22,7 @@ module _ {C E O : Type 0} (p : Program C E O) where
     pub also : (p.row e).also
     pub keeps : (w : WorldState) → p.Begins w → p.Keeps e w w
 
+  -- what a program has to show, so that the laws of all programs follow
   pub record IsWellMade : Type 0 where
     -- Want of memory has an answer of its kind, and so have words that are refused; then nothing may have been done;
     pub memory : kind_of p p.faults.memory ≡ Starved

@@ -7,6 +7,7 @@ use Rattle.rescue_console.specs.ClockState.{ClockState}
 use Rattle.rescue_console.specs.FeedState.{FeedState}
 use Rattle.rescue_console.specs.ConsoleState.{ConsoleState}
 
+-- what all objects tell
 pub record WorldState : Type 0 where
   pub source : SourceState
   pub site : SiteState
@@ -14,7 +15,8 @@ pub record WorldState : Type 0 where
   pub feed_ : FeedState
   pub console : ConsoleState
 
--- A program that isn't handed an object has one of these in its place: it tells nothing, and stands still.
+-- An input for a program that isn't handed one: it tells nothing, and stands still. The same goes for `no_site`,
+-- `no_clock` and `no_feed`.
 abbrev pub no_source : SourceState
 no_source = record {
   tells = false;
@@ -32,6 +34,7 @@ no_source = record {
   journals_below = [];
 }
 
+-- files for a program that isn't handed any
 abbrev pub no_site : SiteState
 no_site = record {
   tells = false;
@@ -45,9 +48,11 @@ no_site = record {
   starved = 0;
 }
 
+-- a clock for a program that isn't handed one
 abbrev pub no_clock : ClockState
 no_clock = record { tells = false; readings = []; is_planned = false; plan = [] }
 
+-- a feed for a program that isn't handed one
 abbrev pub no_feed : FeedState
 no_feed = record { tells = false; left = []; faults = 0; is_planned = false; plan = no_plan }
 
@@ -63,5 +68,6 @@ pub record Told (E : Type 0) : Type 0 where
   pub before : WorldState
   pub after : WorldState
 
+-- the record of these
 abbrev pub told : {E : Type 0} → (words : List (List ℕ)) → E → (before after : WorldState) → Told E
 told words answer before after = record { words = words; answer = answer; before = before; after = after }

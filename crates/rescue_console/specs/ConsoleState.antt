@@ -20,10 +20,12 @@ pub record ConsoleState : Type 0 where
   pub plan : Plan
   pub starved : ℕ
 
+-- what a console has on this channel
 abbrev pub channel_of : Channel → ConsoleState → ChannelState
 channel_of Out s = s.out
 channel_of Err s = s.err
 
+-- what a console has on the channel that isn't this one
 abbrev pub other_of : Channel → ConsoleState → ChannelState
 other_of Out s = s.err
 other_of Err s = s.out

@@ -30,6 +30,7 @@ abbrev pub closing_with : Option Stop → List Status → Tally → Snapshot
 closing_with None map t = finished_with map t
 closing_with (Some stop) map t = snapshot_with map t
 
+-- what is saved of a run's state at its end, with a stop or without one
 abbrev pub closing_snapshot : Option Stop → RunState → Snapshot
 closing_snapshot stop r = closing_with stop r.machine.map r.machine.tally
 

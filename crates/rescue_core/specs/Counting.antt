@@ -31,10 +31,11 @@ pub record IsMarkedRead (r : RunState) (e : Event) (phase : Phase) (request : Re
   pub over_is : live.over ≡ r.machine.tally.over
   pub map_is : map ≡ map_after (setting_in r) r.machine e.reading
 
--- the positions that are left and failed, and those that are finished
+-- the positions that are left of the domain and failed
 abbrev pub failed_in : Live → List Status → ℕ → Bool
 failed_in live map = passing has_failed (lives live) map
 
+-- the positions that are left of the domain and are finished
 abbrev pub finished_in : Live → List Status → ℕ → Bool
 finished_in live map = passing has_finished (lives live) map
 

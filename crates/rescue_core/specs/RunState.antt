@@ -66,6 +66,7 @@ setting_with settings domain names line = record {
   verbose = false;
 }
 
+-- what a run's settings, its domain, its names and its command line ask for
 abbrev pub setting_in : RunState → Setting
 setting_in r = setting_with r.settings r.domain r.names r.line
 

@@ -28,6 +28,7 @@ pub record IsOver (r : RunState) : Type 0 where
   pub scraped : IsScraped r
   pub spent : no_pass_left (ready (setting_in r) r.machine).passes ≡ true
 
+-- what is known of a run that has come this far
 abbrev pub Known : Reached → RunState → Type 0
 Known Begun r = ⊤
 Known Copied r = IsGone NonTried r

@@ -40,11 +40,12 @@ figures_line f =
 abbrev pub LinesAreOfFigures : Type 0
 LinesAreOfFigures = (head : Head) (r : Report) → report_text (head_text head) r ≡ figures_line (figures_of head r)
 
--- a pass that a line may have, and a report: its numbers fit their types
+-- a head that a line may have: its pass fits its type
 abbrev pub IsHead : Head → Type 0
 IsHead (Phase current pass) = pass < 2 ^ 64
 IsHead (Last done) = ⊤
 
+-- a report that a line may have: its numbers fit their types
 pub record IsReport (r : Report) : Type 0 where
   pub position : r.shown.pos < 2 ^ 64
   pub rescued : r.counts.rescued < 2 ^ 64
@@ -82,10 +83,11 @@ abbrev pub begins_plain : List ℕ → Bool
 begins_plain [] = false
 begins_plain (c ∷ cs) = nat_lt 9 (digit_value c)
 
--- the value of the digits with which a text begins, after digits of a value; the largest of 128 bits if it is larger
+-- the largest value that is read from digits: the largest of 128 bits
 abbrev pub most : ℕ
 most = 2 ^ 128 - 1
 
+-- the value of the digits with which a text begins, after digits of a value; the largest of 128 bits if it is larger
 abbrev pub number_at : (value : ℕ) → List ℕ → ℕ
 number_at value [] = value
 number_at value (c ∷ cs) =
@@ -104,6 +106,7 @@ start_by first third ninth =
     else if nat_eq ninth 32 then InPhase Finished
     else Over true
 
+-- how a line begins, by its first, third and ninth byte, if it is one of a rescue
 abbrev pub start_of : List ℕ → Start
 start_of line = start_by (slice_index_or line 0 0) (slice_index_or line 2 0) (slice_index_or line 8 0)
 

@@ -25,11 +25,12 @@ pub record BeginWith (first reads : List PlannedRead) : Type 0 where
   pub more : List PlannedRead
   pub are : first ++ more ≡ reads
 
--- A plan begins with the first reads of it, however many they are, and so there is one plan at most.
+-- A plan begins with any first reads of it, however many they are, and no other reads are a plan.
 pub record IsOnePlan (s : Setting) (length : ℕ) (test : List Status) (reads : List PlannedRead) : Type 0 where
   pub begins : (first : List PlannedRead) → BeginsPlan s length test first → BeginWith first reads
   pub alone : (other : List PlannedRead) → IsPlan s length test other → other ≡ reads
 
+-- If plain options have a plan, it is the only one, and it begins with any first reads of it.
 abbrev pub PlanIsOne : Type 0
 PlanIsOne = (o : Options) (length : ℕ) (test : List Status) (reads : List PlannedRead) → ArePlain o
     → IsPlan (plan_setting o length) length test reads → IsOnePlan (plan_setting o length) length test reads
@@ -71,6 +72,8 @@ module _ (c : RescueCommand) (line : List ℕ) (length time : ℕ) (test : List 
         (machine_over (setting_of c line length no_maps) (untried_map length) None time) events) ≡ true
         → IsPlan (plan_setting c.options length) length test (map planned (reads_of events))
 
+-- The reads of a rescue in test mode without limits, of an input that gave all that it was asked for, are the first
+-- ones of the plan for its options, and all of it if no request is left.
 abbrev pub RescuesArePlanned : Type 0
 RescuesArePlanned = (c : RescueCommand) (line : List ℕ) (length time : ℕ) (test : List Status) (raw : List Reading)
     (events : List Event) → AreUnlimited c.options → RescueReads c line length time test raw events

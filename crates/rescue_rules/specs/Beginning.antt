@@ -13,12 +13,13 @@ use Rattle.rescue_rules.specs.Counts.{counts_of}
 use Rattle.rescue_rules.specs.Machine.{Machine, start_of}
 use Rattle.rescue_rules.specs.Preparation.{prepared}
 
--- the first pass of copying, and its cursor, if copying resumes from a state that a mapfile showed; the last pass
--- always begins at its own start
+-- the pass with which copying begins: the first, or the one of the state that a mapfile showed, the last at most
 abbrev pub first_pass : Option MapState → ℕ
 first_pass None = 1
 first_pass (Some state) = min state.pass copying_passes
 
+-- the cursor with which copying begins, by the state that a mapfile showed, if there is one; the last pass always
+-- begins at its own start
 abbrev pub first_cursor : Setting → Option MapState → List Status → ℕ
 first_cursor s None map = start_of s (numbered Copying 1) map
 first_cursor s (Some state) map =

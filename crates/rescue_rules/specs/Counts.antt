@@ -13,6 +13,7 @@ has_failed NonScraped = true
 has_failed BadSector = true
 has_failed Finished = false
 
+-- what is finished
 abbrev pub has_finished : Status → Bool
 has_finished NonTried = false
 has_finished NonTrimmed = false

@@ -14,10 +14,12 @@ pub record Deed : Type 0 where
   pub calls : List Call
   pub save : Option Snapshot
 
+-- the calls of a save, if there is one
 abbrev pub save_of : Setting → Option Snapshot → List Call
 save_of s None = []
 save_of s (Some p) = save_calls s.names (text_of s.line p)
 
+-- the calls of a deed: those on the output, and then those of its save
 abbrev pub deed_calls : Setting → Deed → List Call
 deed_calls s d = d.calls ++ save_of s d.save
 
@@ -25,11 +27,12 @@ deed_calls s d = d.calls ++ save_of s d.save
 abbrev pub doing_calls : Setting → List Deed → (last : Snapshot) → List Call
 doing_calls s deeds last = flat_map (deed_calls s) deeds ++ closing_calls s last
 
+-- the save that may be there, as a list: none, or one
 abbrev pub some_save : Option Snapshot → List Snapshot
 some_save None = []
 some_save (Some p) = p ∷ []
 
--- what it saves, in order
+-- what a run saves, in order: the saves of its deeds, and the last one
 abbrev pub saves_in : List Deed → (last : Snapshot) → List Snapshot
 saves_in deeds last = flat_map (λ d. some_save d.save) deeds ++ last ∷ []
 

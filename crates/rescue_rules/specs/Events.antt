@@ -19,10 +19,11 @@ began_at times = slice_index_or times 0 0
 abbrev pub events_of : List Reading → (times : List ℕ) → List Event
 events_of reads times = with_times reads (drop 1 times)
 
--- the reads of events, and the readings of the clock around them
+-- the reads of events
 abbrev pub reads_of : List Event → List Reading
 reads_of events = map (λ e. e.reading) events
 
+-- the readings of the clock of events: one before each read and one after it
 abbrev pub times_of : List Event → List ℕ
 times_of [] = []
 times_of (e ∷ es) = e.before ∷ e.after ∷ times_of es

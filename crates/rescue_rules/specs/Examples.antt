@@ -34,6 +34,7 @@ small end cluster skip = record {
   verbose = false;
 }
 
+-- the state in which such a small rescue begins: nothing of its input was tried
 abbrev pub small_start : (end cluster skip : ℕ) → Machine
 small_start end cluster skip = machine_of (small end cluster skip) (replicate end NonTried) None nothing_shown 0
 
@@ -54,6 +55,7 @@ trail s m events = map (λ v. (pass_of v.before, v.after.cursor)) (moves s m eve
 abbrev pub trimmed : List Event
 trimmed = event_at 0 6 2 ∷ event_at 2 2 0 ∷ event_at 4 2 2 ∷ []
 
+-- Trimming takes the range from its front and from its back, and leaves only the bad sector.
 abbrev pub TrimsFrontAndBack : Type 0
 TrimsFrontAndBack =
     (state_after (small 6 128 0) (small_start 6 128 0) trimmed).map
@@ -65,6 +67,7 @@ abbrev pub jumping : List Event
 jumping = event_at 0 2 0 ∷ event_at 6 2 0 ∷ event_at 16 2 2 ∷ event_at 18 2 2 ∷ event_at 20 2 2 ∷ event_at 22 2 2
     ∷ event_at 24 2 2 ∷ event_at 26 2 2 ∷ event_at 28 2 2 ∷ event_at 30 2 2 ∷ event_at 14 2 2 ∷ event_at 12 2 2 ∷ []
 
+-- Copying's first pass jumps past bad sectors 0 and 3 of 16, and its second comes back for what was jumped over.
 abbrev pub JumpsAndComesBack : Type 0
 JumpsAndComesBack =
     trail (small 32 2 4) (small_start 32 2 4) jumping

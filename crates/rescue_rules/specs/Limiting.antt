@@ -7,12 +7,13 @@ use Rattle.rescue_rules.specs.Machine.{Machine}
 use Rattle.rescue_rules.specs.Step.{Event, step, limit_met}
 use Rattle.rescue_rules.specs.Beginning.{machine_of}
 
--- none is met when a run begins, and after an event a line was put, so that they are checked
+-- no limit is met when a run begins, and after an event a line was put, so that limits are checked
 pub record LooksAtLimits (s : Setting) (map : List Status) (from : Option MapState) (shown : MapState) (time : ℕ)
     (m : Machine) (e : Event) : Type 0 where
   pub first : limit_met s (machine_of s map from shown time) ≡ None
   pub after : is_none (step s m e).tally.said ≡ false
 
+-- Limits are checked after each event of a run, and never before the first one.
 abbrev pub LimitsAfterEvents : Type 0
 LimitsAfterEvents = (s : Setting) (map : List Status) (from : Option MapState) (shown : MapState) (time : ℕ)
     (m : Machine) (e : Event) → LooksAtLimits s map from shown time m e

@@ -14,6 +14,7 @@ use Rattle.rescue_rules.specs.declared.phase.Phase.TheVariants.{Copying, Trimmin
 use Rattle.rescue_rules.specs.Passes.{Pass, taken, is_up, numbered}
 use Rattle.rescue_rules.specs.declared.tally.Tally.{Tally}
 
+-- the state of a rescue: its map, its passes, its cursor, its mode of trimming, its skip and its tally
 pub record Machine : Type 0 where
   pub map : List Status
   -- the pass that it is in, and those after it
@@ -32,7 +33,7 @@ pass_of m = slice_index_or m.passes 0 (numbered Copying 1)
 abbrev pub start_of : Setting → Pass → List Status → ℕ
 start_of s p map = if is_up s p then 0 else length map
 
--- a pass asks for positions that are left of the domain and have its phase's status
+-- a position has the status that the present pass asks for
 abbrev pub has_taken : List Pass → Option Status → Bool
 has_taken [] status = false
 has_taken (p ∷ ps) None = false
@@ -42,9 +43,11 @@ has_taken (p ∷ ps) (Some status) = same status (taken p.phase)
 abbrev pub is_live : Setting → Machine → ℕ → Bool
 is_live s m x = s.domain x && is_before m.tally.over x
 
+-- the test for a wanted position: it is left of the domain and has the status that the pass asks for
 abbrev pub is_wanted : Setting → Machine → ℕ → Bool
 is_wanted s m x = is_live s m x && has_taken m.passes (slice_get m.map x)
 
+-- a position is wanted: the pass asks for it
 abbrev pub IsWanted : Setting → Machine → ℕ → Type 0
 IsWanted s m x = is_wanted s m x ≡ true
 
@@ -68,6 +71,7 @@ search_in s m Scraping mode =
 search_in s m Retrying mode =
     record { up = is_up s (pass_of m); from = m.cursor; front = is_up s (pass_of m); size = s.sector }
 
+-- how the request of a state is found, by its pass and its mode of trimming
 abbrev pub search_of : Setting → Machine → Search
 search_of s m = search_in s m (pass_of m).phase m.mode
 
@@ -80,10 +84,11 @@ IsNextRange false P from start end = IsLast P from end × IsRangeDown P start en
 abbrev pub ceiling : ℕ → ℕ → ℕ
 ceiling b x = (x + (b - 1)) / b * b
 
--- at most this number of bytes of a range, up to a sector's boundary: from its front, or from its back
+-- where a request in a range begins: at the range's front, or a search's size before its end, up to a sector's boundary
 abbrev pub cut_start : Search → (sector start end : ℕ) → ℕ
 cut_start f sector start end = if f.front then start else max start (ceiling sector (end - f.size))
 
+-- where a request in a range ends: at the range's end, or a search's size past its front, down to a sector's boundary
 abbrev pub cut_end : Search → (sector start end : ℕ) → ℕ
 cut_end f sector start end = if f.front then min end (floor sector (start + f.size)) else end
 
@@ -95,9 +100,10 @@ pub record IsRequest (s : Setting) (m : Machine) (p q : ℕ) : Type 0 where
   pub starts : p ≡ cut_start (search_of s m) s.sector start end
   pub ends : q ≡ cut_end (search_of s m) s.sector start end
 
--- there is one: a wanted position lies ahead
+-- a position lies ahead of a search, in its direction
 abbrev pub is_ahead : Search → ℕ → Bool
 is_ahead f x = if f.up then nat_le f.from x else nat_lt x f.from
 
+-- the test for a state that has a request: a wanted position lies ahead
 abbrev pub has_request : Setting → Machine → Bool
 has_request s m = list_any (λ x. is_wanted s m x && is_ahead (search_of s m) x) (range_with_len 0 (length m.map))

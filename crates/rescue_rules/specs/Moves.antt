@@ -29,6 +29,7 @@ pub record Move : Type 0 where
   pub event : Event
   pub after : Machine
 
+-- the move that an event makes from a state, which first goes on over passes without a request
 abbrev pub move_of : Setting → Machine → Event → Move
 move_of s m e = record { before = ready s m; event = e; after = step s (ready s m) e }
 
@@ -52,6 +53,7 @@ pub record IsMove (s : Setting) (v : Move) : Type 0 where
 pub record IsRun (s : Setting) (m : Machine) (events : List Event) : Type 0 where
   pub each : All (IsMove s) (moves s m events)
 
+-- no pass is left
 abbrev pub no_pass_left : List Pass → Bool
 no_pass_left [] = true
 no_pass_left (p ∷ ps) = false

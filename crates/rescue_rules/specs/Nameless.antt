@@ -25,5 +25,6 @@ pub record RunsAlike (s : Setting) (m : Machine) (events : List Event) : Type 0 
   pub saves : snapshots (nameless s) m events ≡ snapshots s m events
   pub lines : (end : RunEnd) → lines_of (nameless s) m events end ≡ lines_of s m events end
 
+-- Each run is the same without the names of its input and output, and without the rest that a nameless setting lacks.
 abbrev pub RunNeedsNoNames : Type 0
 RunNeedsNoNames = (s : Setting) (m : Machine) (events : List Event) → RunsAlike s m events

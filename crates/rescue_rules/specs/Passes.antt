@@ -35,6 +35,7 @@ is_up s p =
     then not (s.passes.one_way || nat_eq (p.number % 2) 1)
     else (s.passes.one_way || nat_eq (p.number % 2) 1)
 
+-- the pass of a phase that has this number
 abbrev pub numbered : Phase → ℕ → Pass
 numbered phase number = record { phase = phase; number = number }
 

@@ -15,14 +15,16 @@ move_deed s v = record {
   save = if is_due s v then Some (snapshot_of v.after) else None;
 }
 
+-- what a run does: the deeds of its moves, in order
 abbrev pub run_deeds : Setting → Machine → List Event → List Deed
 run_deeds s m events = map (move_deed s) (moves s m events)
 
--- law: they make the run's calls, and its saves
+-- the deeds of a run make the run's calls, and its saves
 pub record DoAlike (s : Setting) (m : Machine) (events : List Event) : Type 0 where
   pub calls : doing_calls s (run_deeds s m events) (last_snapshot s (state_after s m events))
       ≡ run_calls s m events ++ end_calls s m events
   pub saves : saves_in (run_deeds s m events) (last_snapshot s (state_after s m events)) ≡ snapshots s m events
 
+-- law: the deeds of each run make its calls, and its saves
 abbrev pub RunIsDeeds : Type 0
 RunIsDeeds = (s : Setting) (m : Machine) (events : List Event) → DoAlike s m events

@@ -27,10 +27,11 @@ heading_at line began now = record { program = Ddrescue; line = line; start_s = 
 abbrev pub text_of : List ℕ → Snapshot → List ℕ
 text_of line p = printed (heading_at line p.began p.now) p.shown p.map
 
--- what a save shows of a map, with what a run has come to, and of a finished one, which says so
+-- what a save shows of a map, with what a run has come to
 abbrev pub snapshot_with : List Status → Tally → Snapshot
 snapshot_with map t = record { map = map; shown = t.shown; began = t.began; now = t.now }
 
+-- what a save shows of a finished run, by its map and what it has come to: it says that the run is finished
 abbrev pub finished_with : List Status → Tally → Snapshot
 finished_with map t = record (snapshot_with map t) { shown = record t.shown { current = Finished; pass = 1 } }
 

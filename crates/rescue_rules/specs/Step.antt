@@ -28,18 +28,21 @@ pub record Event : Type 0 where
   pub before : ℕ
   pub after : ℕ
 
--- the phase is copying, or trimming
+-- the phase is copying
 abbrev pub copies : Phase → Bool
 copies Copying = true
 copies phase = false
 
+-- the phase is trimming
 abbrev pub trims : Phase → Bool
 trims Trimming = true
 trims phase = false
 
+-- the present pass is one of copying
 abbrev pub is_copying : Machine → Bool
 is_copying m = copies (pass_of m).phase
 
+-- the present pass is one of trimming
 abbrev pub is_trimming : Machine → Bool
 is_trimming m = trims (pass_of m).phase
 
@@ -109,6 +112,7 @@ skip_after s m e =
 abbrev pub save_interval : ℕ
 save_interval = 30000
 
+-- an event comes long enough after the last due save
 abbrev pub is_timely : Machine → Event → Bool
 is_timely m e = nat_le (m.tally.due_at + save_interval) e.after
 
@@ -145,6 +149,7 @@ step s m e =
       };
     }
 
+-- there is a limit, and a number exceeds it
 abbrev pub exceeds : Option ℕ → ℕ → Bool
 exceeds None n = false
 exceeds (Some limit) n = nat_lt limit n

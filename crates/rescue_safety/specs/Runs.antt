@@ -84,6 +84,7 @@ pub record IsGenerating (t : Target) (l : Link) : Type 0 where
   pub gave : l.gave ≡ after_barrier (take step.moment call.calls)
       (looked_at t (bytes_of (files_before l.before t.outfile)) (take (step.moment + 1) call.calls))
 
+-- a run of a chain is a rescue or a generating on the target
 pub data IsLink (t : Target) (l : Link) : Type 0 where
   OfRescue : IsRescue t l → IsLink t l
   OfGenerating : IsGenerating t l → IsLink t l
@@ -95,11 +96,13 @@ abbrev pub AreJoined : (from : Before) → List Link → (to : Before) → Type 
 AreJoined from [] to = to ≡ from
 AreJoined from (l ∷ ls) to = (l.before ≡ from) × AreJoined l.next ls to
 
+-- A chain leads from one moment to another: its runs are all on one target, whose outfile isn't its mapfile, and each
+-- begins where the one before it leads.
 pub record IsChain (t : Target) (from : Before) (links : List Link) (to : Before) : Type 0 where
   pub apart : t.outfile ≢ t.mapfile
   pub each : All (IsLink t) links
   pub joined : AreJoined from links to
 
--- what all its runs gave, in order
+-- what all runs of a chain gave, in order
 abbrev pub all_given : List Link → List (ℕ × ℕ)
 all_given links = flat_map (λ l. l.gave) links

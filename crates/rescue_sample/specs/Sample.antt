@@ -13,6 +13,7 @@ sample_byte x = x % 251
 abbrev pub sample_size : (kib : ℕ) → ℕ
 sample_size kib = kib * 1024
 
+-- the bytes of a sample of `kib` KiB
 abbrev pub sample_bytes : (kib : ℕ) → List ℕ
 sample_bytes kib = map sample_byte (range_with_len 0 (sample_size kib))
 

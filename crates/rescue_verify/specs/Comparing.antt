@@ -30,6 +30,7 @@ pub record ComparisonPlan : Type 0 where
   pub from : ℕ
   pub to : ℕ
 
+-- the place in the image of a position of the input
 abbrev pub place_in : ComparisonPlan → ℕ → ℕ
 place_in p x = place_from p.from p.to x
 

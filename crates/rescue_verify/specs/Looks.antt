@@ -39,12 +39,14 @@ look_calls place (l ∷ looks) = look_call (place l.read.pos) l ++ look_calls pl
 abbrev pub bytes_where : (Look → Bool) → List Look → ℕ
 bytes_where holds looks = sum_by (λ l. if holds l then l.read.asked else 0) looks
 
--- how many bytes were compared, how many of these became `?`, and how many couldn't be read whole
+-- how many bytes were compared
 abbrev pub compared_bytes : List Look → ℕ
 compared_bytes looks = bytes_where (λ l. is_whole l.read) looks
 
+-- how many of the compared bytes became `?`
 abbrev pub differing_bytes : List Look → ℕ
 differing_bytes looks = bytes_where differs looks
 
+-- how many bytes are in pieces that couldn't be read whole
 abbrev pub unread_bytes : List Look → ℕ
 unread_bytes looks = bytes_where (λ l. not (is_whole l.read)) looks

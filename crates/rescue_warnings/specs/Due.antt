@@ -44,6 +44,7 @@ mount_of (Some (Regular _)) = None
 mount_of (Some Absent) = None
 mount_of None = None
 
+-- a file is known to be absent
 abbrev pub is_absent : Option Found → Bool
 is_absent (Some Absent) = true
 is_absent (Some (Regular _)) = false
@@ -56,6 +57,7 @@ is_writable (Some Writable) = true
 is_writable (Some ReadOnly) = false
 is_writable None = false
 
+-- a device is known to be mounted
 abbrev pub is_mounted : Option Mount → Bool
 is_mounted (Some _) = true
 is_mounted None = false
@@ -67,12 +69,13 @@ end_of (Some NoBlock) = None
 end_of (Some NoFile) = None
 end_of None = None
 
--- where its last finished block ends, if that is known
+-- where the last of the finished blocks ends, if that is known
 abbrev pub last_of : Option Finished → Option ℕ
 last_of (Some (UpTo n)) = Some n
 last_of (Some Nowhere) = None
 last_of None = None
 
+-- where the last finished block of a mapfile ends, if that is known
 abbrev pub finished_of : Option MapText → Option ℕ
 finished_of (Some (Blocks _ f)) = last_of f
 finished_of (Some NoBlock) = None
@@ -108,6 +111,7 @@ finishes_nothing pos None = false
 
 -- ---- conditions
 
+-- the work is a rescue
 abbrev pub is_rescue : Work → Bool
 is_rescue Rescue = true
 is_rescue Fill = false
@@ -115,6 +119,7 @@ is_rescue Generate = false
 is_rescue Comparison = false
 is_rescue Plan = false
 
+-- the work is a fill
 abbrev pub is_fill : Work → Bool
 is_fill Rescue = false
 is_fill Fill = true
@@ -122,6 +127,7 @@ is_fill Generate = false
 is_fill Comparison = false
 is_fill Plan = false
 
+-- the work is a comparison
 abbrev pub is_comparison : Work → Bool
 is_comparison Rescue = false
 is_comparison Fill = false
@@ -129,6 +135,7 @@ is_comparison Generate = false
 is_comparison Comparison = true
 is_comparison Plan = false
 
+-- the work is a plan
 abbrev pub is_plan : Work → Bool
 is_plan Rescue = false
 is_plan Fill = false

@@ -16,12 +16,15 @@ file_said front role name says = front ++ role ++ quoted name ++ says
 abbrev pub number_said : List ℕ → ℕ → List ℕ → List ℕ
 number_said front n says = front ++ decimal n ++ says
 
+-- a text, the infile's name in quotes, and the text after it
 abbrev pub infile_said : List ℕ → Names → List ℕ → List ℕ
 infile_said front names says = file_said front (codes "infile ") names.infile.now says
 
+-- a text, the outfile's name in quotes, and the text after it
 abbrev pub outfile_said : List ℕ → Names → List ℕ → List ℕ
 outfile_said front names says = file_said front (codes "outfile ") names.outfile.now says
 
+-- a text, the mapfile's name in quotes, and the text after it
 abbrev pub mapfile_said : List ℕ → Names → List ℕ → List ℕ
 mapfile_said front names says = file_said front (codes "mapfile ") names.mapfile.now says
 

@@ -121,6 +121,7 @@ pub record IsWithinLimits (m : ReadMap) : Type 0 where
   pub pos : m.state.pos < 2 ^ 63
   pub pass : 0 < m.state.pass
 
+-- if a rescue resumes from a map, the state that was read is within the limits
 abbrev pub ResumedWithinLimits : Result Resumed ResumeFault → Type 0
 ResumedWithinLimits (Ok Fresh) = ⊤
 ResumedWithinLimits (Ok (Map m)) = IsWithinLimits m
@@ -132,7 +133,7 @@ pub record NothingPending (names : MapNames) (was now : Disk) : Type 0 where
   pub image : (image : List ℕ) → was.reads.image ≡ Some image → now.shows image ≡ only (was.reads.files image)
   pub reads : now.reads ≡ was.reads
 
--- so it is where no call of the barrier failed
+-- after a resume nothing is pending, if no call of the barrier failed
 abbrev pub SettlesAll : MapNames → Result Resumed ResumeFault → (old new : SiteState) → Type 0
 SettlesAll names (Ok r) old new = NothingPending names (disk_of old) (disk_of new)
 SettlesAll names (Err (Site call)) old new = call ≡ MapRead → NothingPending names (disk_of old) (disk_of new)
@@ -153,7 +154,7 @@ ReadsAs mode (Err (Site call)) file = ⊤
 ReadsAs mode (Err (Refused e)) file = IsRefusedFor file mode e
 ReadsAs mode (Err NoMemory) file = ⊤
 
--- and a resume
+-- what a resume that answered this says of the mapfile that it read
 abbrev pub ResumesAs : Result Resumed ResumeFault → Option File → Type 0
 ResumesAs (Ok Fresh) file = IsLikeNone file
 ResumesAs (Ok (Map m)) file = IsReadAs file Tight m

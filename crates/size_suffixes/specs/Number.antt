@@ -40,13 +40,15 @@ value text = digits_value (base_of text) (digits_of_text text)
 abbrev pub within : ℕ → Result ℕ SizeError
 within n = if nat_lt n (2 ^ 63) then Ok n else Err TooLarge
 
--- The number that a text is, or its fault. The fault is an empty text, the place of the first byte that is no digit in
--- its base (of the text's end if `0x` has no digit), or a value of 2^63 or more.
+-- The number that a filled text is, or its fault, by the index among its digits of the first byte that is no digit. The
+-- fault is the place of that byte (of the text's end if `0x` has no digit), or a value of 2^63 or more.
 abbrev pub number_by : List ℕ → Option ℕ → Result ℕ SizeError
 number_by text (Some k) = Err (BadDigit (digits_at text + k))
 number_by text None =
     if nat_eq (length (digits_of_text text)) 0 then Err (BadDigit (digits_at text)) else within (value text)
 
+-- The number that a text is, or its fault. The fault is an empty text, a byte that is no digit in its base, or a value
+-- of 2^63 or more.
 abbrev pub number : List ℕ → Result ℕ SizeError
 number [] = Err Empty
 number (c ∷ cs) = number_by (c ∷ cs) (position (is_no_digit (base_of (c ∷ cs))) (digits_of_text (c ∷ cs)))

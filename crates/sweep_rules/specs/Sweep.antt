@@ -96,13 +96,13 @@ pub record Sweep : Type 0 where
   pub cursor : ℕ
   pub tally : Tally
 
--- A sweep resumes from the position that a mapfile showed if that was of such a sweep, and else begins at 0. What the
--- mapfile showed stands until the first piece.
+-- A sweep resumes from the position that a mapfile showed if that was of such a sweep, and else begins at 0.
 abbrev pub sweep_from : Current → Option MapState → ℕ
 sweep_from current None = 0
 sweep_from current (Some state) =
     if nat_eq (current_symbol state.current) (current_symbol current) then state.pos else 0
 
+-- A sweep as it begins over a map, at this time. What its mapfile showed stays until the first piece.
 abbrev pub sweep_over : Sweeper → List Status → Option MapState → (time : ℕ) → Sweep
 sweep_over w map state time = record {
   map = map;
@@ -114,11 +114,12 @@ sweep_over w map state time = record {
 abbrev pub IsTaken : Setting → Sweeper → Sweep → ℕ → Type 0
 IsTaken s w m x = passing w.takes s.domain m.map x ≡ true
 
--- a sweep's next piece, from p up to q: the front of the next range of such positions, at most a cluster, up to a
--- sector's boundary (the same cut as copying's, upwards)
+-- how a sweep's next piece is found: upwards from its cursor, at most a cluster (the same cut as copying's, upwards)
 abbrev pub sweep_search : Setting → Sweep → Search
 sweep_search s m = record { up = true; from = m.cursor; front = true; size = s.cluster }
 
+-- a sweep's next piece, from p up to q: the front of the next range of positions that it takes, at most a cluster, up
+-- to a sector's boundary
 pub record IsPiece (s : Setting) (w : Sweeper) (m : Sweep) (p q : ℕ) : Type 0 where
   pub end : ℕ
   pub range : IsNextRange true (IsTaken s w m) m.cursor p end
@@ -136,6 +137,7 @@ after_piece w m e = record {
   tally = tally_at m.tally (record { pos = e.pos + e.len; current = w.current; pass = 1 }) (w.writes e) e.after;
 }
 
+-- the state after pieces, one after the other
 abbrev pub after_pieces : Sweeper → Sweep → List Swept → Sweep
 after_pieces w m [] = m
 after_pieces w m (e ∷ es) = after_pieces w (after_piece w m e) es
@@ -149,10 +151,11 @@ IsSweep s w m (e ∷ es) = IsPiece s w m e.pos (e.pos + e.len) × (w.gives e ≡
 abbrev pub IsSweptOut : Setting → Sweeper → Sweep → Type 0
 IsSweptOut s w m = (x : ℕ) → m.cursor ≤ x → IsTaken s w m x → ⊥
 
--- what a save shows of it, and at its end, where it is finished or not
+-- what a save shows of a sweep
 abbrev pub sweep_snapshot : Sweep → Snapshot
 sweep_snapshot m = snapshot_with m.map m.tally
 
+-- what the save at a sweep's end shows, whether the sweep is finished or not
 abbrev pub sweep_end : (done : Bool) → Sweep → Snapshot
 sweep_end done m = if done then finished_with m.map m.tally else snapshot_with m.map m.tally
 

@@ -73,6 +73,7 @@ piece_lines s w m e =
     then report_text (phase_front (after_piece w m e).tally.shown) (sweep_report s (after_piece w m e)) ∷ []
     else []
 
+-- the lines after pieces, in order
 abbrev pub pieces_lines : Setting → Sweeper → Sweep → List Swept → List (List ℕ)
 pieces_lines s w m [] = []
 pieces_lines s w m (e ∷ es) = piece_lines s w m e ++ pieces_lines s w (after_piece w m e) es

@@ -114,10 +114,11 @@ status_of_ending e = (row_of e).status
 abbrev pub is_silent : Ending → Bool
 is_silent e = is_silent_kind (row_of e).kind
 
--- the text of an answer, and its message on standard error
+-- the text of an answer
 abbrev pub text_of_ending : Ending → List ℕ
 text_of_ending e = (row_of e).text
 
+-- the message of an answer on standard error
 abbrev pub message : Ending → List ℕ
 message e = message_of program_name (text_of_ending e)
 

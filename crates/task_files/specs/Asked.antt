@@ -81,5 +81,6 @@ setting_asked infile outfile names line o end maps = record {
 abbrev pub names_by : Command → Option MapNames
 names_by c = option_map names_of c.mapfile
 
+-- what a command asks for of an input with this length, by the maps that it names
 abbrev pub setting_of : Command → (line : List ℕ) → (end : ℕ) → Maps → Setting
 setting_of c line end maps = setting_asked c.infile c.outfile (names_by c) line c.options end maps

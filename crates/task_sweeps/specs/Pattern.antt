@@ -81,6 +81,7 @@ PatternTaken cluster end reads result =
     ⊎ ((0 < end) × (result ≡ Err NoMemory) × (reads ≡ []))
     ⊎ ((0 < end) × PatternRead cluster end reads result)
 
+-- a pattern was taken from a source, with the reads that this gained
 pub record TakesPattern (cluster end : ℕ) (result : Result (List ℕ) Ending) (source source' : SourceState)
     : Type 0 where
   pub reads : List Reading
@@ -93,6 +94,7 @@ losses_by (Err SourceLost) losses = raised losses
 losses_by (Err e) losses = losses
 losses_by (Ok done) losses = losses
 
+-- the counts rose as the result says
 pub record PatternCause {T : Type 0} (result : Result T Ending) (source source' : SourceState) : Type 0 where
   pub faults : source'.faults ≡ source.faults
   pub losses : source'.losses ≡ losses_by result source.losses

@@ -8,13 +8,15 @@ use Rattle.save_resume.specs.Loading.{BeginsLoad, IsLoad}
 use Rattle.rescue_rules.specs.Work.{IsNothing}
 use Rattle.work_rules.specs.Work.{Opened, Unopened, Deeds, IsIdle, IsOnlyCalls, with_calls, with_opens, Faults, WorkStep, Take, Look, Open, Make, Read}
 
--- deeds after these calls, after such as returned, and after an open
+-- deeds with these calls before them, each of which returned or failed
 abbrev pub after_entries : List Entry → Deeds → Deeds
 after_entries calls d = with_calls d (calls ++ d.gain.calls)
 
+-- deeds with these calls before them, all of which returned
 abbrev pub after_calls : List Call → Deeds → Deeds
 after_calls calls d = after_entries (map Returned calls) d
 
+-- deeds with an open of the input before them, which succeeded
 abbrev pub after_open : List ℕ → Deeds → Deeds
 after_open name d = with_opens d (Opened name ∷ d.opens)
 
