@@ -1,16 +1,14 @@
 -- At each call of a save, made or failed, a run stays safe as its files stand.
-use Rattle.std.proofs.Common.{◌≡◌, ⊎_elim, ℕ, ◌≤◌, Bool, true, List, [], ◌∷◌, ◌++◌, length, map, Option, Some, None, refl, sym, ap, subst, ◌∙◌, append_assoc, append-nil}
+use Rattle.std.proofs.Common.{◌≡◌, ⊎_elim, ℕ, ◌≤◌, Bool, true, List, [], ◌∷◌, ◌++◌, length, map, Option, Some, refl, sym, ap, subst, ◌∙◌, append_assoc, append-nil}
 use Rattle.std.specs.List.{concat}
 use Rattle.std.specs.Str.{bytes_eq}
 use Rattle.std.proofs.lemmas.Bool.{cond-true}
-use Rattle.std.proofs.lemmas.Option.{same_Some}
 use Rattle.mapfile_text.specs.Pieces.{pieces_of}
 use Rattle.mapfile_text.proofs.PieceLemmas.{in_pieces}
 use Rattle.faulty_source.specs.Journal.{Reading}
 use Rattle.crash_site.specs.Files.{File, empty_file, bytes_of}
 use Rattle.crash_site.specs.Calls.{Call, Done, Failed, image_sync, draft_begin, draft_append, draft_sync, draft_publish, map_settle}
-use Rattle.crash_site.specs.Folder.{Folder, appended}
-use Rattle.crash_site.specs.Disk.{Showing, Disk, only, or_this, under, with_draft, with_text, publishing, after_part, after_return, entered}
+use Rattle.crash_site.specs.Disk.{Showing, Disk, only, or_this, with_text, after_part, after_return, entered}
 use Rattle.crash_site.specs.Left.{MayShow}
 use Rattle.crash_site.specs.Changes.{Changes}
 use Rattle.crash_site.proofs.DiskLemmas.{failed_files}
@@ -23,32 +21,10 @@ use Rattle.rescue_rules.specs.Machine.{Machine}
 use Rattle.rescue_rules.specs.Snapshots.{Snapshot, text_of}
 use Rattle.rescue_rules.specs.Laws.{AreThreeNames}
 use Rattle.rescue_rules.proofs.BeforeLemmas.{or_found}
-use Rattle.rescue_rules.proofs.SaveStages.{text_file, put_own, image_apart, OpensNone, image_stays}
+use Rattle.rescue_rules.proofs.SaveStages.{text_file, put_own, image_apart, OpensNone, image_stays, appended_own, publishing_own}
 use Rattle.turn_laws.specs.Safe.{Saved}
 use Rattle.turn_laws.specs.SafeNow.{IsBacked, IsSafeNow}
 use Rattle.turn_laws.proofs.NowLemmas.{EachStop, held_fewer}
-
--- what a published draft adds to the mapfiles that may be found
-publishing_own : (d : Disk) (o : Option (List ℕ)) (draft name : List ℕ) → o ≡ Some draft → (draft ≡ name → ⊥)
-    → (publishing o name d).shows name ≡ with_text (d.reads.files draft) d.firm (d.reads.files name) (d.shows name)
-publishing_own d None draft name is apart = absurd (cc)
-publishing_own d (Some n) draft name is apart =
-    let same : n ≡ draft = same_Some n draft is in
-    let off : name ≡ n → ⊥ = λ e. apart (sym (e ∙ same)) in
-    cond-true (bytes_eq name name)
-    (with_text (d.reads.files n) d.firm (d.reads.files name) ((under n with_draft d).shows name))
-    ((under n with_draft d).shows name) (own_name name)
-    ∙ ap (λ (v : Showing). with_text (d.reads.files n) d.firm (d.reads.files name) v) (at_other d n name with_draft off)
-    ∙ ap (λ (m : List ℕ). with_text (d.reads.files m) d.firm (d.reads.files name) (d.shows name)) same
-
-appended_own : (d : Folder) (o : Option (List ℕ)) (name piece : List ℕ) → o ≡ Some name
-    → (appended d o piece).files name ≡ Some (text_file (bytes_of (d.files name) ++ piece))
-appended_own d None name piece is = absurd (cc)
-appended_own d (Some n) name piece is =
-    let same : n ≡ name = same_Some n name is in
-    cond-true (bytes_eq name n) (Some (text_file (bytes_of (d.files n) ++ piece))) (d.files name)
-    (ap (λ (m : List ℕ). bytes_eq name m) same ∙ own_name name)
-    ∙ ap (λ (m : List ℕ). Some (text_file (bytes_of (d.files m) ++ piece))) same
 
 module _ (s : Setting) (start : List ℕ) (reads : List Reading) (m : Machine) (now : File) (three : AreThreeNames s)
     (held : Held s reads start m.map now.bytes) (longer : length start ≤ length now.bytes) where
