@@ -4,7 +4,7 @@ use Rattle.option_words.specs.Words.{command_line}
 use Rattle.crash_site.specs.Files.{File}
 use Rattle.crash_site.specs.SiteState.{files_in}
 use Rattle.rescue_rules.specs.Setting.{Setting}
-use Rattle.rescue_core.specs.Across.{Across, across}
+use Rattle.rescue_core.specs.Across.{Across, across as across_states}
 use Rattle.ddrescue_words.specs.Command.{Command}
 use Rattle.program_promise.specs.World.{WorldState}
 use Rattle.task_files.specs.Names.{program_name}
@@ -14,7 +14,8 @@ use Rattle.ddrescue_cli.specs.Told.{Told}
 
 -- the objects of a run
 abbrev pub across : (old new : WorldState) → Across
-across old new = across old.source new.source old.site new.site old.clock new.clock old.console new.console
+across old new =
+    across_states old.source new.source old.site new.site old.clock new.clock old.console new.console
 
 -- the files as they read before the call
 abbrev pub files_of : Told → List ℕ → Option File

@@ -1,5 +1,4 @@
 -- What a filling did, by where it ended, whatever the objects tell.
-use Rattle.fill_generate.specs.Sweeping.{around}
 use Rattle.std.proofs.Common.{◌≡◌, ℕ, ◌<◌, ◌^◌, Bool, true, IsTrue, List, [], ◌∷◌, ◌++◌, map, length, Option, None, Result, Ok, Err, refl, sym, inl, inr, subst, arith, append-nil}
 use Rattle.std.proofs.lemmas.List.Elements.{All-nil}
 use Rattle.block_list.specs.declared.status.Status.{Status}
@@ -23,7 +22,8 @@ use Rattle.rescue_rules.specs.Setting.{Setting}
 use Rattle.rescue_rules.specs.Events.{began_at}
 use Rattle.rescue_rules.specs.Work.{Gain}
 use Rattle.rescue_core.proofs.TurnEndLemmas.{says_none}
-use Rattle.copy_passes.proofs.TurnLemmas.{around as across}
+use Rattle.rescue_core.specs.Across.{across}
+use Rattle.fill_generate.specs.Sweeping.{around}
 use Rattle.sweep_rules.specs.Sweep.{Sweeper, Swept, filler}
 use Rattle.work_rules.specs.Work.{Deeds, WorkStep, Take, Look, Open, Works}
 use Rattle.work_rules.specs.Parts.{only_calls}

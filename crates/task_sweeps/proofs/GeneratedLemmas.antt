@@ -19,7 +19,7 @@ use Rattle.rescue_rules.specs.declared.stop.RunEnd.TheVariants.{Done as Finished
 use Rattle.rescue_rules.specs.Setting.{Setting}
 use Rattle.rescue_rules.specs.Laws.{AreThreeNames}
 use Rattle.rescue_core.proofs.TurnEndLemmas.{says_none}
-use Rattle.copy_passes.proofs.TurnLemmas.{around as across}
+use Rattle.rescue_core.specs.Across.{across}
 use Rattle.sweep_rules.specs.Sweep.{Sweeper, Swept, generator}
 use Rattle.sweep_rules.specs.SweepLaws.{AreGiven}
 use Rattle.fill_generate.specs.Sweeping.{around, IsApart}

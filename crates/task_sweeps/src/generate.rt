@@ -4,12 +4,13 @@ ghost use Rattle.block_list.specs.Tiled.{Tiled};
 ghost use Rattle.faulty_source.specs.SourceChanges.{Keeps as SourceKeeps};
 ghost use Rattle.crash_site.specs.SiteChanges.{Keeps as SiteKeeps};
 ghost use Rattle.rescue_console.specs.ClockState.{Keeps as ClockKeeps};
+ghost use Rattle.rescue_core.specs.Across.{across};
+ghost use Rattle.fill_generate.specs.Sweeping.{around};
 ghost use Rattle.ddrescue_words.specs.Asking.{told_by};
 ghost use Rattle.task_files.specs.Asked.{setting_of};
 ghost use Rattle.task_files.specs.Answers.{Causes, drafting_left};
 ghost use Rattle.task_files.specs.Steps.{ending_of, heard_after, maps_read, CanBegin, IsPlanned};
 ghost use Rattle.task_sweeps.specs.SweepSteps.{DidGenerate, SweepCause, WorkedGenerate};
-ghost use Rattle.rescue_core.specs.Across.{across};
 
 use crate::sweep::{make_job, make_sweep};
 use crash_site::site::Site;

@@ -22,7 +22,7 @@ returns-in-Err-clause-cause g c =
 
 pub returns-in-Err-clause-draft : goal.returns-in-Err-clause-draft
 returns-in-Err-clause-draft g c =
-    stopped_draft _ _ _ _ _ c.in-Err.ensures.ends.halted.draft c.close-in-Err.ensures.closes
+    stopped_draft c.in-Err.stopped.stop c.in-Err.stopped.run _ _ _ c.in-Err.ensures.ends.halted.draft c.close-in-Err.ensures.closes
 
 pub returns-in-Err-clause-site : goal.returns-in-Err-clause-site
 returns-in-Err-clause-site g c = keeps_more _ _ _ c.run_phases.ensures.ends.objects.site c.close-in-Err.ensures.site
