@@ -51,8 +51,7 @@ pub record Link : Type 0 where
   pub next : Before
   pub gave : List (ℕ × ℕ)
 
--- A run of a chain has the target's files, and its offset from infile to outfile is the target's. When it ended, as
--- many calls as `moment` says had returned.
+-- A run of a chain has the target's files and offset. When it ended, `moment` calls had returned.
 pub record IsStep (t : Target) (l : Link) (i : Invocation) (c : Command) : Type 0 where
   pub outfile : c.outfile ≡ t.outfile
   pub mapfile : c.mapfile ≡ Some t.mapfile
@@ -96,8 +95,7 @@ abbrev pub AreJoined : (from : Before) → List Link → (to : Before) → Type 
 AreJoined from [] to = to ≡ from
 AreJoined from (l ∷ ls) to = (l.before ≡ from) × AreJoined l.next ls to
 
--- A chain leads from one moment to another: its runs are all on one target, whose outfile isn't its mapfile, and each
--- begins where the one before it leads.
+-- A chain of runs on one target, whose outfile isn't its mapfile. Each begins where the one before it leads.
 pub record IsChain (t : Target) (from : Before) (links : List Link) (to : Before) : Type 0 where
   pub apart : t.outfile ≢ t.mapfile
   pub each : All (IsLink t) links
