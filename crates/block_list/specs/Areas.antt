@@ -12,7 +12,7 @@ begins_area set (suc x) = set (suc x) && not (set x)
 abbrev pub count_below : (set : ℕ → Bool) → (end : ℕ) → ℕ
 count_below set end = count_by set (range_with_len 0 end)
 
--- and in how many areas: as many as begin there
+-- how many positions below an end a set has, and in how many areas: as many as begin there
 abbrev pub count_of : (set : ℕ → Bool) → (end : ℕ) → Count
 count_of set end = record {
   bytes = count_below set end;

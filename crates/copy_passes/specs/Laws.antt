@@ -46,6 +46,6 @@ StartMayCopy = (settings : Settings) (domain : List Range) (names : Option MapNa
     → Suits settings (covers domain) (length map)
     → MayCopy (started settings domain names line map loaded moment heard)
 
--- and so may one that shows another state
+-- a run that may go on with copying may do so if it shows another state
 abbrev pub ShownMayCopy : Type 0
 ShownMayCopy = (r : RunState) (state : MapState) → MayCopy r → MayCopy (run_showing r state)

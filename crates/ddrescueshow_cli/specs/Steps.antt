@@ -1,4 +1,4 @@
--- What the steps of `ddrescueshow` did, by what the objects tell.
+-- What the steps of `ddrescueshow` did, by what the objects tell. For contracts and proofs: no promise uses it.
 use Rattle.std.specs.Prelude.{ℕ, Bool, List, Option, Some, None, Result}
 use Rattle.block_list.specs.declared.status.Status.{Status}
 use Rattle.block_list.specs.Tiled.{Tiled}

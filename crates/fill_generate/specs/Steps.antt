@@ -1,4 +1,4 @@
--- The pieces of a sweep one after another, and one at which it stops.
+-- The pieces of a sweep one after another, and one at which it stops. For contracts and proofs: no promise uses it.
 use Rattle.std.specs.Prelude.{◌≡◌, ℕ, ◌+◌, ◌/◌, ◌<◌, ◌≤◌, ◌^◌, nat_le, Bool, true, false, IsTrue, List, take, drop, [], ◌∷◌, length, All, Option, Some, None, is_none, if◌then◌else◌, Result, OnOk, IfErr}
 use Rattle.crash_site.specs.declared.site.SiteCall.{SiteCall}
 use Rattle.crash_site.specs.declared.site.SiteCall.TheVariants.{ImageRead}

@@ -23,7 +23,7 @@ is_in_block s k x = nat_le s.ipos x && nat_eq (block_of s x) k
 abbrev pub begin_of : Shape → (k : ℕ) → ℕ
 begin_of s k = s.ipos + (k * s.size - s.opos)
 
--- and where they end: at the same place where it has none
+-- where the positions of a block end: where they begin, if it has none
 abbrev pub end_of : Shape → (k : ℕ) → ℕ
 end_of s k = s.ipos + (k * s.size + s.size - s.opos)
 

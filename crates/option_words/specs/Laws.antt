@@ -46,7 +46,7 @@ ReadingDependsOnMeanings = (rows rows' : List Row) (words : List (List ℕ)) (it
     → map meaning_of_row rows ≡ map meaning_of_row rows'
     → IsReading rows words items operands → IsReading rows' words items operands
 
--- and the same faults
+-- rows that mean the same give the same faults
 abbrev pub FaultDependsOnMeanings : Type 0
 FaultDependsOnMeanings = (rows rows' : List Row) (words : List (List ℕ)) (fault : WordFault)
     → map meaning_of_row rows ≡ map meaning_of_row rows' → WordFaultAt rows words fault → WordFaultAt rows' words fault

@@ -25,12 +25,12 @@ pub record NothingFailed {E : Type 0} (t : Told E) : Type 0 where
   pub puts_count : t.before.console.out.faults < 2 ^ 64 - 1
 
 module _ {C E O : Type 0} (p : Program C E O) where
-  -- If the words ask for something and nothing failed, the answer is for no fault;
+  -- If the words ask for something and nothing failed, the answer is for no fault.
   abbrev pub IsNoFaultUnless : Type 0
   IsNoFaultUnless = (t : Told E) (c : C) → Promise p t → AskFor p.grammar t.words c → NothingFailed t
       → IsNoFaultKind (kind_of p t.answer)
 
-  -- and unless memory ran out, what is there leads to it.
+  -- If the words ask for something, nothing failed and memory didn't run out, what is there leads to the answer.
   abbrev pub IsBroughtUnless : Type 0
   IsBroughtUnless = (t : Told E) (c : C) → Promise p t → AskFor p.grammar t.words c → NothingFailed t
       → kind_of p t.answer ≢ Starved → IsVerdict p t.answer

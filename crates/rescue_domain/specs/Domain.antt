@@ -26,7 +26,7 @@ abbrev pub in_map : (ℕ → Bool) → Option (List Status) → ℕ → Bool
 in_map domain None = domain
 in_map domain (Some map) = finished_in domain map
 
--- and those from one position on, below another
+-- what of a set of positions lies from one position on, below another
 abbrev pub listed_in : (ℕ → Bool) → (first end : ℕ) → ℕ → Bool
 listed_in domain first end x = domain x && nat_le first x && nat_lt x end
 

@@ -26,11 +26,11 @@ abbrev pub ReadIsNotRefused : Type 0
 ReadIsNotRefused = (file : Option File) (mode : Mode) (m : ReadMap) (e : MapError)
     → IsReadAs file mode m → IsRefusedFor file mode e → ⊥
 
--- One that is like none isn't read as a map,
+-- One that is like none isn't read as a map.
 abbrev pub NoneIsNotRead : Type 0
 NoneIsNotRead = (file : Option File) (mode : Mode) (m : ReadMap) → IsLikeNone file → IsReadAs file mode m → ⊥
 
--- and it is refused only for want of a status line.
+-- One that is like none is refused only for want of a status line.
 abbrev pub NoneSaysNothing : Type 0
 NoneSaysNothing = (file : Option File) (mode : Mode) (e : MapError)
     → IsLikeNone file → IsRefusedFor file mode e → e ≡ NoStatusLine

@@ -1,4 +1,4 @@
--- What the steps of a rescue did, whether the objects tell or not.
+-- What the steps of a rescue did, whether the objects tell or not. For contracts and proofs: no promise uses it.
 use Rattle.std.specs.Prelude.{◌≡◌, ◌≢◌, ◌⊎◌, ⊤, ℕ, ◌<◌, ◌≤◌, ◌^◌, Bool, false, IsTrue, List, [], ◌++◌, length, map, Option, Some, None, Result, Ok, Err, IfSome, if◌then◌else◌}
 use Rattle.fault_count.specs.Counts.{Rose}
 use Rattle.block_list.specs.declared.status.Status.{Status}

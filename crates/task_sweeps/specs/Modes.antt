@@ -50,11 +50,11 @@ abbrev pub named_rows : Command → Found → List (WorkStep Ending)
 named_rows c found =
     Take ∷ Look (NamesRefused c) ∷ map_rows DomainMap (map_mode c.options.loose) c.domain_map found.domain
 
--- The steps of a filling up to the read of its pattern, which takes memory,
+-- The steps of a filling up to the read of its pattern, which takes memory.
 abbrev pub fill_rows : Command → Found → (end : ℕ) → List (WorkStep Ending)
 fill_rows c found end = named_rows c found ++ Open c.infile ∷ Look (PatternEmpty end) ∷ Take ∷ []
 
--- and all steps of a generating, which makes no output.
+-- All steps of a generating, which makes no output.
 abbrev pub generate_rows : Command → Found → (end : ℕ) → List (WorkStep Ending)
 generate_rows c found end = named_rows c found ++ Open c.infile ∷ files_rows false c found end
 
@@ -72,7 +72,7 @@ module _ (s : Setting) (w : Sweeper) where
       pub says : lines
           ≡ opening_lines s (length statuses) ++ sweep_lines s w (sweep_begins w statuses state g) pieces end
 
-    -- or none, where memory ran out before it began
+    -- the sweep, or none where memory ran out before it began
     abbrev pub MaySweep : List Swept → RunEnd → (lines : List (List ℕ)) → Ending → Gain → Type 0
     MaySweep pieces end lines e g =
         (IsUnbegun e g lines × (pieces ≡ [])) ⊎ SweptOver pieces end lines e g

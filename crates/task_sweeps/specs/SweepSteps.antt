@@ -1,4 +1,5 @@
 -- What the steps of fill mode and of generate mode did, whether the objects tell or not.
+-- For contracts and proofs: no promise uses it.
 -- What a sweep begins with over a map: the domain that a command and maps ask for below a limit, the map as it is, the
 use Rattle.std.specs.Prelude.{◌≡◌, ◌⊎◌, ℕ, ◌<◌, ◌^◌, Bool, IsTrue, List, [], ◌++◌, length, Option, option_map}
 use Rattle.block_list.specs.declared.status.Status.{Status}

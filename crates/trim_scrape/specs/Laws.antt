@@ -50,7 +50,7 @@ TurnsJoin = (r q p : RunState) (o : Across) (source : SourceState) (site : SiteS
     → SourceStays o.source source → site.tells ≡ o.site.tells
     → Went q p (record o { source = source; site = site; clock = clock; console = console }) → Went r p o
 
--- and so are those up to a turn that stopped
+-- whole turns, and after them turns up to one that stopped, are turns up to one that stopped
 abbrev pub StoppedTurnsJoin : Type 0
 StoppedTurnsJoin = (stop : Stop) (r q p : RunState) (o : Across) (source : SourceState) (site : SiteState)
     (clock : ClockState) (console : ConsoleState)

@@ -41,12 +41,12 @@ use Rattle.turn_laws.specs.Ended.{IsLastSaved, IsWellEnded}
 use Rattle.turn_laws.specs.PhaseLaws.{is_at_call}
 use Rattle.turn_laws.specs.NowLaws.{IsMapped}
 
--- A run is under way at its start,
+-- A run is under way at its start.
 abbrev pub StartIsUnderWay : Type 0
 StartIsUnderWay = (s : Setting) (map : List Status) (from : Option MapState) (shown : MapState) (time : ℕ)
     → IsUnderWay s (machine_of s map from shown time)
 
--- and stays so, whatever it reads.
+-- A run that is under way stays so, whatever it reads.
 abbrev pub RunStaysUnderWay : Type 0
 RunStaysUnderWay = (s : Setting) (m : Machine) (es : List Event) → IsSensible s → IsUnderWay s m → IsRun s m es
     → IsUnderWay s (state_after s m es)

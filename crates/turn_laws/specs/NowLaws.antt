@@ -74,14 +74,14 @@ HaltedStaysSafeNow = (s : Setting) (start : List ℕ) (reads : List Reading) (re
     → (h : Halted request stop r r' o) → IsSafeNow s start reads r.machine (disk_of o.site)
     → IsSafeNow s start (reads ++ reads_by h) r'.machine (disk_of o.site')
 
--- after the whole turns of a phase,
+-- It is safe now after the whole turns of a phase.
 abbrev pub PhaseStaysSafeNow : Type 0
 PhaseStaysSafeNow = (s : Setting) (start : List ℕ) (reads : List Reading) (r r' : RunState) (o : Across)
     → IsMapped s r.machine → setting_in r ≡ nameless s → IsTrue o.site.tells → Keeps o.site o.site'
     → (w : Went r r' o) → IsSafeNow s start reads r.machine (disk_of o.site)
     → IsSafeNow s start (reads ++ reads_of w.events) r'.machine (disk_of o.site')
 
--- and after those up to one that stopped, for whatever cause.
+-- It is safe now after turns up to one that stopped, for whatever cause.
 abbrev pub StoppedStaysSafeNow : Type 0
 StoppedStaysSafeNow = (s : Setting) (start : List ℕ) (reads : List Reading) (stop : Stop) (r r' : RunState)
     (o : Across) → IsMapped s r.machine → setting_in r ≡ nameless s → IsTrue o.site.tells → Keeps o.site o.site'
