@@ -8,9 +8,9 @@ use Rattle.option_words.specs.declared.fault.UsageFault.{UsageFault}
 use Rattle.option_words.specs.declared.fault.UsageFault.TheVariants.{BadValue}
 use Rattle.option_words.specs.Reading.{IsReading}
 use Rattle.option_words.specs.Values.{empty_operand, is_given, quiet_letter}
-use Rattle.option_words.specs.Grammar.{AskForOnly, unless_empty}
+use Rattle.option_words.specs.Grammar.{unless_empty}
 use Rattle.option_words.proofs.KeepLemmas.{AreKept}
-use Rattle.option_words.proofs.MeaningLemmas.{reading_asks as asked_only}
+use Rattle.option_words.proofs.MeaningLemmas.{asked_within}
 use Rattle.option_words.proofs.ResultLemmas.{unless_part, untested_part}
 use Rattle.ddrescue_words.specs.declared.options.Options.{Options}
 use Rattle.ddrescue_words.specs.declared.command.Task.{Task as TaskCode}
@@ -145,7 +145,7 @@ some_sectors : (o : Options) (n : Option ℕ) → IfSome n (λ k. 0 < k) → 0 <
 some_sectors o None h = omega arith
 some_sectors o (Some k) h = h
 
-not_above : (m n : ℕ) → nat_lt m n ≡ false → n ≤ m
+pub not_above : (m n : ℕ) → nat_lt m n ≡ false → n ≤ m
 not_above m n e = grind (arith, nat_tests)
 
 pub in_limits : (o : Options) → AreInRange o.sector o → is_too_large o ≡ false → AreInLimits o
@@ -185,14 +185,11 @@ quiet_of o (Sample kib quiet) made = sym made.1
 pub reading_asks : (words : List (List ℕ)) (rows : List Row) (is : List Item) (os : List ℕ) (t : Task)
     → AreOptions rows → IsReading rows words is os → task_in words is os ≡ told_task t → IsAsked words t
 reading_asks words rows is os t o r e =
-    let only = asked_only rescue_grammar words rows is os t o r e in
     let m = options_by words is (options_in words is) os t e in
     let keeps = options_keep words is m.options m.accepted.read in
-    let same : is_quiet t ≡ is_given option_meanings quiet_letter is = quiet_of m.options t m.made ∙ keeps.quiet_is in
-    record {
-      only = subst (AskForOnly rescue_grammar words t) (sym same) only;
-      limits = limits_of m.options t (is_given option_meanings quiet_letter is) keeps m.accepted.small m.made;
-    }
+    asked_within rescue_grammar words rows is os t (IsInLimits t) (is_quiet t) o r e
+    (limits_of m.options t (is_given option_meanings quiet_letter is) keeps m.accepted.small m.made)
+    (quiet_of m.options t m.made ∙ keeps.quiet_is)
 
 -- the same of a task as the code has it
 pub reading_tasks : (words : List (List ℕ)) (rows : List Row) (is : List Item) (os : List ℕ) (t : TaskCode)

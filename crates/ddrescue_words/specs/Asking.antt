@@ -11,7 +11,7 @@ use Rattle.option_words.specs.declared.command_error.CommandError.{CommandError}
 pub use Rattle.option_words.specs.Values.{IsWord, empty_operand}
 use Rattle.option_words.specs.Values.{is_given, is_of, last_of, last_value, quiet_letter, word_in}
 pub use Rattle.option_words.specs.Grammar.{Unread, Wrong, unless_empty, unread_error}
-use Rattle.option_words.specs.Grammar.{Grammar, AreOptionsOf, AskFor, AskForOnly, AreRefusedBy, AskSilence, IsRefusalBy, IsErrorBy}
+use Rattle.option_words.specs.Grammar.{Grammar, AreOptionsOf, AskFor, AreRefusedBy, AskSilence, IsAskedWithin, IsRefusalBy, IsErrorBy}
 use Rattle.run_options.specs.Passes.{all_phases_once}
 use Rattle.ddrescue_words.specs.declared.options.Options.{Options}
 use Rattle.ddrescue_words.specs.declared.command.Command.{Command as CommandCode}
@@ -251,10 +251,9 @@ IsInLimits (Fill types c) = HasMapfile c
 IsInLimits (Generate c) = HasMapfile c
 IsInLimits (Sample kib quiet) = IsSampleSize kib
 
--- this is what the words ask for, and nothing else
-pub record IsAsked (words : List (List ℕ)) (task : Task) : Type 0 where
-  pub only : AskForOnly rescue_grammar words task (is_quiet task)
-  pub limits : IsInLimits task
+-- this is what the words ask for, and nothing else, and it is within its limits
+abbrev pub IsAsked : List (List ℕ) → Task → Type 0
+IsAsked words task = IsAskedWithin rescue_grammar words task (IsInLimits task) (is_quiet task)
 
 -- what the code hands on is what the words ask for, and nothing else
 abbrev pub IsTask : List (List ℕ) → TaskCode → Type 0

@@ -21,9 +21,9 @@ use Rattle.ddrescuelog_cli.specs.declared.load.LoadedMaps.{LoadedMaps}
 use Rattle.ddrescuelog_cli.specs.declared.ending.LogEnding.{LogEnding}
 use Rattle.ddrescuelog_cli.specs.declared.ending.LogEnding.TheVariants.{NoMemory}
 use Rattle.ddrescuelog_cli.specs.Maps.{Found, file_of, found_in, mapfile_mode, AreMapsOf, AreAskedFor}
-use Rattle.work_rules.specs.Parts.{only_calls, WentThrough, StoppedIn}
+use Rattle.work_rules.specs.Parts.{Did, only_calls, WentThrough, StoppedIn}
 use Rattle.ddrescuelog_cli.specs.Work.{log_faults, map_rows, named_rows}
-use Rattle.ddrescuelog_cli.specs.Steps.{DidRead, ReadsMap, HasStatuses, statuses_in, statuses_or_none, DidReadNamed, ReadsNamed, maps_read, IsLoadedAs, LoadsMaps, ReadCause}
+use Rattle.ddrescuelog_cli.specs.Steps.{ReadsMap, HasStatuses, statuses_in, statuses_or_none, ReadsNamed, maps_read, IsLoadedAs, LoadsMaps, ReadCause}
 use Rattle.work_rules.proofs.PartLemmas.{stopped_more, through_then, through_both}
 use Rattle.work_rules.proofs.ReadLemmas.{AreReads}
 use Rattle.ddrescuelog_cli.proofs.ReadLemmas.{stopped_reads, through_reads, files_stand}
@@ -32,7 +32,8 @@ use Rattle.ddrescuelog_cli.proofs.MapsLemmas.{NamedBy, shown_is_one, has_named}
 -- ---- one read leaves the files as they read
 
 map_reads : (which : Which) (mode : Mode) (name : List ℕ) (file : Option File) (r : Result ReadMap LogEnding)
-    (calls : List Entry) → DidRead which mode name file r calls → AreReads calls
+    (calls : List Entry)
+    → Did log_faults (map_rows which mode (Some name) file) (λ m. IsReadAs file mode m) r calls → AreReads calls
 map_reads which mode name file (Ok m) calls did = through_reads (map_rows which mode (Some name) file) calls tt did.1
 map_reads which mode name file (Err e) calls did = stopped_reads (map_rows which mode (Some name) file) e calls tt did
 
@@ -43,7 +44,8 @@ map_stands which mode name r old new reads stays t =
     (map_reads which mode name reads.file r reads.calls reads.did)
 
 named_reads : (which : Which) (mode : Mode) (name : Option (List ℕ)) (file : Option File)
-    (r : Result (Option Tiled) LogEnding) (calls : List Entry) → DidReadNamed which mode name file r calls
+    (r : Result (Option Tiled) LogEnding) (calls : List Entry)
+    → Did log_faults (map_rows which mode name file) (λ tiles. HasStatuses name mode file (statuses_in tiles)) r calls
     → AreReads calls
 named_reads which mode name file (Ok m) calls did = through_reads (map_rows which mode name file) calls tt did.1
 named_reads which mode name file (Err e) calls did = stopped_reads (map_rows which mode name file) e calls tt did
@@ -143,7 +145,8 @@ record ReadsAll (c : Command) (m : ReadMap) (other : Option Tiled) (r : Result (
   mapfile : IsReadAs found.mapfile (mapfile_mode c.mode) m
   has_other : HasStatuses c.other Tight found.other (statuses_in other)
   through : WentThrough (front_rows c found) front
-  did : DidReadNamed DomainMap (map_mode c.options.loose) c.domain_map found.domain r last
+  did : Did log_faults (map_rows DomainMap (map_mode c.options.loose) c.domain_map found.domain)
+      (λ tiles. HasStatuses c.domain_map (map_mode c.options.loose) found.domain (statuses_in tiles)) r last
 
 reads_all : (c : Command) (m : ReadMap) (other : Option Tiled) (r : Result (Option Tiled) LogEnding)
     (old mid low new : SiteState) → ReadsMapfile c (Ok m) old mid → Stays old mid → ReadsOther c (Ok other) mid low

@@ -108,7 +108,7 @@ log_made = record {
 pub asked_done : (words : List (List ℕ)) (c : Command) (e : LogEnding) (old new : WorldState) → IsAsked words c
     → LogWorked c words e old new → IsDone log_program words e c.options.quiet old new
 asked_done words c e old new a w =
-    asked log_program log_made words c e c.options.quiet old new a.asks a.alone a.quiet w
+    asked log_program log_made words c e c.options.quiet old new a.only.asks a.only.alone a.only.quiet_is w
 
 pub log_keeps_promises : LogKeepsPromises
 log_keeps_promises = keeps_promises log_program log_made

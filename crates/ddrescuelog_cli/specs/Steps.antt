@@ -27,23 +27,14 @@ use Rattle.ddrescuelog_cli.specs.Maps.{Found, Maps, file_of, found_in, AreMapsOf
 use Rattle.ddrescuelog_cli.specs.Results.{text_of}
 use Rattle.ddrescuelog_cli.specs.Modes.{prints}
 use Rattle.ddrescuelog_cli.specs.Printing.{PutsAs}
-use Rattle.work_rules.specs.Parts.{only_calls, StoppedIn, WentThrough}
+use Rattle.work_rules.specs.Parts.{DidPart, only_calls, StoppedIn, WentThrough}
 use Rattle.ddrescuelog_cli.specs.Work.{log_faults, map_rows, read_rows, WorksOver}
 
--- what the read of a map that is named did, by its outcome
-abbrev pub DidRead : Which → Mode → (name : List ℕ) → Option File → Result ReadMap LogEnding → List Entry → Type 0
-DidRead which mode name file (Ok m) calls =
-    IsReadAs file mode m × WentThrough (map_rows which mode (Some name) file) calls
-DidRead which mode name file (Err e) calls = StoppedIn log_faults (map_rows which mode (Some name) file) e calls
-
--- There is a file that it read, and calls, which are the site's own where it tells.
-pub record ReadsMap (which : Which) (mode : Mode) (name : List ℕ) (result : Result ReadMap LogEnding)
-    (old new : SiteState) : Type 0 where
-  pub file : Option File
-  pub calls : List Entry
-  pub is_own : IsTrue old.tells → file ≡ files_in old name
-  pub gained : IsTrue old.tells → new.calls ≡ old.calls ++ calls
-  pub did : DidRead which mode name file result calls
+-- what the read of a map did that is named
+abbrev pub ReadsMap : Which → Mode → (name : List ℕ) → Result ReadMap LogEnding → (old new : SiteState) → Type 0
+ReadsMap which mode name result old new =
+    DidPart log_faults (map_rows which mode (Some name)) (files_in old name)
+    (λ (m : ReadMap) file. IsReadAs file mode m) result old new
 
 -- the statuses of tiles, if there are some
 abbrev pub statuses_in : Option Tiled → Option (List Status)
@@ -56,21 +47,12 @@ HasStatuses None mode file statuses = statuses ≡ None
 HasStatuses (Some name) mode file None = ⊥
 HasStatuses (Some name) mode file (Some statuses) = IsMapOf file mode statuses
 
--- what the read of a map that may be named did, by its outcome
-abbrev pub DidReadNamed : Which → Mode → Option (List ℕ) → Option File → Result (Option Tiled) LogEnding → List Entry
-    → Type 0
-DidReadNamed which mode name file (Ok tiles) calls =
-    HasStatuses name mode file (statuses_in tiles) × WentThrough (map_rows which mode name file) calls
-DidReadNamed which mode name file (Err e) calls = StoppedIn log_faults (map_rows which mode name file) e calls
-
--- what the read of a map that may be named did, by a file and calls
-pub record ReadsNamed (which : Which) (mode : Mode) (name : Option (List ℕ)) (result : Result (Option Tiled) LogEnding)
-    (old new : SiteState) : Type 0 where
-  pub file : Option File
-  pub calls : List Entry
-  pub is_own : IsTrue old.tells → file ≡ file_of name (files_in old)
-  pub gained : IsTrue old.tells → new.calls ≡ old.calls ++ calls
-  pub did : DidReadNamed which mode name file result calls
+-- what the read of a map did that may be named
+abbrev pub ReadsNamed : Which → Mode → (name : Option (List ℕ)) → Result (Option Tiled) LogEnding
+    → (old new : SiteState) → Type 0
+ReadsNamed which mode name result old new =
+    DidPart log_faults (map_rows which mode name) (file_of name (files_in old))
+    (λ (tiles : Option Tiled) file. HasStatuses name mode file (statuses_in tiles)) result old new
 
 -- ---- all maps
 

@@ -3,7 +3,7 @@ use Rattle.std.proofs.Common.{ℕ, Bool, List, [], ◌∷◌, Option, Some, None
 use Rattle.std.proofs.lemmas.Bool.{cond_both}
 use Rattle.faulty_source.proofs.Keeping.{keeps_self}
 use Rattle.option_words.specs.Words.{word}
-use Rattle.option_words.specs.Values.{is_empty_text, is_given}
+use Rattle.option_words.specs.Values.{is_empty_text, is_given, quiet_letter}
 use Rattle.work_rules.specs.Work.{Deeds}
 use Rattle.program_promise.specs.World.{WorldState}
 use Rattle.program_promise.specs.Kinds.{IsWorkKind}
@@ -12,7 +12,7 @@ use Rattle.program_promise.specs.WellMade.{IsWellMade}
 use Rattle.program_promise.specs.Promise.{IsDone}
 use Rattle.program_promise.proofs.GrammarLemmas.{IsRefusedBy, refused_by}
 use Rattle.program_promise.proofs.PromiseLemmas.{asked}
-use Rattle.ddrescuepart_words.specs.Command.{Command, IsAsked, command_in, option_meanings, partition_by, quiet_letter, with_operands, with_partition}
+use Rattle.ddrescuepart_words.specs.Command.{Command, IsAsked, command_in, option_meanings, partition_by, with_operands, with_partition}
 use Rattle.ddrescuepart_cli.specs.declared.ending.PartEnding.{PartEnding}
 use Rattle.ddrescuepart_cli.specs.declared.ending.PartEnding.TheVariants.{Usage}
 use Rattle.ddrescuepart_cli.specs.Answers.{AnswersBy, row_of}
@@ -65,4 +65,5 @@ part_made = record {
 
 pub asked_done : (words : List (List ℕ)) (c : Command) (e : PartEnding) (old new : WorldState) → IsAsked words c
     → PartWorked c words e old new → IsDone part_program words e c.quiet old new
-asked_done words c e old new a w = asked part_program part_made words c e c.quiet old new a.asks a.alone a.quiet w
+asked_done words c e old new a w =
+    asked part_program part_made words c e c.quiet old new a.only.asks a.only.alone a.only.quiet_is w

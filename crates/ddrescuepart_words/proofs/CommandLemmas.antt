@@ -5,11 +5,11 @@ use Rattle.option_words.specs.declared.row.Row.{Row}
 use Rattle.option_words.specs.declared.reading.Item.{Item}
 use Rattle.option_words.specs.declared.fault.UsageFault.TheVariants.{BadValue}
 use Rattle.option_words.specs.Reading.{IsReading}
-use Rattle.option_words.specs.Values.{is_empty_text, is_given, number_by}
+use Rattle.option_words.specs.Values.{is_empty_text, is_given, number_by, quiet_letter}
 use Rattle.option_words.proofs.ValueLemmas.{in_range}
 use Rattle.option_words.proofs.MeaningLemmas.{asked_within}
 use Rattle.option_words.proofs.ResultLemmas.{untested_part}
-use Rattle.ddrescuepart_words.specs.Command.{AreOptions, Command, IsAsked, IsInLimits, command_in, last_partition, option_meanings, part_grammar, partition_by, quiet_letter, with_operands, with_partition}
+use Rattle.ddrescuepart_words.specs.Command.{AreOptions, Command, IsAsked, IsInLimits, command_in, last_partition, option_meanings, part_grammar, partition_by, with_operands, with_partition}
 
 -- what is asked for by two operands
 record IsOf (quiet : Bool) (c : Command) : Type 0 where

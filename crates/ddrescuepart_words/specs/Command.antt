@@ -8,8 +8,7 @@ use Rattle.option_words.specs.declared.reading.WordReading.{WordReading}
 use Rattle.option_words.specs.declared.fault.UsageFault.{UsageFault}
 use Rattle.option_words.specs.declared.fault.UsageFault.TheVariants.{BadValue, Operands}
 use Rattle.option_words.specs.declared.command_error.CommandError.{CommandError}
-use Rattle.option_words.specs.Values.{Meaning, is_empty_text, is_given, number_by, within_range}
-pub use Rattle.option_words.specs.Values.{quiet_letter}
+use Rattle.option_words.specs.Values.{Meaning, is_empty_text, is_given, number_by, quiet_letter, within_range}
 use Rattle.option_words.specs.Grammar.{Grammar, AreOptionsOf, AskFor, AreRefusedBy, AskSilence, IsAskedWithin, IsErrorBy}
 use Rattle.ddrescuepart_words.specs.declared.command.Command.{Command as CommandCode}
 

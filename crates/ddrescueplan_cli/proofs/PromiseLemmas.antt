@@ -109,7 +109,7 @@ plan_made = record {
 pub asked_done : (words : List (List ℕ)) (c : Command) (e : PlanEnding) (old new : WorldState) → IsAsked words c
     → PlanWorked c words e old new → IsDone plan_program words e c.options.rescue.quiet old new
 asked_done words c e old new a w =
-    asked plan_program plan_made words c e c.options.rescue.quiet old new a.asks a.alone a.quiet w
+    asked plan_program plan_made words c e c.options.rescue.quiet old new a.only.asks a.only.alone a.only.quiet_is w
 
 -- ---- what is kept
 

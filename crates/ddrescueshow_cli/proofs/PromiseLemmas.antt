@@ -112,7 +112,8 @@ pub asked_done : (terminal : Bool) (words : List (List ℕ)) (c : Command) (e : 
     → IsAsked words c → ShowWorked terminal c words e old new
     → IsDone (show_program terminal) words e c.options.quiet old new
 asked_done terminal words c e old new a w =
-    asked (show_program terminal) (show_made terminal) words c e c.options.quiet old new a.asks a.alone a.quiet w
+    asked (show_program terminal) (show_made terminal) words c e c.options.quiet old new
+    a.only.asks a.only.alone a.only.quiet_is w
 
 -- ---- what is kept
 

@@ -163,7 +163,8 @@ verify_made = record {
 
 pub asked_done : (words : List (List ℕ)) (c : Command) (e : VerifyEnding) (old new : WorldState) → IsAsked words c
     → VerifyWorked c words e old new → IsDone verify_program words e c.options.quiet old new
-asked_done words c e old new a w = asked verify_program verify_made words c e c.options.quiet old new a.asks a.alone a.quiet w
+asked_done words c e old new a w =
+    asked verify_program verify_made words c e c.options.quiet old new a.only.asks a.only.alone a.only.quiet_is w
 
 -- ---- two files of one name
 
@@ -176,4 +177,4 @@ apart_never o none first second same =
 pub named : (words : List (List ℕ)) (c : Command) → IsAsked words c → (first second : Operand)
     → NameOneFileTwice words first second → same_of c ≡ Some (first, second)
 named words c a first second twice =
-    subst (λ (x : Command). same_of x ≡ Some (first, second)) (a.alone twice.command twice.asks) twice.same
+    subst (λ (x : Command). same_of x ≡ Some (first, second)) (a.only.alone twice.command twice.asks) twice.same

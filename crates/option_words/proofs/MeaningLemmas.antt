@@ -94,19 +94,13 @@ module _ {C : Type 0} (g : Grammar C) (words : List (List ℕ)) where
         quiet_is = silence_by_reading rows is os o r;
       }
 
-  -- the same within limits, where no message is put if an option asks for none
+  -- what a reading asks for within limits, where no message is put if an option asks for none
   pub asked_within : (rows : List Row) (is : List Item) (os : List ℕ) (c : C) (Limits : Type 0) (silent : Bool)
       → AreOptionsOf g rows → IsReading rows words is os → g.asked words is os ≡ Ok c → Limits
       → silent ≡ is_given g.options g.quiet is → IsAskedWithin g words c Limits silent
   asked_within rows is os c Limits silent o r e limits same =
       let only = reading_asks rows is os c o r e in
-      record {
-        asks = only.asks;
-        alone = only.alone;
-        accepted = only.accepted;
-        limits = limits;
-        quiet = (λ p. same ∙ only.quiet_is.0 p, λ t. only.quiet_is.1 (sym same ∙ t));
-      }
+      record { only = subst (AskForOnly g words c) (sym same) only; limits = limits }
 
   -- the same of a reading that is refused
   pub reading_refused : (rows : List Row) (is : List Item) (os : List ℕ) (f : UsageFault) → AreOptionsOf g rows

@@ -61,14 +61,12 @@ pub record AskForOnly {C : Type 0} (g : Grammar C) (words : List (List ℕ)) (c 
   pub accepted : (fault : UsageFault) → AreRefusedBy g words fault → ⊥
   pub quiet_is : AskSilence g words ↔ (quiet ≡ true)
 
--- the same within limits, for what a program does; `silent` says whether it puts no message
+-- this is what the words ask for, and nothing else, and it is within limits; `quiet` says whether
+-- they ask that nothing be said
 pub record IsAskedWithin {C : Type 0} (g : Grammar C) (words : List (List ℕ)) (c : C) (Limits : Type 0)
-    (silent : Bool) : Type 0 where
-  pub asks : AskFor g words c
-  pub alone : (other : C) → AskFor g words other → other ≡ c
-  pub accepted : (fault : UsageFault) → AreRefusedBy g words fault → ⊥
+    (quiet : Bool) : Type 0 where
+  pub only : AskForOnly g words c quiet
   pub limits : Limits
-  pub quiet : AskSilence g words ↔ (silent ≡ true)
 
 -- the words are refused for this fault, and ask for nothing
 pub record IsRefusalBy {C : Type 0} (g : Grammar C) (words : List (List ℕ)) (fault : UsageFault) (quiet : Bool)

@@ -19,6 +19,7 @@ use Rattle.rescue_rules.proofs.MoveLemmas.{run_first, run_rest}
 use Rattle.rescue_rules.proofs.RequestLemmas.{one_request}
 use Rattle.rescue_rules.proofs.SearchLemmas.{wanted_found, request_seen}
 use Rattle.ddrescue_words.specs.declared.options.Options.{Options}
+use Rattle.ddrescue_words.proofs.CommandLemmas.{not_above}
 use Rattle.rescue_sample.specs.Line.{IsStill}
 use Rattle.task_files.specs.Asked.{setting_of}
 use Rattle.ddrescueplan_words.specs.Command.{ArePlain}
@@ -173,9 +174,6 @@ not_ended : (r : Reading) → is_whole r ≡ true → EndsShort r → r.ended �
 not_ended r whole ends =
     ⊎_elim (λ (end : r.ended ≡ true). absurd (omega (arith, passed_eq (length r.given) r.asked whole, ends end)))
     (λ (on : r.ended ≡ false). on) (cases_Bool r.ended)
-
-not_above : (m n : ℕ) → nat_lt m n ≡ false → n ≤ m
-not_above m n e = grind (arith, nat_tests)
 
 -- and is seen as one of a plan
 seen_planned : (test : List Status) (r : Reading) → is_whole r ≡ true → r.ended ≡ false → IsPlannedIn test (seen test r)

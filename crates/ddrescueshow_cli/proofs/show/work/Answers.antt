@@ -24,4 +24,4 @@ returns-clause-done g c =
     asked_done c.args.terminal c.args.words.now (told_by c.in-Ok.command) _ _ _ c.in-Ok.ensures.asked (c.run-ending.ensures c.args.words.now)
 
 pub returns-clause-untouched : goal.returns-clause-untouched
-returns-clause-untouched g c = λ fault refusal. absurd (c.in-Ok.ensures.asked.accepted fault refusal)
+returns-clause-untouched g c = λ fault refusal. absurd (c.in-Ok.ensures.asked.only.accepted fault refusal)

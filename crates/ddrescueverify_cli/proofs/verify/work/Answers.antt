@@ -24,7 +24,7 @@ returns-clause-done g c =
     asked_done c.args.words.now (told_by c.in-Ok.command) _ _ _ c.in-Ok.ensures.asked c.run-ending.ensures.worked
 
 pub returns-clause-untouched : goal.returns-clause-untouched
-returns-clause-untouched g c = λ fault refusal. absurd (c.in-Ok.ensures.asked.accepted fault refusal)
+returns-clause-untouched g c = λ fault refusal. absurd (c.in-Ok.ensures.asked.only.accepted fault refusal)
 
 pub returns-clause-unopened : goal.returns-clause-unopened
 returns-clause-unopened g c = λ first second twice.
