@@ -24,7 +24,7 @@ abbrev pub AreApart : (low : ℕ) → List (ℕ × ℕ) → Type 0
 AreApart low [] = ⊤
 AreApart low (r ∷ rs) = (low ≤ r.0) × (r.0 < r.1) × AreApart (r.1 + 1) rs
 
--- one of them holds a position
+-- one of the intervals holds a position
 abbrev pub holds_one : List (ℕ × ℕ) → ℕ → Bool
 holds_one [] x = false
 holds_one (r ∷ rs) x = (nat_le r.0 x && nat_lt x r.1) || holds_one rs x

@@ -34,7 +34,7 @@ pub record GoesAlike (s : Setting) (m n : Machine) (events : List Event) : Type 
 abbrev pub AlikeGoAlike : Type 0
 AlikeGoAlike = (s : Setting) (m n : Machine) (events : List Event) → IsAlike s m n → GoesAlike s m n events
 
--- the start of the next pass is alike, where the present one has no request
+-- a state without a request and the start of its next pass are alike
 abbrev pub NextPassIsAlike : Type 0
 NextPassIsAlike = (s : Setting) (m : Machine) (c p : Pass) (ps : List Pass) → has_request s m ≡ false
     → m.passes ≡ c ∷ p ∷ ps → IsAlike s m (begun s m p ps)

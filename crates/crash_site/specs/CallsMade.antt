@@ -15,7 +15,7 @@ abbrev pub IsDone : Entry → Type 0
 IsDone (Done call) = ⊤
 IsDone (Failed call) = ⊥
 
--- all calls of a record did
+-- all calls of a record returned Ok
 abbrev pub AllDone : List Entry → Type 0
 AllDone calls = All IsDone calls
 

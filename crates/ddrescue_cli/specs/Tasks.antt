@@ -91,8 +91,8 @@ TaskIsSilent (Fill types c) o e did = did.gain.times ≡ [] → (o.lines ≡ [])
 TaskIsSilent (Generate c) o e did = did.gain.times ≡ [] → (o.lines ≡ []) × (o.pieces ≡ [])
 TaskIsSilent (Sample kib quiet) o e did = e ≡ NoMemory → o.lines ≡ []
 
--- At whatever moment it is stopped: until the barrier has returned, what is found of a rescue with a mapfile could be
--- found before. From then on the mapfile found is the one it began with or one that it saved, no older than the last
+-- At whatever moment a task is stopped: until the barrier has returned, what is found of a rescue with a mapfile could
+-- be found before. From then on the mapfile found is the one it began with or one that it saved, no older than the last
 -- save that had returned, and the output holds what that mapfile promises. Of a filling the mapfile found is, from the
 -- barrier on, the one it began with or one that it saved, its map stands, and what came before that save is filled.
 -- Each piece of a generating gave what the output held when the call began; and from the barrier on, what the mapfile

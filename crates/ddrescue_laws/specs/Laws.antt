@@ -97,11 +97,11 @@ pub record LeavesRescued (t : Told) (s : Setting) (g : Gain) : Type 0 where
         bytes = text_of s.line (finished_snapshot (machine_reached s g statuses state));
         regular = true;
       })
-  -- and the output holds what that map promises
+  -- the output holds what the map of all reads promises
   pub held : Held s g.reads (bytes_of (files_of t s.outfile)) (machine_reached s g statuses state).map
       (bytes_of (files_in t.after.site s.outfile))
 
--- A finished rescue leaves that.
+-- Where the files tell, a rescue that is done leaves what `LeavesRescued` says.
 abbrev pub DoneIsSaved : Type 0
 DoneIsSaved = (t : Told) (c : Command) (d : Ddrescue t) (asks : Asks t.words c) → IsTrue t.before.site.tells
     → t.answer ≡ Done → LeavesRescued t (setting_promised d asks) (done_by d asks)
@@ -137,7 +137,7 @@ abbrev pub IsDoneUnless : Type 0
 IsDoneUnless = (t : Told) (c : Command) (d : Ddrescue t) (asks : Asks t.words c) → NothingFailed t
     → NothingIsRefused c (outside_by d asks) → t.answer ≢ NoMemory → IsDoneOrLimited c.options t.answer
 
--- There are such maps for any files that were found: those that the files say.
+-- For any files that were found there are the maps of a command: those that the files say.
 abbrev pub MapsAreThere : Type 0
 MapsAreThere = (c : Command) (found : Found) → (maps : Maps) × AreMapsIn c found maps
 
@@ -156,7 +156,7 @@ pub record IsVerdict (e : Ending) : Type 0 where
   pub room : e ≢ NoMemory
   pub call : (call : SiteCall) (earlier : Option Stop) → e ≢ SiteFault call earlier
 
--- At most one such answer follows from a command, an input's length and the files found.
+-- At most one answer that is a verdict follows from a command, an input's length and the files found.
 abbrev pub HasOneVerdict : Type 0
 HasOneVerdict = (c : Command) (s : Setting) (found : Found) (lines lines' : List (List ℕ)) (e e' : Ending)
     (d d' : Deeds) → Works rescue_faults (rescue_rows c found s.end) (Rescues s found.mapfile lines) e d

@@ -44,5 +44,5 @@ pub record IsLeft (e : Ending) (names_maps : Bool) (outfile : List ℕ) (files f
   pub made : IsAfterOutput e → OutputMade outfile files files'
   pub read : IsMapReadFault e
       → OutputMade outfile files files' ⊎ ((names_maps ≡ true) × AllStand files files')
-  -- before that every file stands
+  -- before the output is open every file stands
   pub stand : IsBeforeReads e → (IsAfterOutput e → ⊥) → (IsMapReadFault e → ⊥) → AllStand files files'

@@ -98,14 +98,14 @@ pub record IsBeforeSweep (e : Ending) : Type 0 where
   pub room : e ≢ NoMemory
   pub call : (call : SiteCall) (earlier : Option Stop) → e ≡ SiteFault call earlier → IsOfOpening call
 
--- By the answer: where the files tell, a filling with such an answer leaves every file as it was, but that an absent
--- output may be made, empty.
+-- Where the files tell, a filling with an answer that comes before a sweep leaves every file as it was, but that an
+-- absent output may be made, empty.
 abbrev pub RefusedFillLeaves : Type 0
 RefusedFillLeaves = (t : Told) (types : TypeSet) (c : Command) (d : Ddrescue t) → AskTask t.words (Fill types c)
     → IsTrue t.before.site.tells → IsBeforeSweep t.answer
     → AllStand (files_of t) (files_in t.after.site) ⊎ OutputMade c.outfile (files_of t) (files_in t.after.site)
 
--- By the answer: where the files tell, a generating with such an answer leaves every file as it was.
+-- Where the files tell, a generating with an answer that comes before a sweep leaves every file as it was.
 abbrev pub RefusedGenerateLeaves : Type 0
 RefusedGenerateLeaves = (t : Told) (c : Command) (d : Ddrescue t) → AskTask t.words (Generate c)
     → IsTrue t.before.site.tells → IsBeforeSweep t.answer → AllStand (files_of t) (files_in t.after.site)
@@ -157,7 +157,7 @@ pub record LeavesFilled (t : Told) (s : Setting) (types : TypeSet) (buffer : Lis
   pub elsewhere : (y : ℕ) → y < length (bytes_of (files_of t s.outfile)) → HasNoPiece s pieces y
       → slice_get (bytes_of (files_in t.after.site s.outfile)) y ≡ slice_get (bytes_of (files_of t s.outfile)) y
 
--- Where the files tell, a filling that is done leaves that.
+-- Where the files tell, a filling that is done leaves what `LeavesFilled` says.
 abbrev pub DoneIsFilled : Type 0
 DoneIsFilled = (t : Told) (types : TypeSet) (c : Command) (d : Ddrescue t) (asks : AskTask t.words (Fill types c))
     → IsTrue t.before.site.tells → t.answer ≡ Done
@@ -177,7 +177,7 @@ pub record LeavesGenerated (t : Told) (s : Setting) (pieces : List Swept) : Type
       → Has statuses Finished x ⊎ ((b : ℕ) × (slice_get (bytes_of (files_of t s.outfile)) (place s x) ≡ Some b))
   pub output : bytes_of (files_in t.after.site s.outfile) ≡ bytes_of (files_of t s.outfile)
 
--- Where the files tell, a generating that is done leaves that.
+-- Where the files tell, a generating that is done leaves what `LeavesGenerated` says.
 abbrev pub DoneIsGenerated : Type 0
 DoneIsGenerated = (t : Told) (c : Command) (d : Ddrescue t) (asks : AskTask t.words (Generate c))
     → IsTrue t.before.site.tells → t.answer ≡ Done

@@ -81,7 +81,7 @@ modes_conflict items = later_word (first_word fill_letter items) (first_word gen
 abbrev pub is_mode_given : List Item → Bool
 is_mode_given items = is_given option_meanings fill_letter items || is_given option_meanings generate_letter items
 
--- A test map goes with neither: the word of the first one.
+-- A test map goes with no mode: the word of the first one, if a mode is given.
 abbrev pub test_conflict : List Item → Option ℕ
 test_conflict items = if is_mode_given items then first_word test_letter items else None
 
@@ -89,7 +89,7 @@ test_conflict items = if is_mode_given items then first_word test_letter items e
 abbrev pub goes_with_sample : Item → Bool
 goes_with_sample i = nat_eq i.row sample_place || is_of option_meanings quiet_letter i
 
--- the word of the first option that doesn't
+-- the word of the first option that doesn't go with a sample
 abbrev pub sample_conflict : List Item → Option ℕ
 sample_conflict items = option_map (λ i. i.word) (find (λ i. not (goes_with_sample i)) items)
 
@@ -157,7 +157,7 @@ abbrev pub task_with : List (List ℕ) → List Item → Options → (sample : O
 task_with words items o None operands = files_task o (command_with words (maps_in words items) o operands)
 task_with words items o (Some kib) operands = sample_task kib o.quiet operands
 
--- unless an option doesn't go with others
+-- a task or its fault, unless an option doesn't go with others
 abbrev pub unless_conflict : Option ℕ → Result Task UsageFault → Result Task UsageFault
 unless_conflict (Some n) r = Err (Conflict n)
 unless_conflict None r = r
@@ -199,11 +199,11 @@ AreOptions rows = AreOptionsOf rescue_grammar rows
 abbrev pub AskTask : List (List ℕ) → Task → Type 0
 AskTask words task = AskFor rescue_grammar words task
 
--- for this rescue
+-- the words ask for this rescue
 abbrev pub Asks : List (List ℕ) → Command → Type 0
 Asks words c = AskTask words (Rescue c)
 
--- for the rescue of a sample of `kib` KiB
+-- the words ask for the rescue of a sample of `kib` KiB
 abbrev pub AskSample : List (List ℕ) → (kib : ℕ) → (quiet : Bool) → Type 0
 AskSample words kib quiet = AskTask words (Sample kib quiet)
 

@@ -42,7 +42,7 @@ in_sectors o n = whole_sectors o.sector n
 abbrev pub default_skip : ℕ
 default_skip = 65536
 
--- how far it skips at most, in bytes, if no option says it
+-- how far copying skips at most, in bytes, if no option says it
 abbrev pub default_skip_max : ℕ
 default_skip_max = 2 ^ 30
 
@@ -167,7 +167,7 @@ lettered_rows =
 abbrev pub sample_of : Option (List ℕ) → Option ℕ
 sample_of value = option_and_then (within_range 1 65536) (number_by value)
 
--- the option that has none: the size of a sample
+-- the option that has no letter: the size of a sample
 abbrev pub sample_row : OptionRow Options
 sample_row = record {
   letter = None;

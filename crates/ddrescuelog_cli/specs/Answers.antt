@@ -113,20 +113,20 @@ FitsUsage PlaceTooLarge c = looks_at_places c.mode ≡ true
 abbrev pub Untaken : (old new : FeedState) → Type 0
 Untaken old new = new ≡ old
 
--- some of it was, from its front on
+-- some of the feed was taken, from its front on
 abbrev pub TookFront : (old new : FeedState) → Type 0
 TookFront old new = IsTrue old.tells → (front : List ℕ) × (old.left ≡ front ++ new.left)
 
--- all of it was
+-- all of the feed was taken
 abbrev pub AllTaken : (old new : FeedState) → Type 0
 AllTaken old new = IsTrue old.tells → new.left ≡ []
 
--- more than a list may have was
+-- more than a list may have was taken from the feed
 abbrev pub TooMuchTaken : (old new : FeedState) → Type 0
 TooMuchTaken old new = IsTrue old.tells
     → (front : List ℕ) × (old.left ≡ front ++ new.left) × (list_limit < length front)
 
--- by the call that failed: the maps are read before the list is taken
+-- what was taken from the feed before a call that failed: the maps are read before the list is taken
 abbrev pub TakenBefore : SiteCall → (old new : FeedState) → Type 0
 TakenBefore ImageOpen old new = ⊥
 TakenBefore ImageRead old new = ⊥
@@ -142,17 +142,17 @@ TakenBefore MapRemove old new = ⊥
 
 -- ---- what an answer means
 
--- For which commands it comes, what a map to be created took of the feed by then, and whether a draft is left begun.
+-- The commands an answer is for, what a map to be created took of the feed by then, and whether a draft is left begun.
 pub record Meaning : Type 1 where
   pub fits : Command → Type 0
   pub takes : (old new : FeedState) → Type 0
   pub drafting : Bool
 
--- no draft is left
+-- the meaning of an answer after which no draft is left
 abbrev pub means : (Command → Type 0) → ((old new : FeedState) → Type 0) → Meaning
 means fits takes = record { fits = fits; takes = takes; drafting = false }
 
--- a map to be created has no such answer
+-- for an answer that a map to be created never has
 abbrev pub never : (old new : FeedState) → Type 0
 never old new = ⊥
 
@@ -186,7 +186,7 @@ FitsCommand e c = (meaning_of e).fits c
 abbrev pub TakesAs : LogEnding → (old new : FeedState) → Type 0
 TakesAs e old new = (meaning_of e).takes old new
 
--- only a map to be created takes anything
+-- only a map to be created takes anything from the feed
 abbrev pub TakesFeed : (creates_map : Bool) → LogEnding → (old new : FeedState) → Type 0
 TakesFeed true e old new = TakesAs e old new
 TakesFeed false e old new = Untaken old new

@@ -47,7 +47,7 @@ abbrev pub DidAsk : {T : Type 0} → (forced : Bool) → (name : List ℕ) → O
 DidAsk forced name file (Ok x) calls = IsFree forced name file calls
 DidAsk forced name file (Err e) calls = UnlessThere forced name file (λ e d. ⊥) e (only_calls calls)
 
--- There is a file that it found, and calls, which are the site's own where it tells; and files read as they did.
+-- What the question for a file found and its calls are the site's own where it tells; and files read as they did.
 pub record AsksIfThere {T : Type 0} (forced : Bool) (name : List ℕ) (result : Result T LogEnding)
     (old new : SiteState) : Type 0 where
   pub file : Option File

@@ -30,12 +30,12 @@ use Rattle.ddrescuelog_cli.specs.Ddrescuelog.{Ddrescuelog, log_program}
 abbrev pub IsVerdict : LogEnding → Type 0
 IsVerdict e = IsVerdictOf log_program e
 
--- The work over some maps has one such answer at most.
+-- The work over some maps has one verdict at most.
 abbrev pub HasOneVerdict : Type 0
 HasOneVerdict = (c : Command) (line list : List ℕ) (found : Found) (m : Maps) (e e' : LogEnding) (d d' : Deeds)
     → LogWorks c line list found m e d → LogWorks c line list found m e' d' → IsVerdict e → IsVerdict e' → e ≡ e'
 
--- So have words, files and a list, whatever maps two calls went by.
+-- Words, files and a list have one verdict at most, whatever maps two calls went by.
 abbrev pub FilesHaveOneVerdict : Type 0
 FilesHaveOneVerdict = (c : Command) (line list : List ℕ) (found : Found) (m m' : Maps) (e e' : LogEnding)
     (d d' : Deeds) → AreMapsOf c found m → AreAskedFor c m → AreMapsOf c found m' → AreAskedFor c m'

@@ -73,7 +73,7 @@ shown_line shown =
 abbrev pub domain_line : ℕ → List ℕ
 domain_line n = with_newline (codes "domain " ++ decimal n ++ codes " B")
 
--- `non-tried 0 B in 0 areas`: how much of them has a status
+-- `non-tried 0 B in 0 areas`: how much of what is examined has a status
 abbrev pub count_line : Status → Count → List ℕ
 count_line status k =
     with_newline

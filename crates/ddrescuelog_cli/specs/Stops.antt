@@ -42,7 +42,7 @@ Replaces (Test false) c line list m found = ⊥
 Replaces (Compare finished) c line list m found = ⊥
 Replaces Summarize c line list m found = ⊥
 
--- a mode that does so
+-- a mode that changes what is in the place of the mapfile
 abbrev pub IsChanging : LogMode → Type 0
 IsChanging (Change change) = ⊥
 IsChanging (Combine op) = ⊥
@@ -60,15 +60,15 @@ pub record StopsSafely (c : Command) (line list : List ℕ) (m : Maps) (site : S
   -- under the mapfile's name stands what could be found there before, or what the mode leaves in its place, whole
   pub mapfile : (k : ℕ) (files : List ℕ → Option File) → k ≤ length calls → LeftAt site calls k files
       → CouldBefore site c.mapfile (files c.mapfile) ⊎ Replaces c.mode c line list m (files c.mapfile)
-  -- and once the call has answered that it is done, only that
+  -- once the call has answered that it is done, only what the mode leaves stands under the mapfile's name
   pub kept : (files : List ℕ → Option File) → answer ≡ Done → IsChanging c.mode → LeftAt site calls (length calls) files
       → Replaces c.mode c line list m (files c.mapfile)
-  -- every other file could be found so before, except the draft of a map that is created
+  -- every file but the mapfile, and the draft of a map that is created, could be found so before
   pub others : (k : ℕ) (files : List ℕ → Option File) (name : List ℕ) → k ≤ length calls → LeftAt site calls k files
       → name ≢ c.mapfile → (creates c.mode ≡ true → name ≢ (names_of c.mapfile).draft)
       → CouldBefore site name (files name)
 
--- For a mode that only reads this says: at whatever moment it is stopped, everything is found as it could be before.
+-- a mode that only reads: at whatever moment it is stopped, everything is found as it could be before
 abbrev pub OnlyReads : LogMode → Type 0
 OnlyReads mode = IsChanging mode → ⊥
 

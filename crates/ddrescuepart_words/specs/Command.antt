@@ -61,7 +61,7 @@ command_read words r = command_in words r.items.items r.operands.items
 abbrev pub part_grammar : Grammar Command
 part_grammar = record { options = option_meanings; quiet = quiet_letter; asked = command_in }
 
--- rows of a table that are its options
+-- rows of a table that are the options of `ddrescuepart`
 abbrev pub AreOptions : List Row → Type 0
 AreOptions rows = AreOptionsOf part_grammar rows
 

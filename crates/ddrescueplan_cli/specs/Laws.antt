@@ -13,7 +13,7 @@ use Rattle.ddrescueplan_cli.specs.Ddrescueplan.{plan_program}
 abbrev pub IsVerdict : PlanEnding → Type 0
 IsVerdict e = IsVerdictOf plan_program e
 
--- A test map's file leads to one such answer at most.
+-- A command and a test map's file lead to at most one answer that is a verdict.
 abbrev pub HasOneVerdict : Type 0
 HasOneVerdict = (c : Command) (file : Option File) (e e' : PlanEnding) (d d' : Deeds) → PlanWorks c file e d
     → PlanWorks c file e' d' → IsVerdict e → IsVerdict e' → e ≡ e'

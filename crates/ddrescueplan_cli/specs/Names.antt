@@ -1,6 +1,6 @@
 -- The program's own name.
 use Rattle.std.specs.Prelude.{ℕ, List, codes}
 
--- which begins its messages
+-- the program's name, which begins its messages
 abbrev pub program_name : List ℕ
 program_name = codes "ddrescueplan"

@@ -126,12 +126,12 @@ ShowKeepsPromises = (terminal : Bool) → KeepsPromises (show_program terminal)
 abbrev pub IsVerdict : ShowEnding → Type 0
 IsVerdict e = IsVerdictKind (row_of e).kind
 
--- The files lead to one such answer at most.
+-- A command and the files found lead to at most one answer that is a verdict.
 abbrev pub HasOneVerdict : Type 0
 HasOneVerdict = (c : Command) (found : Found) (e e' : ShowEnding) (d d' : Deeds) → ShowWorks c found e d
     → ShowWorks c found e' d' → IsVerdict e → IsVerdict e' → e ≡ e'
 
--- Whatever is asked for, and however it ends, all files read as they did.
+-- If the files tell, all of them read as they did, whatever is asked for and however the call ends.
 abbrev pub FilesStand : Type 0
 FilesStand = (terminal : Bool) (t : Told ShowEnding) (c : Command) → Ddrescueshow terminal t → Asks t.words c
     → IsTrue t.before.site.tells → (name : List ℕ) → files_in t.after.site name ≡ files_in t.before.site name

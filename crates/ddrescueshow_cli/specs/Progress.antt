@@ -90,12 +90,12 @@ rate_between earlier later =
 abbrev pub over_text : (text : List ℕ) → List ℕ
 over_text text = 13 ∷ [] ++ text ++ replicate (columns - length text) 32
 
--- what is put of such a line: on a terminal over the one before it, and else as a line
+-- what is put of a line of progress: on a terminal over the one before it, and else as a line
 abbrev pub shown_text : (terminal : Bool) → (text : List ℕ) → List ℕ
 shown_text true text = over_text text
 shown_text false text = text ++ 10 ∷ []
 
--- what is put of another line: it passes unchanged, after blanks over such a line that is up, and a return
+-- what is put of a line without figures: it passes unchanged, after blanks over progress that is up, and a return
 abbrev pub passed_text : (is_up : Bool) → (line : List ℕ) → List ℕ
 passed_text true line = over_text [] ++ 13 ∷ [] ++ line
 passed_text false line = line

@@ -107,7 +107,7 @@ pub record Takes (came : List ℕ) (feed feed' : FeedState) : Type 0 where
   pub tells : feed'.tells ≡ feed.tells
   pub taken : IsTrue feed.tells → feed.left ≡ came ++ feed'.left
 
--- It broke off before the end of the feed was found. After a take that failed no whole line is left.
+-- A call broke off before the end of the feed was found. After a take that failed no whole line is left.
 pub record BreaksOff (terminal : Bool) (e : FollowEnding) (feed feed' : FeedState) (old : Stage)
     (console' : ConsoleState) : Type 0 where
   pub came : List ℕ
@@ -118,7 +118,7 @@ pub record BreaksOff (terminal : Bool) (e : FollowEnding) (feed feed' : FeedStat
   pub undone : e ≢ Done
   pub unfinished : e ≡ FeedFault → IsUnfinished line
 
--- It came to the end of the feed, and all was put, or a put failed.
+-- A call came to the end of the feed, and all was put, or a put failed.
 pub record ComesToEnd (terminal : Bool) (e : FollowEnding) (feed feed' : FeedState) (old : Stage)
     (console' : ConsoleState) : Type 0 where
   pub came : List ℕ
@@ -128,7 +128,7 @@ pub record ComesToEnd (terminal : Bool) (e : FollowEnding) (feed feed' : FeedSta
   pub is : e ≡ ending_of heard
   pub puts : PutsLast terminal came heard old console'
 
--- one of both, before the message
+-- how a call goes before the message: it broke off, or came to the end of the feed
 abbrev pub Goes : (terminal : Bool) → FollowEnding → (feed feed' : FeedState) → Stage → ConsoleState → Type 0
 Goes terminal e feed feed' old console' =
     BreaksOff terminal e feed feed' old console' ⊎ ComesToEnd terminal e feed feed' old console'

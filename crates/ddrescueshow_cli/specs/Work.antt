@@ -70,7 +70,7 @@ show_rows c found =
     ∷ (map_rows RunMap Tight (Some c.mapfile) found.mapfile
     ++ map_rows DomainMap (map_mode c.options.loose) c.domain_map found.domain ++ Take ∷ [])
 
--- After them nothing more is done on the files: the picture is put, or the console fails.
+-- After the rows nothing more is done on the files: the picture is put, or the console fails.
 abbrev pub PutsAll : ShowEnding → Deeds → Type 0
 PutsAll e d = ((e ≡ Done) ⊎ (e ≡ ConsoleFault)) × IsIdle d
 

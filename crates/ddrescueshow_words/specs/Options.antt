@@ -38,7 +38,7 @@ lettered_rows =
     ∷ valued 115 (codes "size") (λ sector o value. option_map (λ n. record o { size = Some n }) (size_by sector value))
     ∷ []
 
--- one that has none and takes a value
+-- an option that has no letter and takes a value
 abbrev pub unlettered : List ℕ → (ShowOptions → Option (List ℕ) → Option ShowOptions) → OptionRow ShowOptions
 unlettered name sets = record { letter = None; name = name; takes = Always; sets = λ sector o value. sets o value }
 

@@ -23,11 +23,11 @@ output_from o = unwrap_or o.output_position o.input_position
 abbrev pub domain_asked : VerifyOptions → (end : ℕ) → ℕ → Bool
 domain_asked o end = whole_domain o.input_position o.size end
 
--- one of these positions would end in the output at 2^63 or past it
+-- one of the positions that are asked for would end in the output at 2^63 or past it
 abbrev pub IsBeyond : VerifyOptions → (end : ℕ) → Type 0
 IsBeyond o end = IsAnyBeyond (domain_asked o end) o.input_position (output_from o)
 
--- what is compared, where the mapfile stands for this map: what it calls finished of these positions
+-- what is compared, where the mapfile stands for this map: what it calls finished of the positions asked for
 abbrev pub plan_of : VerifyOptions → (end : ℕ) → List Status → ComparisonPlan
 plan_of o end statuses = record {
   compared = compared_in (domain_asked o end) statuses;

@@ -59,7 +59,7 @@ abbrev pub VerifyWorks : Command → Outside → VerifyEnding → Deeds → Type
 VerifyWorks c o e d =
     Works verify_faults (verify_rows c o.found o.end) (Verifies c o.line o.found o.end o.looks) e d
 
--- An outside leads to one such answer at most.
+-- A command and an outside lead to at most one answer that is a verdict.
 abbrev pub HasOneVerdict : Type 0
 HasOneVerdict = (c : Command) (o : Outside) (e e' : VerifyEnding) (d d' : Deeds) → VerifyWorks c o e d
     → VerifyWorks c o e' d' → IsVerdict e → IsVerdict e' → e ≡ e'
@@ -80,7 +80,7 @@ abbrev pub JudgedIsByPosition : Type 0
 JudgedIsByPosition = (statuses : List Status) (looks : List Look) → AreWithin statuses looks
     → IsJudged looks statuses (judged_by statuses looks)
 
--- What it calls finished was finished before, and no piece that differs has it.
+-- What the map after looks calls finished was finished before, and no piece that differs has it.
 abbrev pub NothingBecomesFinished : Type 0
 NothingBecomesFinished = (statuses : List Status) (looks : List Look) (x : ℕ) → AreWithin statuses looks
     → Has (judged_by statuses looks) Finished x → Has statuses Finished x × (is_doubted looks x ≡ false)

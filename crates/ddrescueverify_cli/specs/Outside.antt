@@ -42,6 +42,6 @@ pub record Agrees (c : Command) (o : Outside) (did : Deeds) (a : Across) : Type 
   -- if the files tell, they are the ones found, and the calls are their own;
   pub found : IsTrue a.site.tells → o.found ≡ found_in c (files_in a.site)
   pub calls : IsTrue a.site.tells → a.site'.calls ≡ a.site.calls ++ did.gain.calls
-  -- and what each look saw in the image is what the output has there.
+  -- if the files tell, what each look saw in the image is what the output has there.
   pub seen : IsTrue a.site.tells
       → o.looks ≡ map (seen_in (bytes_of (files_in a.site c.outfile)) (place_by c)) (reads_of o.looks)

@@ -45,7 +45,7 @@ abbrev pub OpensOutput : {T : Type 0} → (outfile : List ℕ) → Result T Veri
 OpensOutput outfile result old new =
     DidPart verify_faults (output_rows outfile) (files_in old outfile) (λ x file. ⊤) result old new
 
--- why it isn't open, by the count of failed calls
+-- why the output isn't open, by the count of failed calls
 abbrev pub OutputCause : VerifyEnding → (faults faults' : ℕ) → Type 0
 OutputCause e faults faults' = ((e ≡ NoOutput) × (faults' ≡ faults)) ⊎ ((e ≡ SiteFault ImageOpen) × Rose faults faults')
 
@@ -58,7 +58,7 @@ abbrev pub Loads : (mapfile : List ℕ) → (end : ℕ) → Result LoadedMap Ver
 Loads mapfile end result old new =
     DidPart verify_faults (load_rows mapfile) (files_in old mapfile) (StandsAs end) result old new
 
--- why there is no map, by the count of failed calls
+-- why no map was loaded from the mapfile, by the count of failed calls
 abbrev pub LoadCause : VerifyEnding → (faults faults' : ℕ) → Type 0
 LoadCause e faults faults' =
     ((e ≡ NoMemory) × (faults' ≡ faults))
@@ -85,7 +85,7 @@ pub record SavesText {T : Type 0} (names : MapNames) (text : List ℕ) (result :
   pub gained : IsTrue old.tells → new.calls ≡ old.calls ++ calls
   pub did : Did verify_faults (Make (save_calls names text) ∷ []) (λ x. ⊤) result calls
 
--- why it wasn't saved: a call of the save failed, after which a draft may be left begun
+-- why a text wasn't saved: a call of the save failed, after which a draft may be left begun
 abbrev pub SaveCause : VerifyEnding → (old new : SiteState) → Type 0
 SaveCause e old new =
     (call : SiteCall) × (e ≡ SiteFault call) × Rose old.faults new.faults

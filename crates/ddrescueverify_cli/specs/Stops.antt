@@ -47,18 +47,18 @@ pub record StopsSafely (c : Command) (line : List ℕ) (o : Outside) (did : Deed
   pub before : (k : ℕ) (files : List ℕ → Option File) (name : List ℕ) → k ≤ length did.gain.calls
       → LeftAt site did.gain.calls k files → has_barrier (take k did.gain.calls) ≡ false
       → CouldBefore site name (files name)
-  -- from then on the output is found as it was,
+  -- once the barrier has returned, the output is found as it was
   pub output : (k : ℕ) (files : List ℕ → Option File) → k ≤ length did.gain.calls
       → LeftAt site did.gain.calls k files → has_barrier (take k did.gain.calls) ≡ true
       → files c.outfile ≡ files_in site c.outfile
-  -- and the mapfile as it was, or the new one, whole;
+  -- once the barrier has returned, the mapfile is found as it was, or as the new one, whole
   pub mapfile : (k : ℕ) (files : List ℕ → Option File) → k ≤ length did.gain.calls
       → LeftAt site did.gain.calls k files → has_barrier (take k did.gain.calls) ≡ true
       → (files c.mapfile ≡ files_in site c.mapfile) ⊎ IsVerifiedMap c line o site (files c.mapfile)
-  -- once the call has answered that it is done, or that something differs, the new one.
+  -- once the call has answered that it is done, or that something differs, the mapfile is the new one
   pub kept : (files : List ℕ → Option File) → is_saved answer ≡ true
       → LeftAt site did.gain.calls (length did.gain.calls) files → IsVerifiedMap c line o site (files c.mapfile)
-  -- Any other file could be found so before, except the draft.
+  -- Any file except the output, the mapfile and its draft could be found so before.
   pub others : (k : ℕ) (files : List ℕ → Option File) (name : List ℕ) → k ≤ length did.gain.calls
       → LeftAt site did.gain.calls k files → name ≢ c.outfile → name ≢ c.mapfile
       → name ≢ (names_of c.mapfile).draft → CouldBefore site name (files name)

@@ -55,7 +55,7 @@ answer_of_halt NoRoom = NoMemory
 answer_of_halt InputLost = SourceLost
 answer_of_halt ImageFault = SiteFault ImageRead
 
--- what is answered where it came to its end: whether a piece differs, and how many bytes of such there are
+-- what is answered where the comparison came to its end: whether a piece differs, and how many bytes of such there are
 abbrev pub answer_of_tally : Tally → VerifyEnding
 answer_of_tally t = if nat_eq t.differing 0 then Done else Differs t.differing
 

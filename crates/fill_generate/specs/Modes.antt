@@ -16,7 +16,7 @@ abbrev pub takes_in : SweepMode → Status → Bool
 takes_in (Fill types) status = has_type types status
 takes_in Generate status = same NonTried status
 
--- what a mapfile shows meanwhile
+-- what a mapfile shows during a sweep of a mode
 abbrev pub current_in : SweepMode → Current
 current_in (Fill types) = Filling
 current_in Generate = Generating

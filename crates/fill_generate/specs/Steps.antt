@@ -164,7 +164,7 @@ pub record LooksUp (piece : Piece) (r r' : SweepState) (site site' : SiteState) 
   pub told : IsTrue site.tells
       → got ≡ take piece.len (drop (place (setting_of r) piece.pos) (bytes_of (image_in site)))
 
--- memory ran out before it, or its read failed
+-- memory ran out before a piece was looked up, or its read failed
 pub data LooksNot (stop : Stop) (piece : Piece) (r : SweepState) (site site' : SiteState) : Type 0 where
   NoRoom : stop ≡ NoMemory → site' ≡ site → LooksNot stop piece r site site'
   NoRead : stop ≡ Site ImageRead

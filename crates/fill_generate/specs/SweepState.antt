@@ -33,7 +33,7 @@ setting_for settings domain names line = setting_with settings domain (Some name
 abbrev pub setting_of : SweepState → Setting
 setting_of r = setting_for r.settings r.domain r.names r.line
 
--- where it stands, from its parts
+-- where a sweep stands, from its parts
 abbrev pub sweep_at : List Status → (cursor : ℕ) → Tally → Sweep
 sweep_at map cursor tally = record { map = map; cursor = cursor; tally = tally }
 

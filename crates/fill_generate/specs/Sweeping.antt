@@ -36,7 +36,7 @@ pub record Around : Type 0 where
   pub console : ConsoleState
   pub console' : ConsoleState
 
--- the record of these
+-- the record of the files, the clock and the console, before something was done and after it
 abbrev pub around : SiteState → SiteState → ClockState → ClockState → ConsoleState → ConsoleState → Around
 around site site' clock clock' console console' = record {
   site = site;
@@ -120,7 +120,7 @@ module _ (s : Setting) (w : Sweeper) (m : Sweep) where
     pub sweeps : SweepTold heard heard' end o
     pub given : IsTrue o.site.tells → IsApart s.names o.site → AreGiven s (bytes_of (image_in o.site)) sweeps.events
 
--- law: where the site tells, its record goes on with the calls of such a sweep
+-- law: where the site tells, its record goes on with the calls of a sweep that ended
 abbrev pub EndsAreTold : Type 0
 EndsAreTold = (s : Setting) (w : Sweeper) (m : Sweep) (es : List Swept) (end : RunEnd) (site site' : SiteState)
     → EndsSweep s w m es end site site' → IsTrue site.tells

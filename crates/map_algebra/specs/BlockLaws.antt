@@ -24,7 +24,7 @@ pub record ListingGoesOn (w : Wanted) : Type 0 where
   pub goes_on : (least k : ℕ) → IsFirst (IsListed w) least k → listed_from w least ≡ k ∷ listed_from w (k + 1)
   pub ends : (least : ℕ) → ((k : ℕ) → least ≤ k → IsListed w k → ⊥) → listed_from w least ≡ []
 
--- this holds of all that may be listed
+-- the listed numbers can be taken one by one, each time the first that is left, whatever is wanted
 abbrev pub ListingsGoOn : Type 0
 ListingsGoOn = (w : Wanted) → ListingGoesOn w
 
@@ -42,7 +42,7 @@ pub record CreatedHas (s : Shape) (ks : List ℕ) (domain : ℕ → Bool) (liste
   pub outside : (x : ℕ) → x < end → domain x ≡ false → Has (created_map s ks domain listed rest end) NonTried x
   pub size : length (created_map s ks domain listed rest end) ≡ end
 
--- this holds of all created maps
+-- in each created map, positions of the domain have one status in the listed blocks, and another elsewhere
 abbrev pub CreatedHaveBlocks : Type 0
 CreatedHaveBlocks =
     (s : Shape) (ks : List ℕ) (domain : ℕ → Bool) (listed rest : Status) (end : ℕ)

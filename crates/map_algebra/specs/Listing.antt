@@ -47,7 +47,7 @@ pub record ListingState : Type 0 where
   pub shape : Shape
   pub least : ℕ
 
--- what it lists of a map and a domain
+-- what a listing lists of a map and a domain
 abbrev pub wanted_of : ListingState → (domain : ℕ → Bool) → List Status → Wanted
 wanted_of s domain statuses =
     record { domain = domain; types = s.types; shape = s.shape; statuses = statuses }

@@ -11,11 +11,11 @@ use Rattle.map_algebra.specs.declared.numbers.NumberError.TheVariants.{BadNumber
 abbrev pub list_limit : ℕ
 list_limit = 268435456
 
--- the block of a number ends below the limit
+-- the input position and the end in the output of a number's block add up to less than 2^63
 abbrev pub IsInRange : Shape → ℕ → Type 0
 IsInRange s k = k * s.size + s.size + s.ipos < 2 ^ 63
 
--- a number, if its block ends below the limit
+-- a number, if the input position and the end in the output of its block add up to less than 2^63
 abbrev pub in_range : Shape → ℕ → Option ℕ
 in_range s k = if nat_lt (k * s.size + s.size + s.ipos) (2 ^ 63) then Some k else None
 

@@ -27,6 +27,6 @@ pub record OpenLine : Type 0 where
   pub more : List (List ℕ)
   pub after : List Line
 
--- the line that it is, with its first field and those that are left
+-- the line that is taken field by field, with its first field and those that are left
 abbrev pub line_of : OpenLine → Line
 line_of l = record { number = l.number; fields = l.first ∷ l.more }

@@ -33,7 +33,7 @@ heading_parts h s =
     ∷ with_newline (codes "# current_pos  current_status  current_pass") ∷ state_line s
     ∷ with_newline (codes "#      pos        size  status") ∷ []
 
--- how many of them come before a part: all nine if it is a line of the map
+-- how many of the heading's parts come before a part: all nine if it is a line of the map
 abbrev pub number_of : TextPart → ℕ
 number_of ProgramLine = 0
 number_of Label = 1

@@ -89,7 +89,7 @@ abbrev pub IsErrorBy : {C : Type 0} → Grammar C → List (List ℕ) → Comman
 IsErrorBy g words (Usage fault quiet) = IsRefusalBy g words fault quiet
 IsErrorBy g words NoMemory = ⊤
 
--- unless an operand is empty, which is refused after a wrong number of them
+-- what is asked for, unless an operand is empty, which is refused if there is no fault before it
 abbrev pub unless_empty : {C : Type 0} → Option ℕ → Result C UsageFault → Result C UsageFault
 unless_empty o (Err fault) = Err fault
 unless_empty None (Ok c) = Ok c

@@ -83,12 +83,12 @@ letters_meaning rows n at (c ∷ cs) =
 abbrev pub equals_sign : List ℕ → Option ℕ
 equals_sign text = position (λ b. nat_eq b 61) text
 
--- the name before it, or all of the text
+-- the name before the first `=`, or all of the text if it has none
 abbrev pub name_before : Option ℕ → List ℕ → List ℕ
 name_before None text = text
 name_before (Some k) text = take k text
 
--- the value after it; the text comes after two hyphens
+-- the value after the first `=`, if there is one, of a text that comes after two hyphens
 abbrev pub value_after : ℕ → Option ℕ → Option Spot
 value_after n None = None
 value_after n (Some k) = Some (record { word = n; from = k + 3 })

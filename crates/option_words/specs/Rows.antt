@@ -48,7 +48,7 @@ chosen_of (Some row) begun count = One row
 chosen_of None None count = Unknown
 chosen_of None (Some row) count = if nat_eq count 1 then One row else Several
 
--- by the rows of a table
+-- the row that a long name means, by the rows of a table
 abbrev pub chosen_by_name : List Row → List ℕ → Choice
 chosen_by_name rows name =
     chosen_of (first_row (has_name name) 0 rows) (first_row (begins_with name) 0 rows)

@@ -31,7 +31,7 @@ share_nothing row other = not (share_letter row.short other.short) && not (bytes
 abbrev pub fits_table : Row → List Row → Bool
 fits_table row rows = letter_fits row.short && name_fits row.long.now && list_all (share_nothing row) rows
 
--- each row fits
+-- rows are a table of options: the letter and name of each may be an option's, and no two rows share either
 abbrev pub is_table : List Row → Bool
 is_table [] = true
 is_table (row ∷ rows) = fits_table row rows && is_table rows

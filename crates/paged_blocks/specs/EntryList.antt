@@ -13,6 +13,6 @@ abbrev pub listed_entries : Inside → EntryList
 listed_entries e =
     record { items = e.front.items ++ reverse e.back.items; room = min (vec_capacity e.front) (vec_capacity e.back) }
 
--- there is room for all on each side
+-- there is room for all entries on each side of the gap
 pub record HasRoomForAll (e : Inside) : Type 0 where
   pub fits : vec_len e.front + vec_len e.back ≤ min (vec_capacity e.front) (vec_capacity e.back)

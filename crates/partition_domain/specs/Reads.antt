@@ -95,7 +95,7 @@ said_of Protective = (2, codes "protective partition table")
 said_of NoPartition = (1, codes "no such partition")
 said_of ChainTooLong = (2, codes "chain too long")
 
--- What it says of the records that were read for partition k.
+-- What a refusal says of the records that were read for partition k.
 abbrev pub RefusedBy : Refusal → (k : ℕ) → (records : List (List ℕ)) → Type 0
 RefusedBy (Unread sector) k records = IsUnread k records sector
 RefusedBy (NoSignature sector) k records = LacksSignature k records sector
@@ -103,8 +103,8 @@ RefusedBy Protective k records = IsDiskProtected records
 RefusedBy NoPartition k records = LacksPartition k records
 RefusedBy ChainTooLong k records = IsChainTooLong k records
 
--- What a search that stopped says of them: the input was lost when a further record had to be read, or they are
--- refused.
+-- What a search that stopped says of the records that were read: the input was lost when a further one had to be read,
+-- or they are refused.
 abbrev pub StoppedBy : SearchStop → (k : ℕ) → (records : List (List ℕ)) → Type 0
 StoppedBy SourceLost k records = is_some (next records k) ≡ true
 StoppedBy (Refused refusal) k records = RefusedBy refusal k records

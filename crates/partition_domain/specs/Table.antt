@@ -21,7 +21,7 @@ entry_at r at = record { kind = slice_index r (at + 4); first = number_at r (at 
 abbrev pub table_entry : List ℕ → (n : ℕ) → TableEntry
 table_entry r n = entry_at r (446 + 16 * n)
 
--- all four
+-- all four entries of a record
 abbrev pub table_entries : List ℕ → List TableEntry
 table_entries r = table_entry r 0 ∷ table_entry r 1 ∷ table_entry r 2 ∷ table_entry r 3 ∷ []
 

@@ -33,7 +33,7 @@ is_silent_kind (Wrong fault) = false
 is_silent_kind (Failed at) = false
 is_silent_kind Starved = false
 
--- what is there leads to it, whatever fails
+-- what is there leads to an answer of this kind, whatever fails
 abbrev pub IsVerdictKind : Kind → Type 0
 IsVerdictKind Asked = ⊤
 IsVerdictKind Brought = ⊤
@@ -41,7 +41,7 @@ IsVerdictKind (Wrong fault) = ⊥
 IsVerdictKind (Failed at) = ⊥
 IsVerdictKind Starved = ⊥
 
--- nothing failed, and the words ask for something
+-- an answer of this kind is neither for a fault of the words nor for a failed call
 abbrev pub IsNoFaultKind : Kind → Type 0
 IsNoFaultKind Asked = ⊤
 IsNoFaultKind Brought = ⊤

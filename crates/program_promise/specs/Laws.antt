@@ -54,7 +54,7 @@ module _ {C E O : Type 0} (p : Program C E O) where
       → Works p.faults (p.rows c o) (p.Run c line o) e' d'
       → IsVerdict p e → IsVerdict p e' → e ≡ e'
 
-  -- All of them.
+  -- All that the promise of a program means, law by law.
   pub record KeepsPromises : Type 0 where
     pub no_fault : IsNoFaultUnless
     pub brought : IsBroughtUnless

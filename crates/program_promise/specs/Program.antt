@@ -24,7 +24,7 @@ pub record Program (C E O : Type 0) : Type 1 where
   -- the work: its rows, and what is run after them, where the command line may be shown;
   pub rows : C → O → List (WorkStep E)
   pub Run : C → (line : List ℕ) → O → E → Deeds → Type 0
-  -- that what was found and done is what the objects tell, before and after it;
+  -- that what was found and done is what the objects tell, before and after the work;
   pub Agrees : C → O → Deeds → (old new : WorldState) → Type 0
   -- what the work leaves: what is put on standard output, where the command line may be shown, and whatever the answer
   -- says besides of the feed, of the files and of what a stop may find;

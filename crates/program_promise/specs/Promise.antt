@@ -36,7 +36,7 @@ module _ {C E O : Type 0} (p : Program C E O) where
     pub work : Works p.faults (p.rows c outside) (p.Run c line outside) e did
     pub leaves : p.Leaves c line outside e did old new
 
-  -- The same, with the cause that the answer's row says, and with what stays.
+  -- What was done for a command, with the cause that the answer's row says, and with what stays.
   pub record Worked (c : C) (words : List (List ℕ)) (e : E) (old new : WorldState) : Type 0 where
     pub done : DoneFor c (line_by p words) e old new
     pub cause : Changed (changes_of (kind_of p e)) old new
@@ -54,7 +54,7 @@ module _ {C E O : Type 0} (p : Program C E O) where
     pub nothing : ((c : C) → AskFor p.grammar words c → ⊥) → new ≡ old
     pub keeps : p.Keeps e old new
 
-  -- The same before any message of the answer; `quiet` says whether nothing is to be said.
+  -- What was done for the words of a call before any message of the answer; `quiet` says whether nothing is to be said.
   pub record IsDone (words : List (List ℕ)) (e : E) (quiet : Bool) (old new : WorldState) : Type 0 where
     pub does : Does words e old new
     -- Nothing is to be said only if the words ask for that. Something is to be said though they ask for that only if
@@ -86,5 +86,5 @@ module _ {C E O : Type 0} (p : Program C E O) where
     pub asked_for : (c : C) → AskFor p.grammar t.words c → DoneFor c (line_by p t.words) t.answer t.before between
     pub nothing : ((c : C) → AskFor p.grammar t.words c → ⊥) → between ≡ t.before
     pub keeps : p.Keeps t.answer t.before between
-    -- Then comes the message, if there is one.
+    -- After what is done comes the message, if there is one.
     pub says : Says t between

@@ -37,6 +37,6 @@ module _ {C E O : Type 0} (p : Program C E O) where
         → p.grammar.asked words items operands ≡ Err fault → p.HasFault fault
     -- if memory runs out at once, nothing is done;
     pub starves : (c : C) (line : List ℕ) (w : WorldState) → p.Begins w → DoneFor p c line p.faults.memory w w
-    -- and work answers what fits its command, and no fault of the words.
+    -- work answers what fits its command, and no fault of the words.
     pub work : (c : C) (line : List ℕ) (e : E) (old new : WorldState) → DoneFor p c line e old new
         → IsWorkKind (kind_of p e) × p.Fits c e

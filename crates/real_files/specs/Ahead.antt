@@ -14,11 +14,11 @@ pub record Ahead : Type 0 where
 abbrev pub holds : Ahead → (pos asked : ℕ) → Bool
 holds a pos asked = nat_le a.pos pos && nat_le (pos + asked) (a.pos + length a.bytes)
 
--- these bytes
+-- this number of the bytes held, from a position on
 abbrev pub held_at : Ahead → (pos asked : ℕ) → List ℕ
 held_at a pos asked = slice_range a.bytes (pos - a.pos) (pos - a.pos + asked)
 
--- what is held after they were given: the bytes that follow them
+-- what is held after this number of bytes from a position on were given: the bytes that follow them
 abbrev pub held_after : Ahead → (pos asked : ℕ) → Ahead
 held_after a pos asked = record a { pos = pos + asked; bytes = drop (pos - a.pos + asked) a.bytes }
 

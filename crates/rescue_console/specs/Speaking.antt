@@ -24,7 +24,7 @@ pub record PutsBroken (p : SpokenPiece) (old new : ConsoleState) : Type 0 where
   pub puts : PutsPart p.channel p.text old new
   pub one : IsTrue old.is_planned → new.plan ≡ with_call old.plan
 
--- Pieces are put in order, each by one put. One that fails is the last: after it nothing is put, on neither channel.
+-- Pieces are put in order, each by one put. One that fails is the last: after it nothing is put, on either channel.
 abbrev pub Speaks : List SpokenPiece → (old new : ConsoleState) → Type 0
 Speaks [] old new = new ≡ old
 Speaks (p ∷ ps) old new =
@@ -64,7 +64,7 @@ HeardSpeak = (ps : List SpokenPiece) (h' : Bool) (a b : ConsoleState) → Speaks
 abbrev pub OnePieceIsSaid : Type 0
 OnePieceIsSaid = (p : SpokenPiece) (a b : ConsoleState) → PutsWhole p a b → SpeaksOn (p ∷ []) true true a b
 
--- Who is heard at last has put all of it: the texts for a channel come after what was on it.
+-- Who is heard at last has put all pieces: the texts for a channel come after what was on it.
 abbrev pub SpokenIsPut : Type 0
 SpokenIsPut = (ps : List SpokenPiece) (a b : ConsoleState) → SpeaksOn ps true true a b → IsTrue a.tells
     → (channel : Channel) → (channel_of channel b).text ≡ (channel_of channel a).text ++ texts_on channel ps

@@ -39,7 +39,7 @@ Marks settings phase progress request kept map map' =
 abbrev pub Meets : Settings → Kept → Option ℕ → Type 0
 Meets settings kept end = (reading : Reading) → IsCut settings.sector reading (fetched_of kept) → end ≡ end_met reading
 
--- where the run stands then
+-- where the run stands after the read
 abbrev pub Places : Settings → Phase → Progress → Request → Turn → (top : ℕ) → (more : Bool) → Progress → Type 0
 Places settings phase progress request turn top more progress' =
     (r : RunState) (e : Event) → RunsAt settings phase progress r → IsReadOf request turn.given turn.ended e.reading
@@ -48,7 +48,7 @@ Places settings phase progress request turn top more progress' =
     (record r.machine { map = map_after (setting_in r) r.machine e.reading }) (request.pos + request.len))
     → progress' ≡ progress_of progress.pass (step (setting_in r) r.machine e)
 
--- what it has come to
+-- what the run has come to after the read
 abbrev pub Tallies : Tally → Turn → (after : ℕ) → MapState → (end : Option ℕ) → Tally → Type 0
 Tallies tally turn after shown end tally' =
     (r : RunState) (e : Event) → tally ≡ r.machine.tally → turn ≡ turn_of r e → e.after ≡ after
@@ -61,7 +61,7 @@ Recounts counts live map' phase request turn end counts' =
     (r : RunState) (e : Event) (heard : Bool) → HasCounts r counts → IsMarkedRead r e phase request turn live map'
     → end ≡ end_met e.reading → HasCounts (stepped r e heard) counts'
 
--- all of these, and what is due
+-- all that is made of a run after a read, and what is due
 pub record GoesOnAfter (settings : Settings) (domain : List Range) (phase : Phase) (request : Request) (got : Gathered)
     (map map' : List Status) (progress progress' : Progress) (tally tally' : Tally) (counts counts' : Counts)
     (advanced : Advanced) : Type 0 where

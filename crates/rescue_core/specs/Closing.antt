@@ -61,7 +61,7 @@ pub record StoppedState : Type 0 where
   pub run : RunState
   pub stop : Stop
 
--- these calls need that no draft is begun
+-- no draft is begun, as a run's last calls need; a run that stopped at a call on the files makes no last calls
 abbrev pub MayClose : Option Stop → SiteState → Type 0
 MayClose None site = site.is_drafting ≡ false
 MayClose (Some SourceLost) site = site.is_drafting ≡ false

@@ -20,13 +20,13 @@ pub record HasChanges (domain : ℕ → Bool) (map : List Status) (from to : Sta
   pub some : from ≢ to → HasRanges (IsMarked domain map from) 0 ranges
   pub none : from ≡ to → ranges ≡ 0
 
--- there is spare for two blocks more for each of them
+-- there is spare for two blocks more for each range of positions whose status is to be replaced
 pub record HasRoom (domain : ℕ → Bool) (map : List Status) (from to : Status) (spare : ℕ) : Type 0 where
   pub ranges : ℕ
   pub changes : HasChanges domain map from to ranges
   pub enough : 2 * ranges ≤ spare
 
--- this number of blocks, and two more for each of them
+-- this number of blocks, and two more for each range of positions whose status is to be replaced
 pub record TakesRoom (domain : ℕ → Bool) (map : List Status) (from to : Status) (others room : ℕ) : Type 0 where
   pub ranges : ℕ
   pub changes : HasChanges domain map from to ranges

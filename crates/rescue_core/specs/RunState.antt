@@ -126,7 +126,7 @@ abbrev pub led_from : TrimMode → (cursor : ℕ) → ℕ
 led_from Lead cursor = cursor
 led_from (Tail low) cursor = low
 
--- before that it has left nothing to trim
+-- a run that trims upwards has left nothing to trim before the place that its trimming has come to
 abbrev pub IsLed : RunState → Type 0
 IsLed r = r.phase ≡ Trimming → is_up (setting_in r) (numbered r.phase r.pass) ≡ true → (x : ℕ)
     → x < led_from r.machine.mode r.machine.cursor → is_live (setting_in r) r.machine x ≡ true
@@ -142,7 +142,7 @@ pub record IsRunning (r : RunState) (room : ℕ) : Type 0 where
   pub order : IsInOrder (setting_in r) r.machine
   -- the pass that it is in is one of its phase
   pub pass : pass_of r.machine ≡ numbered r.phase r.pass
-  -- and it isn't off
+  -- the phase that it is in isn't off, if that is trimming or scraping
   pub trims : r.phase ≡ Trimming → r.settings.passes.trims ≡ true
   pub scrapes : r.phase ≡ Scraping → r.settings.passes.scrapes ≡ true
   pub led : IsLed r

@@ -18,7 +18,7 @@ pub record IsTrimmed (r : RunState) : Type 0 where
   pub tried : IsGone NonTried r
   pub trimmed : r.settings.passes.trims ≡ true → IsGone NonTrimmed r
 
--- after scraping none is non-scraped either, unless scraping is off
+-- after scraping a run is trimmed, and no position that is left of the domain is non-scraped, unless scraping is off
 pub record IsScraped (r : RunState) : Type 0 where
   pub trimmed : IsTrimmed r
   pub scraped : r.settings.passes.scrapes ≡ true → IsGone NonScraped r

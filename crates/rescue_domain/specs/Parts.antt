@@ -12,7 +12,7 @@ abbrev pub AreParts : ℕ → List Range → Type 0
 AreParts low [] = Unit {0}
 AreParts low (part ∷ parts) = (low ≤ part.from) × (part.from < part.to) × AreParts (part.to + 1) parts
 
--- this number of them, counted from the first, end at or before x, and no others do
+-- this number of the intervals, counted from the first, end at or before x, and no others do
 pub record EndBy (parts : List Range) (n x : ℕ) : Type 0 where
   pub ended : (i : ℕ) (part : Range) → i < n → slice_get parts i ≡ Some part → part.to ≤ x
   pub others : (i : ℕ) (part : Range) → n ≤ i → slice_get parts i ≡ Some part → x < part.to

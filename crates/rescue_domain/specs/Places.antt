@@ -9,6 +9,6 @@ place_from from to x = x - from + to
 abbrev pub AreAllPlaced : (domain : ℕ → Bool) → (from to : ℕ) → Type 0
 AreAllPlaced domain from to = (x : ℕ) → domain x ≡ true → place_from from to x < 2 ^ 63 - 1
 
--- one of them would end there at 2^63 or past it
+-- a position of a domain would end in the output at 2^63 or past it
 abbrev pub IsAnyBeyond : (domain : ℕ → Bool) → (from to : ℕ) → Type 0
 IsAnyBeyond domain from to = (x : ℕ) × (domain x ≡ true) × (2 ^ 63 ≤ place_from from to x + 1)

@@ -11,7 +11,7 @@ abbrev pub finished_front : (statuses : List Status) → (pos n : ℕ) → ℕ
 finished_front statuses pos zero = 0
 finished_front statuses pos (suc n) = if is_finished_at statuses pos then 1 + finished_front statuses (pos + 1) n else 0
 
--- that many: each of them is finished, and the next one isn't, unless they are all
+-- the first front of n positions from pos on are finished, and the next one isn't, unless these are all
 pub record IsFront (statuses : List Status) (pos n front : ℕ) : Type 0 where
   pub few : front ≤ n
   pub finished : (x : ℕ) → pos ≤ x → x < pos + front → is_finished_at statuses x ≡ true

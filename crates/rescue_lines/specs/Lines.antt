@@ -66,13 +66,13 @@ pub record Strips (piece : List ℕ) (old new : Option (List ℕ)) : Type 0 wher
   pub printed : (rest : List ℕ) → new ≡ Some rest → old ≡ Some (piece ++ rest)
   pub read : (rest : List ℕ) → old ≡ Some (piece ++ rest) → new ≡ Some rest
 
--- a number below a limit is, and then a text
+-- what comes next is a number below a limit, and then a text
 pub record StripsNumber (limit : ℕ) (after : List ℕ) (result : ℕ) (old new : Option (List ℕ)) : Type 0 where
   pub printed : (rest : List ℕ) → new ≡ Some rest → old ≡ Some (decimal result ++ (after ++ rest))
   pub read : (n : ℕ) (rest : List ℕ) → n < limit → old ≡ Some (decimal n ++ (after ++ rest))
       → (result ≡ n) × (new ≡ Some rest)
 
--- a line's head is, and then the front of its first figure
+-- what comes next is a line's head, and then the front of its first figure
 pub record StripsHead (Is : Head → Type 0) (result : Head) (old new : Option (List ℕ)) : Type 0 where
   pub printed : (rest : List ℕ) → new ≡ Some rest → old ≡ Some (head_text result ++ (codes ": position " ++ rest))
   pub read : (head : Head) (rest : List ℕ) → Is head

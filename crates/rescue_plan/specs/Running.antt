@@ -22,7 +22,7 @@ pub use Rattle.rescue_plan.specs.Plan.{untried_map}
 abbrev pub BeginsPlannedRun : Command → RunState → Type 0
 BeginsPlannedRun c r = IsRunOver None [] c.options.rescue c.length no_maps (untried_map c.length) None 0 false r
 
--- some command asks for it, of an input with this length
+-- a plan's run is at its start, and some command asks for it, of an input with this length
 pub record IsBegun (length : ℕ) (r : RunState) : Type 0 where
   pub command : Command
   pub limits : AreInLimits command
@@ -42,13 +42,13 @@ pub record PutsPlanWhole (c : Command) (test : List Status) (old new : ConsoleSt
   pub plan : IsPlan (plan_setting c.options.rescue c.length) c.length test reads
   pub puts : Puts Out (lines_of reads) old new
 
--- the lines of its first reads were put
+-- the lines of a plan's first reads were put
 pub record PutsFirst (c : Command) (test : List Status) (old new : ConsoleState) : Type 0 where
   pub reads : List PlannedRead
   pub first : BeginsPlan (plan_setting c.options.rescue c.length) c.length test reads
   pub puts : Puts Out (lines_of reads) old new
 
--- the lines of its first reads were put, but the last one's put failed: a beginning of that line may stand
+-- the lines of a plan's first reads were put, but the last one's put failed: a beginning of that line may stand
 pub record PutsPlanBroken (c : Command) (test : List Status) (old new : ConsoleState) : Type 0 where
   pub reads : List PlannedRead
   pub next : PlannedRead

@@ -30,7 +30,7 @@ first_cursor s (Some state) map =
 abbrev pub nothing_shown : MapState
 nothing_shown = record { pos = 0; current = NowCopying; pass = 1 }
 
--- what it shows at first: the state that its mapfile showed, if there is one
+-- what a mapfile shows at first: the state that it showed before, or if there is none that of a rescue that did nothing
 abbrev pub shown_at_first : Option MapState → MapState
 shown_at_first None = nothing_shown
 shown_at_first (Some state) = state
@@ -50,8 +50,8 @@ tally_at_first shown time areas = record {
   first_areas = areas;
 }
 
--- a run over a map, at this time, that resumes from such a state if there is one; what a mapfile showed stands until
--- the first event
+-- a run over a map, at this time, that resumes from a mapfile's state if one is given; what a mapfile showed stands
+-- until the first event
 abbrev pub machine_of : Setting → List Status → (from : Option MapState) → (shown : MapState) → (time : ℕ) → Machine
 machine_of s map from shown time = record {
   map = map;

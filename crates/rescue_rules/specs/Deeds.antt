@@ -57,7 +57,7 @@ pub record Outlasts (promise : ℕ → List ℕ → Type 0) (free : ℕ → ℕ 
       → ((y : ℕ) → IsLoose loose y → free n y) → length start ≤ length was.bytes
       → promise n was.bytes → promise n now.bytes
 
--- a save with the next number is made of an output, or none, and then it goes on so
+-- if there is a save, the next number's promise holds of the output; either way `next` holds of the last save's number
 abbrev pub KeepsOn : (promise : ℕ → List ℕ → Type 0) → (n : ℕ) → (image : List ℕ) → Option Snapshot
     → (next : ℕ → Type 0) → Type 0
 KeepsOn promise n image None next = next n

@@ -15,7 +15,7 @@ with_times (r ∷ rs) (before ∷ after ∷ times) =
 abbrev pub began_at : (times : List ℕ) → ℕ
 began_at times = slice_index_or times 0 0
 
--- the events after it
+-- the events of reads, by the readings of the clock after the first one
 abbrev pub events_of : List Reading → (times : List ℕ) → List Event
 events_of reads times = with_times reads (drop 1 times)
 

@@ -25,7 +25,7 @@ pub record Machine : Type 0 where
   -- its counts and times, the input's end if a read met it, and what it last showed and said
   pub tally : Tally
 
--- the pass that it is in
+-- the pass that a machine is in
 abbrev pub pass_of : Machine → Pass
 pass_of m = slice_index_or m.passes 0 (numbered Copying 1)
 

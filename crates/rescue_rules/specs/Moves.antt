@@ -14,7 +14,7 @@ begun s m p ps = record m { passes = p ∷ ps; cursor = start_of s p m.map; mode
 abbrev pub ended : Machine → Machine
 ended m = record m { passes = []; cursor = 0; mode = Lead; skip = 0 }
 
--- at the start of the first of these passes that has a request, or at the end
+-- the state at the start of the first of these passes that has a request, or at the end
 abbrev pub at_next : Setting → Machine → List Pass → Machine
 at_next s m [] = ended m
 at_next s m (p ∷ ps) = if has_request s (begun s m p ps) then begun s m p ps else at_next s m ps
@@ -38,7 +38,7 @@ abbrev pub moves : Setting → Machine → List Event → List Move
 moves s m [] = []
 moves s m (e ∷ es) = move_of s m e ∷ moves s (move_of s m e).after es
 
--- the state that they lead to
+-- the state that events lead to
 abbrev pub state_after : Setting → Machine → List Event → Machine
 state_after s m [] = m
 state_after s m (e ∷ es) = state_after s (move_of s m e).after es

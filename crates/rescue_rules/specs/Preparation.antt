@@ -20,7 +20,7 @@ trimmed_again status = status
 abbrev pub if_asked : Bool → (Status → Status) → Status → Status
 if_asked asked change status = if asked then change status else status
 
--- first it is tried again, then trimmed again, where that is asked for
+-- a status is first tried again, then trimmed again, where that is asked for
 abbrev pub prepared_status : (again retrim : Bool) → Status → Status
 prepared_status again retrim status = if_asked retrim trimmed_again (if_asked again tried_again status)
 

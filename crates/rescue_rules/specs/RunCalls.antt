@@ -16,7 +16,7 @@ abbrev pub write_calls : Setting → Reading → List Call
 write_calls s r =
     if nat_eq (kept s.sector r) 0 then [] else image_write (place s r.pos) (take (kept s.sector r) r.given) ∷ []
 
--- the bytes of the output after that write
+-- the bytes of the output after the write of what is kept of a read
 abbrev pub output_by : Setting → List ℕ → Reading → List ℕ
 output_by s bytes r =
     if nat_eq (kept s.sector r) 0 then bytes else written bytes (place s r.pos) (take (kept s.sector r) r.given)
@@ -34,7 +34,7 @@ due_calls s v = if is_due s v then save_calls s.names (text_of s.line (snapshot_
 abbrev pub move_calls : Setting → Move → List Call
 move_calls s v = write_calls s v.event.reading ++ due_calls s v
 
--- what the moves of a run make
+-- the calls that the moves of a run make
 abbrev pub run_calls : Setting → Machine → List Event → List Call
 run_calls s m events = flat_map (move_calls s) (moves s m events)
 

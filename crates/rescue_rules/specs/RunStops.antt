@@ -74,8 +74,8 @@ promise_of_run s began m events d = record {
   saves = snapshots s m events;
 }
 
--- A run with a mapfile over such a disk, whose map finishes what its mapfile's does, keeps that at whatever moment it
--- is stopped, between or within its calls.
+-- A run with a mapfile over a disk that rests, whose map finishes what its mapfile's does, keeps its promise at
+-- whatever moment it is stopped, between or within its calls.
 abbrev pub RunStopsSafely : Type 0
 RunStopsSafely = (s : Setting) (began : List Status) (m : Machine) (events : List Event) (d : Disk) (calls : List Entry)
     (k : ℕ) (files : List ℕ → Option File) → IsSensible s → s.has_mapfile ≡ true → AreThreeNames s → IsInOrder s m

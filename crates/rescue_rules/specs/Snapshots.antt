@@ -43,7 +43,7 @@ snapshot_of m = snapshot_with m.map m.tally
 abbrev pub is_due : Setting → Move → Bool
 is_due s v = s.has_mapfile && is_timely v.before v.event && is_none (limit_met s v.after)
 
--- a finished run says so
+-- what a save shows of a finished run's state: it says that the run is finished
 abbrev pub finished_snapshot : Machine → Snapshot
 finished_snapshot m = finished_with m.map m.tally
 

@@ -163,7 +163,7 @@ abbrev pub allowed_by : (first : ℕ) → AreaLimit → ℕ
 allowed_by first (Total n) = n
 allowed_by first (New n) = first + n
 
--- how many may have failed, if there is a limit
+-- how many areas may have failed, if there is a limit
 abbrev pub areas_allowed : Setting → Machine → Option ℕ
 areas_allowed s m = option_map (allowed_by m.tally.first_areas) s.limits.areas
 

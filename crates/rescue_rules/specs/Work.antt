@@ -90,7 +90,7 @@ opening_calls s = image_open s.outfile true ∷ (if s.has_mapfile then barrier_c
 abbrev pub mapfile_in : Setting → (List ℕ → Option File) → Option File
 mapfile_in s files = if s.has_mapfile then files s.names.map else None
 
--- all reads of it, and none without one
+-- all reads of the mapfile, and none without one
 pub record IsLoadOf (s : Setting) (files : List ℕ → Option File) (load : List Call) : Type 0 where
   pub all : s.has_mapfile ≡ true → IsLoad s.names.map (files s.names.map) load
   pub none : s.has_mapfile ≡ false → load ≡ []
@@ -126,6 +126,6 @@ AreMapReads calls = All (λ c. is_map_read c ≡ true) calls
 pub data Goes (s : Setting) (files : List ℕ → Option File) (g : Gain) : Type 0 where
   -- a read of such a map failed
   InMaps : (maps : List Call) → AreMapReads maps → g.reads ≡ [] → BrokeAt MapRead maps [] g.calls → Goes s files g
-  -- all that were read returned, and the rescue went on
+  -- all reads of such maps returned, and the rescue went on
   AfterMaps : (maps : List Call) (rest : List Entry) → AreMapReads maps → g.calls ≡ map Done maps ++ rest
       → GoesOn s files (record g { calls = rest }) → Goes s files g

@@ -16,7 +16,7 @@ use Rattle.rescue_safety.specs.Rescue.{Rescue, target_of, run_of, files_at_first
 use Rattle.rescue_safety.specs.AskedFor.{AreSeen, IsAskedFor}
 use Rattle.rescue_safety.specs.Written.{written_in, kept_in}
 
--- There is such a rescue for each call that keeps the promise of `ddrescue`, whose objects tell and whose words ask for
+-- There is a `Rescue` for each call that keeps the promise of `ddrescue`, whose objects tell and whose words ask for
 -- a rescue with a mapfile.
 abbrev pub EachIsTold : Type 0
 EachIsTold = (t : Told) (c : Command) (mapfile : List ℕ) → Ddrescue t → Asks t.words c → c.mapfile ≡ Some mapfile

@@ -18,7 +18,7 @@ pub record Breaks (t : Target) (start : Folder) (calls : List Entry) (gave : Lis
   pub left : MayBeLeft start calls (length calls) found
   pub not_owed : IsOwedIn t gave (λ x. false) found → ⊥
 
--- One that writes all that a read gave at its place, and publishes its map before it syncs the image.
+-- A run that writes all that a read gave at its place, and publishes its map before it syncs the image.
 pub record IsTooEarly (t : Target) (start : Folder) (r : Reading) : Type 0 where
   pub whole : is_whole r ≡ true
   pub place : ℕ
@@ -32,7 +32,7 @@ abbrev pub unwritten : (image draft name text : List ℕ) → List Entry
 unwritten image draft name text =
     Done (image_open image true) ∷ Done image_sync ∷ Done (draft_begin draft) ∷ Done (draft_append text) ∷ settles name
 
--- One that saves a map of what it read, and never writes it.
+-- A run that saves a map of what it read, and never writes what it read.
 pub record IsUnwrittenMap (t : Target) (start : Folder) (r : Reading) : Type 0 where
   pub whole : is_whole r ≡ true
   pub draft : List ℕ

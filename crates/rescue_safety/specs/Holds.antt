@@ -27,7 +27,7 @@ pub record HoldsFinished (r : Run) (k : ℕ) (files : List ℕ → Option File) 
   -- Until the barrier has returned, all files are as they could be found before, except that an absent output may be
   -- there, empty.
   pub until_barrier : has_barrier (take k r.calls) ≡ false → CouldBefore r.past r.target.outfile files
-  -- From then on the output holds each position that the mapfile found calls finished: as a read gave it last; or, if
-  -- none gave it a byte, as the output held it before.
+  -- Once the barrier has returned, the output holds each position that the mapfile found calls finished: as a read
+  -- gave it last; or, if none gave it a byte, as the output held it before.
   pub past_barrier : has_barrier (take k r.calls) ≡ true → (x : ℕ) → CallsFinished (files r.target.mapfile) x
       → HoldsGiven r files x ⊎ ((gives r x ≡ None) × StillHolds r.target (files_before r.past) files x)

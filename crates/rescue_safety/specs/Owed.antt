@@ -15,7 +15,7 @@ last_given (g ∷ gs) x = last_of_both (last_given gs x) (if nat_eq g.0 x then S
 abbrev pub pairs_of : (sector : ℕ) → List Reading → List (ℕ × ℕ)
 pairs_of sector reads = flat_map (λ r. enumerate_from r.pos (take (kept sector r) r.given)) reads
 
--- what these calls read of an output with these bytes, as such pairs
+-- what these calls read of an output with these bytes, as pairs of a position and its byte
 abbrev pub looked_at : Target → (image : List ℕ) → List Entry → List (ℕ × ℕ)
 looked_at t image [] = []
 looked_at t image (Done (image_read place asked (Some n)) ∷ es) =

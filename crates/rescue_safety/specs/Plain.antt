@@ -19,7 +19,7 @@ pub record PlainCall : Type 0 where
   pub outfile_name : IsName outfile
   pub mapfile_name : IsName mapfile
 
--- What it did: it reads sectors of 512 bytes, and each position has its own place.
+-- What a plain call did: it reads sectors of 512 bytes, and each position has its own place.
 abbrev pub plain_run : PlainCall → Run
 plain_run p =
     run_by p.did (record { outfile = p.outfile; mapfile = p.mapfile; from = 0; to = 0 }) 512 p.did.reads

@@ -22,7 +22,7 @@ pub record Invocation : Type 0 where
   pub calls : List Entry
   pub made : told.after.site.calls ≡ told.before.site.calls ++ calls
 
--- An invocation whose input tells, too, and the reads that the input answered.
+-- An invocation whose input tells, and the reads that the input answered.
 pub record Observed : Type 0 where
   pub call : Invocation
   pub source_tells : IsTrue call.told.before.source.tells
@@ -61,6 +61,6 @@ run_by o t sector reads = record {
 abbrev pub run_of : Rescue → (reads : List Reading) → Run
 run_of r reads = run_by r.did (target_of r.command r.mapfile) r.command.options.sector reads
 
--- the files as they read when it began
+-- the files as they read when a rescue began
 abbrev pub files_at_first : Rescue → List ℕ → Option File
 files_at_first r = files_in r.did.call.told.before.site

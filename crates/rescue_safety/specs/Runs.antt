@@ -65,7 +65,7 @@ pub record IsStep (t : Target) (l : Link) (i : Invocation) (c : Command) : Type 
 abbrev pub after_barrier : List Entry → List (ℕ × ℕ) → List (ℕ × ℕ)
 after_barrier calls pairs = if has_barrier calls then pairs else []
 
--- A rescue on the target, which gave what it had read by then.
+-- A rescue on the target, which gave what it had read by the time it ended.
 pub record IsRescue (t : Target) (l : Link) : Type 0 where
   pub rescue : Rescue
   pub reads : List Reading
@@ -74,7 +74,7 @@ pub record IsRescue (t : Target) (l : Link) : Type 0 where
   pub gave : l.gave ≡ after_barrier (take step.moment rescue.did.call.calls)
       (pairs_of rescue.command.options.sector (by_then (run_of rescue reads) step.moment).reads)
 
--- A generating on the target, which marks what the output holds: it gave what it had read there by then.
+-- A generating on the target, which marks what the output holds: it gave what it had read there by the time it ended.
 pub record IsGenerating (t : Target) (l : Link) : Type 0 where
   pub call : Invocation
   pub command : Command

@@ -39,11 +39,11 @@ reads_until sector (suc n) (r ∷ rs) = r ∷ reads_until sector (if nat_eq (kep
 abbrev pub by_then : Run → (k : ℕ) → Run
 by_then r k = record r { reads = reads_until r.sector (count_by is_write (take (k + 1) r.calls)) r.reads }
 
--- the byte that its reads gave the position x last, if they gave one
+-- the byte that a run's reads gave the position x last, if they gave one
 abbrev pub gives : Run → (x : ℕ) → Option ℕ
 gives r x = given r.sector r.reads x
 
--- the bytes that its output had when it began
+-- the bytes that a run's output had when the run began
 abbrev pub bytes_at_first : Run → List ℕ
 bytes_at_first r = bytes_of (files_before r.past r.target.outfile)
 
@@ -51,12 +51,12 @@ bytes_at_first r = bytes_of (files_before r.past r.target.outfile)
 pub record IsHeld (r : Run) (k : ℕ) (files : List ℕ → Option File) : Type 0 where
   -- The mapfile is the one that was there before, or one that was saved.
   pub mapfile : IsOneSaved (files_before r.past r.target.mapfile) r.calls k (files r.target.mapfile)
-  -- Each position that this mapfile calls finished was called finished before, or a read gave it a byte.
+  -- Each position that the mapfile found calls finished was called finished before, or a read gave it a byte.
   pub claimed : (x : ℕ) → CallsFinished (files r.target.mapfile) x
       → CallsFinished (files_before r.past r.target.mapfile) x ⊎ ((b : ℕ) × (gives r x ≡ Some b))
-  -- Each position that was called finished before is called finished by this mapfile, too.
+  -- Each position that was called finished before is called finished by the mapfile found.
   pub kept : (x : ℕ) → CallsFinished (files_before r.past r.target.mapfile) x → CallsFinished (files r.target.mapfile) x
-  -- If a read gave such a position a byte, it has a place in the output, which holds the byte that was given last.
+  -- A position that the mapfile found calls finished, if a read gave it a byte, has a place that holds the last one.
   pub rescued : (x b : ℕ) → CallsFinished (files r.target.mapfile) x → gives r x ≡ Some b
       → (y : ℕ) × HasPlace r.target x y × (slice_get (bytes_of (files r.target.outfile)) y ≡ Some b)
   -- The output has its old byte in each place whose position no read gave one.
@@ -67,9 +67,9 @@ pub record IsHeld (r : Run) (k : ℕ) (files : List ℕ → Option File) : Type 
 pub record IsSafe (r : Run) (k : ℕ) (files : List ℕ → Option File) : Type 0 where
   -- Until the barrier has returned, all files are as they could be found before, or an absent output is there, empty.
   pub until_barrier : has_barrier (take k r.calls) ≡ false → CouldBefore r.past r.target.outfile files
-  -- From then on the mapfile claims only what the output holds.
+  -- Once the barrier has returned, the mapfile claims only what the output holds.
   pub past_barrier : has_barrier (take k r.calls) ≡ true → IsHeld r k files
-  -- Any other file, except the mapfile's draft, is as it could be found before.
+  -- Any file except the output, the mapfile and its draft is as it could be found before.
   pub others : (name : List ℕ) → name ≢ r.target.outfile → name ≢ r.target.mapfile
       → name ≢ r.target.mapfile ++ codes ".tmp" → (before : List ℕ → Option File)
       × MayBeLeft r.past.start r.past.earlier (length r.past.earlier) before × (files name ≡ before name)

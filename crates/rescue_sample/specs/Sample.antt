@@ -21,7 +21,7 @@ sample_bytes kib = map sample_byte (range_with_len 0 (sample_size kib))
 abbrev pub next_drawn : ℕ → ℕ
 next_drawn value = (value * 6364136223846793005 + 1442695040888963407) % 2 ^ 64
 
--- the values: the one with the number 0 is the size, and the others are drawn
+-- the values of a sample: the one with the number 0 is its size in KiB, and the others are drawn
 abbrev pub drawn : (kib k : ℕ) → ℕ
 drawn kib zero = kib
 drawn kib (suc k) = next_drawn (drawn kib k)

@@ -35,7 +35,7 @@ pub record SeesPiece (pos size place : ℕ) (look : Look) (a : Across) : Type 0 
   pub made : Makes (look_call place look) a.site a.site'
   pub own : IsTrue a.site.tells → look ≡ seen_at (bytes_of (image_in a.site)) place look.read
 
--- Why there is no look at it: nothing was done, or the read was lost, or it was whole and the read of the image failed.
+-- Why a piece wasn't looked at: nothing was done, or the read was lost, or it was whole and the image's read failed.
 abbrev pub HaltsLooking : Halt → (pos size place : ℕ) → Across → Type 0
 HaltsLooking NoMemory pos size place a = (a.source' ≡ a.source) × (a.site' ≡ a.site)
 HaltsLooking SourceLost pos size place a = Loses a.source a.source' × (a.site' ≡ a.site)

@@ -173,7 +173,7 @@ abbrev pub if_so : Bool → Option Advice → Option Advice
 if_so true due = due
 if_so false due = None
 
--- one that is due of a number, if that is known
+-- an advice that is due of a number, if that is known
 abbrev pub if_known : Option ℕ → (ℕ → Option Advice) → Option Advice
 if_known (Some n) due = due n
 if_known None due = None
@@ -228,7 +228,7 @@ unsafe_mapfile f = if_so (saves f.work) (if_so f.map_has_no_journal (Some Unsafe
 abbrev pub new_outfile : Facts → Option Advice
 new_outfile f = if_so (is_fill f.work) (if_so (is_absent f.outfile) (Some NewOutfile))
 
--- the mapfile by which it is to be filled lists nothing
+-- the mapfile by which an outfile is to be filled lists nothing
 abbrev pub nothing_to_fill : Facts → Option Advice
 nothing_to_fill f = if_so (is_fill f.work) (if_so (lists_nothing f.map) (Some NothingToFill))
 
@@ -332,7 +332,7 @@ kinds f = outfile_short f ∷ map_past_infile f ∷ empty_infile f ∷ begins_pa
     ∷ long_pattern f ∷ other_sector f ∷ mounted_infile f ∷ mounted_outfile f ∷ long_plan f ∷ nothing_to_compare f
     ∷ late_mapfile f ∷ empty_domain f ∷ []
 
--- those that are due
+-- the advices of a list that are due
 abbrev pub somes : List (Option Advice) → List Advice
 somes [] = []
 somes (Some a ∷ rest) = a ∷ somes rest

@@ -21,16 +21,16 @@ abbrev pub RefusedForOne : Type 0
 RefusedForOne = (file : Option File) (mode : Mode) (e e' : MapError)
     → IsRefusedFor file mode e → IsRefusedFor file mode e' → e ≡ e'
 
--- One that is read as a map isn't refused.
+-- A mapfile that is read as a map isn't refused.
 abbrev pub ReadIsNotRefused : Type 0
 ReadIsNotRefused = (file : Option File) (mode : Mode) (m : ReadMap) (e : MapError)
     → IsReadAs file mode m → IsRefusedFor file mode e → ⊥
 
--- One that is like none isn't read as a map.
+-- A mapfile that is like none isn't read as a map.
 abbrev pub NoneIsNotRead : Type 0
 NoneIsNotRead = (file : Option File) (mode : Mode) (m : ReadMap) → IsLikeNone file → IsReadAs file mode m → ⊥
 
--- One that is like none is refused only for want of a status line.
+-- A mapfile that is like none is refused only for want of a status line.
 abbrev pub NoneSaysNothing : Type 0
 NoneSaysNothing = (file : Option File) (mode : Mode) (e : MapError)
     → IsLikeNone file → IsRefusedFor file mode e → e ≡ NoStatusLine

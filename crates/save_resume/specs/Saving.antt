@@ -32,7 +32,7 @@ pub record EndsBegun (calls : List Entry) : Type 0 where
   pub draft : List ℕ
   pub is : calls ≡ before ++ Done image_sync ∷ Done (draft_begin draft) ∷ []
 
--- The draft is filled: only appends to it came after that.
+-- The draft is filled: only appends to it came after its begin.
 pub record EndsFilled (calls : List Entry) : Type 0 where
   pub before : List Entry
   pub draft : List ℕ

@@ -20,7 +20,7 @@ is_octal (a ∷ rest) = nat_eq a 48
 abbrev pub base_of : List ℕ → ℕ
 base_of text = if is_hexadecimal text then 16 else if is_octal text then 8 else 10
 
--- where its digits begin
+-- where the digits of a number begin in its text
 abbrev pub digits_at : List ℕ → ℕ
 digits_at text = if is_hexadecimal text then 2 else 0
 

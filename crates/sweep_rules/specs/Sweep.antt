@@ -96,7 +96,7 @@ pub record Sweep : Type 0 where
   pub cursor : ℕ
   pub tally : Tally
 
--- A sweep resumes from the position that a mapfile showed if that was of such a sweep, and else begins at 0.
+-- A sweep resumes from the position that a mapfile showed if that was of a sweep of this kind, and else begins at 0.
 abbrev pub sweep_from : Current → Option MapState → ℕ
 sweep_from current None = 0
 sweep_from current (Some state) =
@@ -110,7 +110,7 @@ sweep_over w map state time = record {
   tally = tally_at_first (shown_at_first state) time 0;
 }
 
--- a sweep takes a position: one of the domain, with such a status
+-- a sweep takes a position: one of the domain, with a status that its sweeper takes
 abbrev pub IsTaken : Setting → Sweeper → Sweep → ℕ → Type 0
 IsTaken s w m x = passing w.takes s.domain m.map x ≡ true
 

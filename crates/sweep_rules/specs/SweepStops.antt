@@ -39,8 +39,8 @@ pub record FillPromise (s : Setting) (buffer : List ℕ) (began : List Status) (
   pub same : map ≡ began
   pub filled : AreFilled s buffer before image
 
--- In generate mode: what it calls finished was finished in the map that the mapfile gave, or has a byte in the output;
--- and the output's old bytes stand.
+-- What a mapfile promises in generate mode: what its map calls finished was finished in the map that the sweep began
+-- with, or has a byte in the output; and the output's old bytes stand.
 pub record GeneratePromise (s : Setting) (old : List ℕ) (began map : List Status) (image : List ℕ) : Type 0 where
   pub held : (x : ℕ) → Has map Rescued x → Has began Rescued x ⊎ ((b : ℕ) × (slice_get image (place s x) ≡ Some b))
   pub stands : (y : ℕ) → y < length old → slice_get image y ≡ slice_get old y
@@ -62,7 +62,7 @@ has_swept_out Finished = true
 has_swept_out (Stopped stop) = false
 has_swept_out (SaveFailed call earlier) = is_none earlier
 
--- what it saves, over a map
+-- what a sweep saves, over a map
 abbrev pub sweep_saves : Sweeper → List Status → Option MapState → Gain → List Swept → RunEnd → List Snapshot
 sweep_saves w statuses state g es end =
     saves_in (deeds_of w (sweep_begins w statuses state g) es)

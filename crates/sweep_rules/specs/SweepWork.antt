@@ -87,7 +87,7 @@ sweep_lines s w m es end =
 abbrev pub sweep_begins : Sweeper → List Status → Option MapState → Gain → Sweep
 sweep_begins w statuses state g = sweep_over w statuses state (began_at g.times)
 
--- The whole of it: the clock is read once at its start and once after each piece, and the input not at all.
+-- A whole sweep: the clock is read once at its start and once after each piece, and the input not at all.
 pub record Sweeps (s : Setting) (w : Sweeper) (statuses : List Status) (state : Option MapState) (g : Gain)
     (end : RunEnd) : Type 0 where
   pub events : List Swept

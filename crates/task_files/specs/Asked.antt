@@ -15,7 +15,7 @@ use Rattle.ddrescue_words.specs.Command.{Command}
 abbrev pub output_from : Options → ℕ
 output_from o = unwrap_or o.output_position o.input_position
 
--- where a position stands there
+-- where a position stands in the output
 abbrev pub place_by : Options → ℕ → ℕ
 place_by o x = place_from o.input_position (output_from o) x
 
@@ -23,7 +23,7 @@ place_by o x = place_from o.input_position (output_from o) x
 abbrev pub ArePlacedBy : Options → (end : ℕ) → Type 0
 ArePlacedBy o end = AreAllPlaced (whole_domain o.input_position o.size end) o.input_position (output_from o)
 
--- one of these positions would end there at 2^63 or past it
+-- a position that is asked for of an input with this length would end in the output at 2^63 or past it
 abbrev pub IsBeyond : Options → (end : ℕ) → Type 0
 IsBeyond o end = IsAnyBeyond (whole_domain o.input_position o.size end) o.input_position (output_from o)
 

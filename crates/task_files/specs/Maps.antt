@@ -13,7 +13,6 @@ use Rattle.ddrescue_words.specs.Command.{Command}
 use Rattle.task_files.specs.Asked.{Maps}
 
 -- The positions that a mapfile lists, from the first block's beginning up to the last one's end. A mapfile without
-
 -- blocks, one of comments and blank lines alone, and an absent one list no position.
 pub data MapfileLists (mapfile : Option File) (first end : ℕ) : Type 0 where
   NoFile : mapfile ≡ None → first ≡ 0 → end ≡ 0 → MapfileLists mapfile first end

@@ -49,7 +49,7 @@ abbrev pub ending_of : Result Ended Ending → Ending
 ending_of (Ok ended) = ended.ending
 ending_of (Err e) = e
 
--- whether it is heard then: where it was refused it is heard as before
+-- whether a rescue is heard after its parts returned this: where it was refused it is heard as before
 abbrev pub heard_after : (heard : Bool) → Result Ended Ending → Bool
 heard_after heard (Ok ended) = ended.heard
 heard_after heard (Err e) = heard
@@ -130,7 +130,7 @@ HasTiles None mode tiles file = statuses_in tiles ≡ None
 HasTiles (Some name) mode None file = ⊥
 HasTiles (Some name) mode (Some tiles) file = IsMapOf file mode tiles.statuses
 
--- what the read of such a map did
+-- what the read of a map that an option may name did
 abbrev pub ReadsMap : Which → Mode → (name : Option (List ℕ)) → Result (Option Tiled) Ending → (old new : SiteState)
     → Type 0
 ReadsMap which mode name result old new =
@@ -165,7 +165,7 @@ maps_read o domain test start = record {
   listed = if o.complete_only then Some (start.first, start.listed_end) else None;
 }
 
--- why such a read stopped, by the count of failed calls
+-- why the read of a map that an option names stopped, by the count of failed calls
 abbrev pub MapCause : Which → Ending → (faults faults' : ℕ) → Type 0
 MapCause which e faults faults' =
     ((e ≡ NoMemory) × (faults' ≡ faults))
@@ -206,7 +206,7 @@ pub record DidAfterMaps (c : Command) (line : List ℕ) (domain test : Option (L
   pub says : SaysLines lines heard heard' o
   pub short : IsNothing did.gain ⊎ (end < 2 ^ 63)
 
--- what it did after the words
+-- what a rescue did after the words
 pub record Worked (c : Command) (line : List ℕ) (heard heard' : Bool) (e : Ending) (o : Across) : Type 0 where
   pub outside : Outside
   pub agrees : Agrees c o outside

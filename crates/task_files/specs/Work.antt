@@ -116,6 +116,6 @@ ThenRun s mapfile lines e g =
     (statuses : List Status) × (state : Option MapState) × Stands mapfile s.end statuses state
     × RunsOver s statuses state lines e g
 
--- That run comes after the steps, and opens no input.
+-- The run over the map that the mapfile stands for comes after the steps, and opens no input.
 abbrev pub Rescues : Setting → (mapfile : Option File) → (lines : List (List ℕ)) → Ending → Deeds → Type 0
 Rescues s mapfile lines e d = (d.opens ≡ []) × ThenRun s mapfile lines e d.gain

@@ -30,23 +30,23 @@ use Rattle.task_files.specs.Work.{rescue_faults}
 abbrev pub sample_setting : (end : ℕ) → Setting
 sample_setting end = nameless (setting_of sample_command (codes "ddrescue -r 1 in out map") end no_maps)
 
--- where it begins at some time: nothing was tried
+-- where the rescue of a sample begins at some time: nothing was tried
 abbrev pub sample_start : (end time : ℕ) → Machine
 sample_start end time = machine_over (sample_setting end) (replicate end NonTried) None time
 
--- the line of a sample of `kib` KiB: that of this rescue over it, which begins at 0
+-- the line of a sample of `kib` KiB: that of the rescue of the sample, which begins at 0
 abbrev pub IsLineOf : (kib : ℕ) → (line : List ℕ) → Type 0
 IsLineOf kib line = IsSampleLine kib (sample_setting (sample_size kib)) (sample_start (sample_size kib) 0) line
 
--- The step of such a call: it takes memory.
+-- The step of the rescue of a sample: it takes memory.
 abbrev pub sample_rows : List (WorkStep Ending)
 sample_rows = Take ∷ []
 
--- Then the sample is rescued, which does nothing on the objects of the call, and its line is put.
+-- The sample is rescued, which does nothing on the objects of the call, and its line is put.
 abbrev pub Samples : (kib : ℕ) → (lines : List (List ℕ)) → Ending → Deeds → Type 0
 Samples kib lines e d = (e ≡ Done) × (line : List ℕ) × IsLineOf kib line × (lines ≡ line ∷ [])
 
--- what such a call answers, and says on the console of one who is heard or not
+-- what the rescue of a sample answers, and says on the console of one who is heard or not
 pub record TellsSample (kib : ℕ) (heard heard' : Bool) (e : Ending) (console console' : ConsoleState) : Type 0 where
   pub lines : List (List ℕ)
   pub works : Works rescue_faults sample_rows (Samples kib lines) e (only_calls [])

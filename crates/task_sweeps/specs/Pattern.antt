@@ -34,24 +34,23 @@ pub record IsOneRead (r : Reading) (d : Deeds) : Type 0 where
 -- The pattern is read, by one read, and the work goes on with the buffer that it fills.
 pub data ThenPattern (cluster end : ℕ) (buffer : List ℕ) (next : Ending → Deeds → Type 0) (e : Ending) (d : Deeds)
     : Type 0 where
-  -- The input is lost,
+  -- The input is lost.
   IsLost : e ≡ SourceLost → IsIdle d → ThenPattern cluster end buffer next e d
-  -- or gives less than was asked for;
+  -- The input gives less than was asked for.
   IsShort : (r : Reading) → IsPatternRead cluster end r → length r.given < r.asked → e ≡ PatternUnread
       → IsOneRead r d → ThenPattern cluster end buffer next e d
-  -- else it gives the pattern.
+  -- The input gives the pattern.
   IsRead : (r : Reading) (rest : List Reading) → IsPatternRead cluster end r → length r.given ≡ r.asked
       → IsRepeated r.given cluster buffer → d.gain.reads ≡ r ∷ rest → next e (with_reads d rest)
       → ThenPattern cluster end buffer next e d
 
 -- ---- what the code did
 
--- what came of the read, by the journal's gain: a buffer,
+-- what came of the read of a pattern, by the journal's gain: a buffer or an answer
 abbrev pub PatternRead : (cluster end : ℕ) → List Reading → Result (List ℕ) Ending → Type 0
 PatternRead cluster end reads (Ok buffer) =
     (r : Reading) × (reads ≡ r ∷ []) × IsPatternRead cluster end r × (length r.given ≡ r.asked)
     × IsRepeated r.given cluster buffer
--- or an answer
 PatternRead cluster end reads (Err e) =
     ((e ≡ SourceLost) × (reads ≡ []))
     ⊎ ((r : Reading) × (reads ≡ r ∷ []) × IsPatternRead cluster end r × (length r.given < r.asked)
@@ -88,7 +87,7 @@ pub record TakesPattern (cluster end : ℕ) (result : Result (List ℕ) Ending) 
   pub gained : IsTrue source.tells → HasGainedReads None source source' reads
   pub comes : PatternTaken cluster end reads result
 
--- by how much the counts rose: a loss is counted, and nothing else
+-- the count of losses by the result: a loss is counted, and nothing else
 abbrev pub losses_by : {T : Type 0} → Result T Ending → ℕ → ℕ
 losses_by (Err SourceLost) losses = raised losses
 losses_by (Err e) losses = losses

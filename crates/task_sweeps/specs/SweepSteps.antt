@@ -1,6 +1,5 @@
 -- What the steps of fill mode and of generate mode did, whether the objects tell or not.
 -- For contracts and proofs: no promise uses it.
--- What a sweep begins with over a map: the domain that a command and maps ask for below a limit, the map as it is, the
 use Rattle.std.specs.Prelude.{◌≡◌, ◌⊎◌, ℕ, ◌<◌, ◌^◌, Bool, IsTrue, List, [], ◌++◌, length, Option, option_map}
 use Rattle.block_list.specs.declared.status.Status.{Status}
 use Rattle.block_list.specs.Tiled.{Tiled}
@@ -36,7 +35,8 @@ use Rattle.task_files.specs.Steps.{IsOnlyMaps}
 use Rattle.task_files.specs.Settings.{lines_in, settings_by}
 use Rattle.task_sweeps.specs.Modes.{AreMapsOfSweep, IsMapEnd, MaySweep, Fills, Generates, fill_setting}
 
--- state that its mapfile showed, and the line that says how much is asked for, if there is one.
+-- what a sweep begins with over a map: the domain that a command and maps ask for below a limit, the map as it is, the
+-- state that its mapfile showed, and the line that says how much is asked for, if there is one
 pub record IsSweepReady (c : Command) (limit : ℕ) (maps : Maps) (statuses : List Status) (state : Option MapState)
     (ready : SweepReady) : Type 0 where
   pub domain : (x : ℕ) → covers ready.domain x ≡ domain_asked c.options limit maps x
@@ -46,7 +46,7 @@ pub record IsSweepReady (c : Command) (limit : ℕ) (maps : Maps) (statuses : Li
       ≡ opening_lines (setting_of c line limit maps) (length statuses)
   pub suits : Suits (settings_by c.options) (covers ready.domain) (length statuses)
 
--- what a sweep is asked to do over it, from a moment on, which is heard or not
+-- what a sweep is asked to do over a map, from a moment on, which is heard or not
 pub record IsJobOver (names : MapNames) (heading : HeadingLines) (o : Options) (limit : ℕ) (maps : Maps)
     (statuses : List Status) (state : Option MapState) (moment : ℕ) (heard : Bool) (job : Job Tiled)
     : Type 0 where
@@ -86,7 +86,7 @@ pub record DidGenerate (s : Setting) (statuses : List Status) (state : Option Ma
   pub did : DidSweep s (generator s) statuses state heard heard' e o
   pub given : IsTrue o.site.tells → IsApart s.names o.site → AreGiven s (bytes_of (image_in o.site)) did.pieces
 
--- the cause of its answer: a sweep leaves the input alone
+-- the cause of the answer of a sweep, which leaves the input alone
 abbrev pub SweepCause : Ending → (site site' : SiteState) → Type 0
 SweepCause e site site' = (source : SourceState) → Causes e source source site site'
 
@@ -112,7 +112,7 @@ pub record WorkedFill (types : TypeSet) (c : Command) (line : List ℕ) (heard h
   pub silent : outside.did.gain.times ≡ [] → (outside.lines ≡ []) × (pieces ≡ [])
   pub says : SpeaksOn (out_pieces outside.lines) heard heard' o.console o.console'
 
--- what a generating did
+-- what a generating did after the words
 pub record WorkedGenerate (c : Command) (line : List ℕ) (heard heard' : Bool) (e : Ending) (o : Across) : Type 0 where
   pub outside : Outside
   pub is_outside : IsOutside c o outside

@@ -25,7 +25,7 @@ use Rattle.trim_scrape.specs.Past.{IsPast}
 use Rattle.trim_scrape.specs.Bounds.{AskFew}
 use Rattle.trim_scrape.specs.Endings.{EndsWell}
 
--- A run whose passes are all those from one of them on asks for a position as few times as that.
+-- A run whose passes are all those from one of them on asks for a position as few times as `AskFew` says.
 abbrev pub RunAsksFew : Type 0
 RunAsksFew = (s : Setting) (m : Machine) (phase : Phase) (number : ℕ) (events : List Event) → IsSensible s
     → IsInOrder s m → m.passes ≡ passes_from s phase number → IsRun s m events → AskFew s m events

@@ -51,24 +51,24 @@ abbrev pub RunStaysUnderWay : Type 0
 RunStaysUnderWay = (s : Setting) (m : Machine) (es : List Event) → IsSensible s → IsUnderWay s m → IsRun s m es
     → IsUnderWay s (state_after s m es)
 
--- So is the start of the next pass, where the present one has no request.
+-- Where the pass of a run that is under way has no request, the run is under way at the start of the next pass.
 abbrev pub NextPassIsUnderWay : Type 0
 NextPassIsUnderWay = (s : Setting) (m : Machine) (c p : Pass) (ps : List Pass) → IsUnderWay s m
     → has_request s m ≡ false → m.passes ≡ c ∷ p ∷ ps → IsUnderWay s (begun s m p ps)
 
--- From any such state, a run that has no request left and met no limit ends well.
+-- From any state that is under way, a run that has no request left and met no limit ends well.
 abbrev pub UnderWayEndsWell : Type 0
 UnderWayEndsWell = (s : Setting) (m : Machine) (es : List Event) → IsSensible s → IsUnderWay s m → IsRun s m es
     → has_ended s (state_after s m es) ≡ true → EndsWellSince s m es
 
--- From a run's own start on, that is what a whole run leaves.
+-- A run that ends well since its own start ends well as a whole run.
 abbrev pub SinceStartIsWell : Type 0
 SinceStartIsWell = (s : Setting) (map : List Status) (from : Option MapState) (shown : MapState) (time : ℕ)
     (es : List Event) → EndsWellSince s (machine_of s map from shown time) es
     → EndsWell s (machine_of s map from shown time) es
 
--- Whole turns from such a state to past the last phase, and the close after them, are a run that is well ended, if that
--- answers that it is done.
+-- Whole turns from a state that is under way to past the last phase, and the close after them, are a run that is well
+-- ended, if the close answers that the run is done.
 abbrev pub PhasesEndWell : Type 0
 PhasesEndWell = (s : Setting) (r r' : RunState) (o : Across) (site : SiteState) → setting_in r ≡ nameless s
     → IsSensible (setting_in r) → IsUnderWay (setting_in r) r.machine → IsTrue o.site.tells → Keeps o.site o.site'
@@ -76,14 +76,14 @@ PhasesEndWell = (s : Setting) (r r' : RunState) (o : Across) (site : SiteState) 
     → (w : Went r r' o) → IsPast Retrying r' → Closes None r' RunDone o.site' site
     → IsWellEnded s r.machine w.events (disk_of o.site) (disk_of site)
 
--- So is a whole run that answers so.
+-- A whole run from a state that is under way is well ended, if it answers that it is done.
 abbrev pub DoneEndsWell : Type 0
 DoneEndsWell = (s : Setting) (r : RunState) (heard : Bool) (o : Across) → setting_in r ≡ nameless s
     → IsSensible (setting_in r) → IsUnderWay (setting_in r) r.machine → IsTrue o.site.tells → Keeps o.site o.site'
     → (w : WentToEnd r RunDone heard o)
     → IsWellEnded s r.machine w.events (disk_of o.site) (disk_of o.site')
 
--- One that stopped, but not at a call on the files, saved its map as it was.
+-- A whole run that stopped, but not at a call on the files, saved its map as it was.
 abbrev pub StoppedIsSaved : Type 0
 StoppedIsSaved = (s : Setting) (r : RunState) (stop : Stop) (heard : Bool) (o : Across) → setting_in r ≡ nameless s
     → IsTrue o.site.tells → Keeps o.site o.site' → is_at_call stop ≡ false → (w : WentToEnd r (Stopped stop) heard o)

@@ -52,7 +52,7 @@ RunStaysSafe = (s : Setting) (start : List ℕ) (reads : List Reading) (m : Mach
     → IsSafe s start reads m d → IsRun s m es
     → IsSafe s start (reads ++ reads_of es) (state_after s m es) (disk_after d (map Done (run_calls s m es)))
 
--- At each stop of these calls, and of those of a last save of the map that it has come to, what may be found is held.
+-- At each stop of a safe run's calls, and of those of a last save of the map it has come to, what may be found is held.
 abbrev pub RunIsHeld : Type 0
 RunIsHeld = (s : Setting) (start : List ℕ) (reads : List Reading) (m : Machine) (d : Disk) (es : List Event)
     (last : Snapshot) (calls : List Entry) (k : ℕ) (files : List ℕ → Option File) → IsSafe s start reads m d
@@ -82,7 +82,7 @@ TurnStaysSafe = (s : Setting) (start : List ℕ) (reads : List Reading) (request
     → IsSafe s start reads r.machine (disk_of o.site)
     → IsSafe s start (reads ++ t.event.reading ∷ []) r'.machine (disk_of o.site')
 
--- At each stop within it what may be found is held.
+-- At each stop within a whole turn of a safe run, what may be found is held.
 abbrev pub TurnIsHeld : Type 0
 TurnIsHeld = (s : Setting) (start : List ℕ) (reads : List Reading) (request : Request) (turn : Turn)
     (r r' : RunState) (o : Across) (files : List ℕ → Option File) → IsTurnOf s request r o

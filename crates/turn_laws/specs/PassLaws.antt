@@ -56,8 +56,8 @@ known_past Trimming = Trimmed
 known_past Scraping = Scraped
 known_past Retrying = Over
 
--- By what its type knows, a run that is in any pass of copying still may be handed so to trimming, to scraping or to
--- retrying.
+-- By what its type knows, a run that is in any pass of copying still may be handed over spent passes to trimming, to
+-- scraping or to retrying.
 abbrev pub TypedLeadsPast : Type 0
 TypedLeadsPast = (r : RunState) (phase : Phase) → phase ≢ Retrying → IsSensible (setting_in r)
     → limit_met (setting_in r) r.machine ≡ None → r.pass ≤ copying_passes
@@ -70,7 +70,7 @@ UnderWayMayCopy = (r : RunState) → IsSensible (setting_in r) → limit_met (se
     → r.phase ≡ Copying → r.pass ≤ copying_passes → r.machine.passes ≡ passes_from (setting_in r) Copying r.pass
     → IsUnderWay (setting_in r) r.machine → MayCopy r
 
--- And each run that copying takes is under way.
+-- Each run that copying takes is under way.
 abbrev pub CopyingIsUnderWay : Type 0
 CopyingIsUnderWay = (r : RunState) → MayCopy r → IsUnderWay (setting_in r) r.machine
 

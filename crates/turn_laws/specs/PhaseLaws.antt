@@ -31,7 +31,7 @@ PhaseStaysSafe = (s : Setting) (start : List ℕ) (reads : List Reading) (r r' :
     → IsSafe s start reads r.machine (disk_of o.site)
     → IsSafe s start (reads ++ reads_of w.events) r'.machine (disk_of o.site')
 
--- At each stop within them what may be found is held.
+-- At each stop within whole turns of a safe run, what may be found is held.
 abbrev pub PhaseIsHeld : Type 0
 PhaseIsHeld = (s : Setting) (start : List ℕ) (reads : List Reading) (r r' : RunState) (o : Across)
     (files : List ℕ → Option File) → setting_in r ≡ nameless s → IsTrue o.site.tells → Keeps o.site o.site'
@@ -56,14 +56,14 @@ HaltedTurnStaysSafe = (s : Setting) (start : List ℕ) (reads : List Reading) (r
 abbrev pub reads_up_to : {stop : Stop} {r r' : RunState} {o : Across} → WentUpTo stop r r' o → List Reading
 reads_up_to w = reads_of w.went.events ++ reads_by w.halted
 
--- So do turns up to one that stopped.
+-- Turns up to one that stopped leave the run safe, unless it stopped at a call on the files.
 abbrev pub StoppedTurnsStaySafe : Type 0
 StoppedTurnsStaySafe = (s : Setting) (start : List ℕ) (reads : List Reading) (stop : Stop) (r r' : RunState)
     (o : Across) → setting_in r ≡ nameless s → IsTrue o.site.tells → Keeps o.site o.site'
     → (w : WentUpTo stop r r' o) → is_at_call stop ≡ false → IsSafe s start reads r.machine (disk_of o.site)
     → IsSafe s start (reads ++ reads_up_to w) r'.machine (disk_of o.site')
 
--- At each stop within these, wherever they stopped, what may be found is held.
+-- At each stop within turns of a safe run up to one that stopped, for whatever cause, what may be found is held.
 abbrev pub StoppedTurnsAreHeld : Type 0
 StoppedTurnsAreHeld = (s : Setting) (start : List ℕ) (reads : List Reading) (stop : Stop) (r r' : RunState)
     (o : Across) (files : List ℕ → Option File) → setting_in r ≡ nameless s → IsTrue o.site.tells

@@ -44,6 +44,6 @@ pub data IsLeftWellSince (s : Setting) (m : Machine) (events : List Event) (x : 
       → ((n : ℕ) → StillComes s m (numbered Retrying n) x → FailedInPass (numbered Retrying n) (moves s m events) x)
       → IsLeftWellSince s m events x
 
--- each position is left so that is still in the domain
+-- events from a state on leave each position well that is still in the domain
 pub record EndsWellSince (s : Setting) (m : Machine) (events : List Event) : Type 0 where
   pub each : (x : ℕ) → is_live s (state_after s m events) x ≡ true → x < length m.map → IsLeftWellSince s m events x

@@ -27,7 +27,7 @@ WentThrough (Read (Some name) file ∷ more) calls =
     (load : List Call) × (rest : List Entry) × IsLoad name file load × (calls ≡ map Returned load ++ rest)
     × WentThrough more rest
 
--- one or the other, by the outcome
+-- the work went through all of these rows or stopped in one of them, by the outcome
 abbrev pub Did : {E T : Type 0} → Faults E → List (WorkStep E) → (T → Type 0) → Result T E → List Entry → Type 0
 Did f rows Holds (Ok x) calls = Holds x × WentThrough rows calls
 Did f rows Holds (Err e) calls = StoppedIn f rows e calls
