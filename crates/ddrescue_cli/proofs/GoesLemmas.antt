@@ -29,7 +29,7 @@ use Rattle.save_resume.specs.Named.{map_mode}
 use Rattle.task_files.specs.Refusals.{MapfileRefused, PlacesRefused}
 use Rattle.work_rules.specs.Work.{Deeds, WorkStep, Look, Read, Works, with_calls, with_opens}
 use Rattle.task_files.specs.Asked.{Maps, setting_asked, setting_of}
-use Rattle.task_files.specs.Maps.{file_of, found_in, mapfile_of}
+use Rattle.task_files.specs.Maps.{file_named, found_in, mapfile_of}
 use Rattle.task_files.specs.Work.{Rescues, RunsOver, rescue_faults, map_rows, load_rows, opened_rows, worked_rows}
 use Rattle.task_files.specs.Steps.{IsOnlyMaps}
 use Rattle.rescue_rules.proofs.MapfileLemmas.{settling_calls, opening_is}
@@ -149,8 +149,8 @@ output_goes : (c : Command) (mapfile : Option (List ℕ)) (line : List ℕ) (end
     (files : List ℕ → Option File) (lines : List (List ℕ)) (e : Ending) (d : Deeds) (rest : List Entry)
     → (setting_by c (option_map names_of mapfile) line end maps).has_mapfile ≡ true
     → d.gain.calls ≡ opened (setting_by c (option_map names_of mapfile) line end maps) ++ rest
-    → Works rescue_faults (load_rows mapfile (file_of mapfile files) ++ Look (PlacesRefused c.options end) ∷ [])
-    (Rescues (setting_by c (option_map names_of mapfile) line end maps) (file_of mapfile files) lines) e (with_calls d rest)
+    → Works rescue_faults (load_rows mapfile (file_named mapfile files) ++ Look (PlacesRefused c.options end) ∷ [])
+    (Rescues (setting_by c (option_map names_of mapfile) line end maps) (file_named mapfile files) lines) e (with_calls d rest)
     → GoesOn (setting_by c (option_map names_of mapfile) line end maps) files d.gain
 output_goes c None line end maps files lines e d rest on grew w = absurd (cc)
 output_goes c (Some n) line end maps files lines e d rest on grew (inl (call, is, inl (name, lost), only)) =
@@ -205,7 +205,7 @@ none_goes s files g on none unread =
 map_goes : (which : Which) (mode : Mode) (name : Option (List ℕ)) (s : Setting) (files : List ℕ → Option File) (more : List (WorkStep Ending))
     (run : Ending → Deeds → Type 0) (e : Ending) (d : Deeds) → s.has_mapfile ≡ true
     → ((h : Deeds) → Works rescue_faults more run e h → Goes s files h.gain)
-    → Works rescue_faults (map_rows which mode name (file_of name files) ++ more) run e d → Goes s files d.gain
+    → Works rescue_faults (map_rows which mode name (file_named name files) ++ more) run e d → Goes s files d.gain
 map_goes which mode None s files more run e d on next (inl (is, none)) = none_goes s files d.gain on none.gain.calls none.gain.reads
 map_goes which mode None s files more run e d on next (inr (absent, inl (refused, none))) =
     none_goes s files d.gain on none.gain.calls none.gain.reads
@@ -231,7 +231,7 @@ work_goes c line end maps files lines e d on works =
     let run : Ending → Deeds → Type 0 = Rescues s (mapfile_of c files) lines in
     let opening : List (WorkStep Ending) = opened_rows c (found_in c files) end in
     map_goes DomainMap (map_mode c.options.loose) c.domain_map s files
-    (map_rows TestMap (map_mode c.options.loose) c.test_map (file_of c.test_map files) ++ opening) run e d on
+    (map_rows TestMap (map_mode c.options.loose) c.test_map (file_named c.test_map files) ++ opening) run e d on
     (λ h more. map_goes TestMap (map_mode c.options.loose) c.test_map s files opening run e h on
     (λ k last. AfterMaps [] k.gain.calls (All-nil IsMapRead) refl (goes_on c line end maps files lines e k on last)) more)
     works

@@ -22,7 +22,7 @@ use Rattle.task_files.specs.declared.ending.Ending.{Ending}
 use Rattle.task_files.specs.declared.ending.Which.{Which}
 use Rattle.task_files.specs.declared.ending.Which.TheVariants.{DomainMap}
 use Rattle.task_files.specs.Asked.{Maps, setting_of}
-use Rattle.task_files.specs.Maps.{file_of, found_in}
+use Rattle.task_files.specs.Maps.{file_named, found_in}
 use Rattle.task_files.specs.Refusals.{PatternEmpty}
 use Rattle.task_files.specs.Work.{rescue_faults, files_rows, map_rows}
 use Rattle.task_sweeps.specs.Pattern.{ThenPattern, IsLost, IsShort, IsRead, with_reads}
@@ -59,7 +59,7 @@ module _ (ready : Type 0) (s : Setting) (w : Sweeper) (files : List ℕ → Opti
     map_way : (which : Which) (mode : Mode) (name : Option (List ℕ)) (more : List (WorkStep Ending))
         (run : Ending → Deeds → Type 0) (e : Ending) (d : Deeds)
         → ((rest : List Entry) → Works rescue_faults more run e (with_calls d rest) → Way (record d.gain { calls = rest }))
-        → Works rescue_faults (map_rows which mode name (file_of name files) ++ more) run e d → Way d.gain
+        → Works rescue_faults (map_rows which mode name (file_named name files) ++ more) run e d → Way d.gain
     map_way which mode None more run e d next (inl (is, idle)) = idle_way d.gain idle.gain.calls idle.gain.times
     map_way which mode None more run e d next (inr (absent, inl (refused, idle))) = idle_way d.gain idle.gain.calls idle.gain.times
     map_way which mode None more run e d next (inr (absent, inr (passes, w))) = next d.gain.calls w

@@ -55,7 +55,7 @@ use Rattle.ddrescue_cli.specs.Tasks.{with_did}
 use Rattle.ddrescue_cli.specs.Told.{Told, calls_before}
 use Rattle.ddrescue_cli.specs.ToldParts.{files_of, asked_of}
 use Rattle.work_rules.specs.Work.{Deeds, Works, with_calls, with_opens}
-use Rattle.task_files.specs.Maps.{Found, file_of, found_in, mapfile_of}
+use Rattle.task_files.specs.Maps.{Found, file_named, found_in, mapfile_of}
 use Rattle.task_files.specs.Outside.{Outside}
 use Rattle.task_files.specs.Work.{answer_of, Rescues, RunsOver, rescue_faults, rescue_rows, worked_rows, barrier_of}
 use Rattle.ddrescue_cli.specs.Ddrescue.{TaskDone, Ddrescue}
@@ -157,7 +157,7 @@ opened_alone s off = ap (λ (b : Bool). image_open s.outfile true ∷ (if b then
 
 -- what a command's mapfile is to its setting
 load_if : (c : Command) (mapfile : Option (List ℕ)) (line : List ℕ) (end : ℕ) (maps : Maps) (files : List ℕ → Option File)
-    (load : List Call) → IsLoadIf mapfile (file_of mapfile files) load
+    (load : List Call) → IsLoadIf mapfile (file_named mapfile files) load
     → IsLoadOf (setting_by c (option_map names_of mapfile) line end maps) files load
 load_if c None line end maps files load is = record { all = λ on. absurd (cc); none = λ off. is }
 load_if c (Some n) line end maps files load is = record { all = λ on. is; none = λ off. absurd (cc) }
@@ -169,7 +169,7 @@ opening_by c None line end maps = refl
 opening_by c (Some n) line end maps = refl
 
 file_in : (c : Command) (mapfile : Option (List ℕ)) (line : List ℕ) (end : ℕ) (maps : Maps) (files : List ℕ → Option File)
-    → file_of mapfile files ≡ mapfile_in (setting_by c (option_map names_of mapfile) line end maps) files
+    → file_named mapfile files ≡ mapfile_in (setting_by c (option_map names_of mapfile) line end maps) files
 file_in c None line end maps files = refl
 file_in c (Some n) line end maps files = refl
 
@@ -228,8 +228,8 @@ done_after c line end maps files lines e d is (
   (test, rest, test_is, grew', (os, (back, out, (more, settled_, (load, run, loaded, all, ran))))),
 ) = record {
   maps = domain ++ test;
-  are = All-append IsMapRead domain test (if_reads c.domain_map (file_of c.domain_map files) domain domain_is)
-      (if_reads c.test_map (file_of c.test_map files) test test_is);
+  are = All-append IsMapRead domain test (if_reads c.domain_map (file_named c.domain_map files) domain domain_is)
+      (if_reads c.test_map (file_named c.test_map files) test test_is);
   rest = rest;
   grew = grew ∙ ap (λ (r : List Entry). map Returned domain ++ r) grew' ∙ made_both domain test rest;
   run = done_run c line end maps files lines e (with_opens (with_calls d rest) os) back more run load is out settled_ all loaded

@@ -27,7 +27,7 @@ use Rattle.ddrescue_words.specs.Command.{Command}
 use Rattle.task_files.specs.declared.ending.Ending.{Ending}
 use Rattle.task_files.specs.declared.ending.Ending.TheVariants.{Done, SameName, SourceFault, SourceLost, PatternUnread, SiteFault, NoMemory}
 use Rattle.task_files.specs.Asked.{Maps, setting_of}
-use Rattle.task_files.specs.Maps.{Found, file_of, found_in}
+use Rattle.task_files.specs.Maps.{Found, file_named, found_in}
 use Rattle.task_files.specs.Refusals.{NamesRefused}
 use Rattle.task_files.specs.Work.{answer_of, rescue_faults, files_rows}
 use Rattle.task_sweeps.specs.Pattern.{ThenPattern, IsLost, IsShort, IsRead, with_reads}
@@ -207,7 +207,7 @@ module _ (files : List ℕ → Option File) (line : List ℕ) (input_end top : �
         → DoneSweep s w files pieces end d.gain.times d.gain.calls
     fill_passed (load, rest, is_load, grew, (os, read)) =
         read_done load rest (with_opens (with_calls d rest) os)
-        (if_reads c.domain_map (file_of c.domain_map files) load is_load) refl refl grew read
+        (if_reads c.domain_map (file_named c.domain_map files) load is_load) refl refl grew read
 
   fill_named : (c : Command) (n : List ℕ) → FillDone (named c n)
   fill_named c n w =
@@ -244,7 +244,7 @@ module _ (files : List ℕ → Option File) (line : List ℕ) (input_end : ℕ) 
     generate_passed (load, rest, is_load, grew, (os, (back, out, (later, settled, (loaded, run, is_loaded, got, then))))) =
         subst (DoneSweep z (generator z) files pieces end d.gain.times) (sym grew)
         (over_files z (generator z) files pieces end lines e done load loaded (with_opens (with_calls d rest) os) back later
-        run (if_reads c.domain_map (file_of c.domain_map files) load is_load) out settled got is_loaded.begins then)
+        run (if_reads c.domain_map (file_named c.domain_map files) load is_load) out settled got is_loaded.begins then)
 
   generate_named : (c : Command) (n : List ℕ) → GenerateDone (named c n)
   generate_named c n w =

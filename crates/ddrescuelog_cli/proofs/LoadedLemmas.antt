@@ -20,7 +20,7 @@ use Rattle.ddrescuelog_cli.specs.declared.ending.Which.TheVariants.{DomainMap, R
 use Rattle.ddrescuelog_cli.specs.declared.load.LoadedMaps.{LoadedMaps}
 use Rattle.ddrescuelog_cli.specs.declared.ending.LogEnding.{LogEnding}
 use Rattle.ddrescuelog_cli.specs.declared.ending.LogEnding.TheVariants.{NoMemory}
-use Rattle.ddrescuelog_cli.specs.Maps.{Found, file_of, found_in, mapfile_mode, AreMapsOf, AreAskedFor}
+use Rattle.ddrescuelog_cli.specs.Maps.{Found, file_named, found_in, mapfile_mode, AreMapsOf, AreAskedFor}
 use Rattle.work_rules.specs.Parts.{Did, only_calls, WentThrough, StoppedIn}
 use Rattle.ddrescuelog_cli.specs.Work.{log_faults, map_rows, named_rows}
 use Rattle.ddrescuelog_cli.specs.Steps.{ReadsMap, HasStatuses, statuses_in, statuses_or_none, ReadsNamed, maps_read, IsLoadedAs, LoadsMaps, ReadCause}
@@ -63,12 +63,12 @@ abbrev found_by : (mapfile other domain : Option File) → Found
 found_by mapfile other domain = record { mapfile = mapfile; other = other; domain = domain }
 
 same_found : (c : Command) (files : List ℕ → Option File) (mapfile other domain : Option File)
-    → mapfile ≡ files c.mapfile → other ≡ file_of c.other files → domain ≡ file_of c.domain_map files
+    → mapfile ≡ files c.mapfile → other ≡ file_named c.other files → domain ≡ file_named c.domain_map files
     → found_by mapfile other domain ≡ found_in c files
 same_found c files mapfile other domain p q r =
     ap (λ (f : Option File). found_by f other domain) p
     ∙ ap (λ (f : Option File). found_by (files c.mapfile) f domain) q
-    ∙ ap (λ (f : Option File). found_by (files c.mapfile) (file_of c.other files) f) r
+    ∙ ap (λ (f : Option File). found_by (files c.mapfile) (file_named c.other files) f) r
 
 still_tells : (old new : SiteState) → Stays old new → IsTrue old.tells → IsTrue new.tells
 still_tells old new stays t = subst IsTrue (sym stays.keeps.tells) t
@@ -100,7 +100,7 @@ domain_rows c file = map_rows DomainMap (map_mode c.options.loose) c.domain_map 
 pub mapfile_refused : (c : Command) (e : LogEnding) (old new : SiteState) → ReadsMapfile c (Err e) old new
     → LoadsMaps c (Err e) old new
 mapfile_refused c e old new r =
-    let found : Found = found_by r.file (file_of c.other (files_in old)) (file_of c.domain_map (files_in old)) in
+    let found : Found = found_by r.file (file_named c.other (files_in old)) (file_named c.domain_map (files_in old)) in
     record {
       found = found;
       calls = r.calls;
@@ -115,13 +115,13 @@ mapfile_refused c e old new r =
 pub other_refused : (c : Command) (m : ReadMap) (e : LogEnding) (old mid new : SiteState)
     → ReadsMapfile c (Ok m) old mid → Stays old mid → ReadsOther c (Err e) mid new → LoadsMaps c (Err e) old new
 other_refused c m e old mid new r stays s =
-    let domain : Option File = file_of c.domain_map (files_in old) in
+    let domain : Option File = file_named c.domain_map (files_in old) in
     record {
       found = found_by r.file s.file domain;
       calls = r.calls ++ s.calls;
       is_own = λ t. same_found c (files_in old) r.file s.file domain (r.is_own t)
           (s.is_own (still_tells old mid stays t)
-          ∙ ap (file_of c.other) (map_stands RunMap (mapfile_mode c.mode) c.mapfile (Ok m) old mid r stays t))
+          ∙ ap (file_named c.other) (map_stands RunMap (mapfile_mode c.mode) c.mapfile (Ok m) old mid r stays t))
           refl;
       gained = λ t. grew_both old mid new r.calls s.calls (r.gained t) (s.gained (still_tells old mid stays t));
       did = inr (through_then log_faults (mapfile_rows c r.file) (named_rows c (found_by r.file s.file domain))
@@ -163,8 +163,8 @@ reads_all c m other r old mid low new a stays b stays' d =
       front = a.calls ++ b.calls;
       last = d.calls;
       is_own = λ t. same_found c (files_in old) a.file b.file d.file (a.is_own t)
-          (b.is_own (tells t) ∙ ap (file_of c.other) (first t))
-          (d.is_own (tells' (tells t)) ∙ ap (file_of c.domain_map) (second (tells t) ∙ first t));
+          (b.is_own (tells t) ∙ ap (file_named c.other) (first t))
+          (d.is_own (tells' (tells t)) ∙ ap (file_named c.domain_map) (second (tells t) ∙ first t));
       gained = λ t. grew_both old low new (a.calls ++ b.calls) d.calls
           (grew_both old mid low a.calls b.calls (a.gained t) (b.gained (tells t))) (d.gained (tells' (tells t)));
       mapfile = a.did.0;

@@ -23,7 +23,7 @@ use Rattle.ddrescuelog_cli.specs.declared.ending.Which.{Which}
 use Rattle.ddrescuelog_cli.specs.declared.ending.Which.TheVariants.{DomainMap, OtherMap}
 use Rattle.ddrescuelog_cli.specs.declared.ending.LogEnding.{LogEnding}
 use Rattle.ddrescuelog_cli.specs.declared.ending.LogEnding.TheVariants.{Exists, SiteFault}
-use Rattle.ddrescuelog_cli.specs.Maps.{Found, file_of, found_in}
+use Rattle.ddrescuelog_cli.specs.Maps.{Found, file_named, found_in}
 use Rattle.ddrescuelog_cli.specs.Refusals.{MapIsThere}
 use Rattle.work_rules.specs.Parts.{only_calls, WentThrough, StoppedIn}
 use Rattle.ddrescuelog_cli.specs.Work.{log_faults, map_rows, named_rows, SaysIfThere, UnlessThere, WorksOver, WorksAs}
@@ -249,23 +249,23 @@ named_then c found run e calls later alone none t w =
 
 -- what was found, where the files of the names are found so
 same_found : (c : Command) (files : List ℕ → Option File) (mapfile domain : Option File) → c.other ≡ None
-    → mapfile ≡ files c.mapfile → domain ≡ file_of c.domain_map files
+    → mapfile ≡ files c.mapfile → domain ≡ file_named c.domain_map files
     → record { mapfile = mapfile; other = None; domain = domain } ≡ found_in c files
 same_found c files mapfile domain alone m d =
     ap (λ (f : Option File). record { mapfile = f; other = None; domain = domain }) m
     ∙ ap (λ (f : Option File). record { mapfile = files c.mapfile; other = None; domain = f }) d
     ∙ sym (ap (λ (n : Option (List ℕ)).
-    record { mapfile = files c.mapfile; other = file_of n files; domain = file_of c.domain_map files }) alone)
+    record { mapfile = files c.mapfile; other = file_named n files; domain = file_named c.domain_map files }) alone)
 
 pub looks_stopped : {T : Type 0} (c : Command) (e : LogEnding) (old new : SiteState) → c.other ≡ None
     → AsksIfThere {T = T} c.options.forced c.mapfile (Err e) old new → Looks c (Err e) old new
 looks_stopped c e old new alone a =
     let files : List ℕ → Option File = files_in old in
-    let found : Found = record { mapfile = a.file; other = None; domain = file_of c.domain_map files } in
+    let found : Found = record { mapfile = a.file; other = None; domain = file_named c.domain_map files } in
     record {
       found = found;
       calls = a.calls;
-      is_own = λ t. same_found c files a.file (file_of c.domain_map files) alone (a.is_own t) refl;
+      is_own = λ t. same_found c files a.file (file_named c.domain_map files) alone (a.is_own t) refl;
       gained = a.gained;
       did = λ line list m. inr (there_stopped c.options.forced c.mapfile a.file
           (Works log_faults (named_rows c found) (WorksOver c line list m)) e (only_calls a.calls) a.did);
@@ -275,11 +275,11 @@ looks_stopped c e old new alone a =
 found_both : (c : Command) (old mid : SiteState) (mapfile domain : Option File) → c.other ≡ None
     → mid.tells ≡ old.tells → (IsTrue old.tells → mapfile ≡ files_in old c.mapfile)
     → (IsTrue old.tells → files_in mid ≡ files_in old)
-    → (IsTrue mid.tells → domain ≡ file_of c.domain_map (files_in mid)) → IsTrue old.tells
+    → (IsTrue mid.tells → domain ≡ file_named c.domain_map (files_in mid)) → IsTrue old.tells
     → record { mapfile = mapfile; other = None; domain = domain } ≡ found_in c (files_in old)
 found_both c old mid mapfile domain alone same m stands d t =
     same_found c (files_in old) mapfile domain alone (m t)
-    (d (subst IsTrue (sym same) t) ∙ ap (λ (f : List ℕ → Option File). file_of c.domain_map f) (stands t))
+    (d (subst IsTrue (sym same) t) ∙ ap (λ (f : List ℕ → Option File). file_named c.domain_map f) (stands t))
 
 calls_both : (old mid new : SiteState) (first second : List Entry) → mid.tells ≡ old.tells
     → (IsTrue old.tells → mid.calls ≡ old.calls ++ first) → (IsTrue mid.tells → new.calls ≡ mid.calls ++ second)

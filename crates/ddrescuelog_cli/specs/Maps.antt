@@ -22,16 +22,16 @@ pub record Found : Type 0 where
   pub domain : Option File
 
 -- a file by its name, if it has one
-abbrev pub file_of : Option (List ℕ) → (List ℕ → Option File) → Option File
-file_of None files = None
-file_of (Some name) files = files name
+abbrev pub file_named : Option (List ℕ) → (List ℕ → Option File) → Option File
+file_named None files = None
+file_named (Some name) files = files name
 
 -- what a command finds among files that stand
 abbrev pub found_in : Command → (List ℕ → Option File) → Found
 found_in c files = record {
   mapfile = files c.mapfile;
-  other = file_of c.other files;
-  domain = file_of c.domain_map files;
+  other = file_named c.other files;
+  domain = file_named c.domain_map files;
 }
 
 -- What the mapfile shows, and the statuses of the mapfile, of the other map and of the domain map. A map to be created

@@ -23,7 +23,7 @@ use Rattle.ddrescuelog_cli.specs.declared.ending.Which.{Which}
 use Rattle.ddrescuelog_cli.specs.declared.load.LoadedMaps.{LoadedMaps}
 use Rattle.ddrescuelog_cli.specs.declared.ending.LogEnding.{LogEnding}
 use Rattle.ddrescuelog_cli.specs.declared.ending.LogEnding.TheVariants.{Done, NoMap, MapRefused, SiteFault, ConsoleFault, NoMemory}
-use Rattle.ddrescuelog_cli.specs.Maps.{Found, Maps, file_of, found_in, AreMapsOf, AreAskedFor, domain_of}
+use Rattle.ddrescuelog_cli.specs.Maps.{Found, Maps, file_named, found_in, AreMapsOf, AreAskedFor, domain_of}
 use Rattle.ddrescuelog_cli.specs.Results.{text_of}
 use Rattle.ddrescuelog_cli.specs.Modes.{prints}
 use Rattle.ddrescuelog_cli.specs.Printing.{PutsAs}
@@ -51,7 +51,7 @@ HasStatuses (Some name) mode file (Some statuses) = IsMapOf file mode statuses
 abbrev pub ReadsNamed : Which → Mode → (name : Option (List ℕ)) → Result (Option Tiled) LogEnding
     → (old new : SiteState) → Type 0
 ReadsNamed which mode name result old new =
-    DidPart log_faults (map_rows which mode name) (file_of name (files_in old))
+    DidPart log_faults (map_rows which mode name) (file_named name (files_in old))
     (λ (tiles : Option Tiled) file. HasStatuses name mode file (statuses_in tiles)) result old new
 
 -- ---- all maps

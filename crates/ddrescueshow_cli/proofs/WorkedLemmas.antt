@@ -26,7 +26,7 @@ use Rattle.ddrescueshow_cli.specs.declared.ending.Which.TheVariants.{RunMap, Dom
 use Rattle.ddrescueshow_cli.specs.declared.ending.ShowEnding.{ShowEnding}
 use Rattle.ddrescueshow_cli.specs.declared.ending.ShowEnding.TheVariants.{Done, TooManyCells, ConsoleFault, NoMemory}
 use Rattle.ddrescueshow_cli.specs.Answers.{row_of}
-use Rattle.ddrescueshow_cli.specs.Work.{AreMapsOf, Found, LeavesAs, Maps, PutsAll, file_of, found_in, is_too_large, map_rows, show_faults, text_of}
+use Rattle.ddrescueshow_cli.specs.Work.{AreMapsOf, Found, LeavesAs, Maps, PutsAll, file_named, found_in, is_too_large, map_rows, show_faults, text_of}
 use Rattle.ddrescueshow_cli.specs.Ddrescueshow.{ShowWorked, handed, show_program}
 use Rattle.ddrescueshow_cli.specs.Steps.{ReadCause, ReadsMap, ReadsNamed, statuses_in}
 
@@ -145,7 +145,7 @@ module _ (terminal : Bool) (c : Command) (words : List (List ℕ)) (fits : is_to
   pub first_stopped : (e : ShowEnding) (s s' : SiteState) (p : ConsoleState)
       → ReadsMap RunMap Tight c.mapfile (Err e) s s' → ReadCause e s s' → Stays s s' → Did s s' p p e
   first_stopped e s s' p r why stays =
-      let domain : Option File = file_of c.domain_map (files_in s) in
+      let domain : Option File = file_named c.domain_map (files_in s) in
       worked s s' stays p p e (found_by r.file domain) r.calls
       (stopped_more show_faults (run_rows c r.file) (domain_rows c domain ++ Take ∷ []) PutsAll e (only_calls r.calls) r.did)
       (λ tells. ap (λ (f : Option File). found_by f domain) (r.is_own tells)) r.gained (why.unput terminal c _ p) (why.cause p)
@@ -157,13 +157,13 @@ module _ (terminal : Bool) (c : Command) (words : List (List ℕ)) (fits : is_to
     still tells = subst IsTrue (sym kept.keeps.tells) tells
 
     -- what the second read finds are the files that were there at first
-    both_own : (file : Option File) → (IsTrue t.tells → file ≡ file_of c.domain_map (files_in t)) → IsTrue s.tells
+    both_own : (file : Option File) → (IsTrue t.tells → file ≡ file_named c.domain_map (files_in t)) → IsTrue s.tells
         → found_by first.file file ≡ found_in c (files_in s)
     both_own file own tells =
         ap (λ (f : Option File). found_by f file) (first.is_own tells)
         ∙ ap (λ (f : Option File). found_by (files_in s c.mapfile) f)
         (own (still tells)
-        ∙ ap (file_of c.domain_map)
+        ∙ ap (file_named c.domain_map)
         (files_stand first.calls s t (reads_through RunMap Tight c.mapfile first.file first.calls first.did.1)
         (kept.keeps.start tells) (first.gained tells)))
 

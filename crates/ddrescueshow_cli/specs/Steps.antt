@@ -12,7 +12,7 @@ use Rattle.ddrescueshow_words.specs.Command.{Command}
 use Rattle.ddrescueshow_cli.specs.declared.ending.Which.{Which}
 use Rattle.ddrescueshow_cli.specs.declared.ending.ShowEnding.{ShowEnding}
 use Rattle.ddrescueshow_cli.specs.Answers.{row_of}
-use Rattle.ddrescueshow_cli.specs.Work.{Found, HasStatuses, LeavesAs, file_of, map_rows, show_faults}
+use Rattle.ddrescueshow_cli.specs.Work.{Found, HasStatuses, LeavesAs, file_named, map_rows, show_faults}
 use Rattle.ddrescueshow_cli.specs.Ddrescueshow.{handed}
 
 -- the statuses of tiles, if there are some
@@ -30,7 +30,7 @@ ReadsMap which mode name result old new =
 abbrev pub ReadsNamed : Which → Mode → (name : Option (List ℕ)) → Result (Option Tiled) ShowEnding
     → (old new : SiteState) → Type 0
 ReadsNamed which mode name result old new =
-    DidPart show_faults (map_rows which mode name) (file_of name (files_in old))
+    DidPart show_faults (map_rows which mode name) (file_named name (files_in old))
     (λ (tiles : Option Tiled) file. HasStatuses name mode file (statuses_in tiles)) result old new
 
 -- Why the read of a map stopped, as the answer's row says, after which nothing is put.

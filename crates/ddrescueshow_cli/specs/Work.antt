@@ -35,13 +35,13 @@ pub record Found : Type 0 where
   pub domain : Option File
 
 -- a file by its name, if it has one
-abbrev pub file_of : Option (List ℕ) → (List ℕ → Option File) → Option File
-file_of None files = None
-file_of (Some name) files = files name
+abbrev pub file_named : Option (List ℕ) → (List ℕ → Option File) → Option File
+file_named None files = None
+file_named (Some name) files = files name
 
 -- what a command finds among files
 abbrev pub found_in : Command → (List ℕ → Option File) → Found
-found_in c files = record { mapfile = files c.mapfile; domain = file_of c.domain_map files }
+found_in c files = record { mapfile = files c.mapfile; domain = file_named c.domain_map files }
 
 -- a map that is named isn't there, or is no map, or is too long
 abbrev pub MapIsRefused : Which → Mode → (name : Option (List ℕ)) → (file : Option File) → ShowEnding → Type 0

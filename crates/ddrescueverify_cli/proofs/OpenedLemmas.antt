@@ -8,7 +8,7 @@ use Rattle.mapfile_text.specs.Printed.{printed}
 use Rattle.faulty_source.specs.Journal.{Reading, IsFrom}
 use Rattle.faulty_source.specs.SourceState.{SourceState}
 use Rattle.faulty_source.specs.SourceChanges.{Keeps as SourceKeeps, Stays as SourceStays, AnswersOpen, PlansOpen}
-use Rattle.crash_site.specs.Files.{File, bytes_of, file_at}
+use Rattle.crash_site.specs.Files.{File, bytes_of, file_named}
 use Rattle.crash_site.specs.Folder.{Folder, opened, after}
 use Rattle.crash_site.specs.Calls.{Call, Entry, Done as Returned, image_open}
 use Rattle.crash_site.specs.SiteState.{SiteState, files_in, image_in}
@@ -252,8 +252,8 @@ image_of_load c n end (Ok now) loaded d0 d1 d2 is h keeps tells =
     ∙ opened_folder c n end (Ok now) d0 d1 d2 h tells in
     let pass : (v : VerifyEnding) → OutputRefused (files_in d0 c.outfile) v → ⊥ =
     subst (λ (f : Option File). (v : VerifyEnding) → OutputRefused f v → ⊥) (o.is_own tells) o.did.1.2.0 in
-    ap (λ (f : Folder). file_at f.files f.image) folder
-    ∙ ap (λ (i : Option (List ℕ)). file_at (opened before c.outfile false (files_in d0 c.outfile)).files i)
+    ap (λ (f : Folder). file_named f.image f.files) folder
+    ∙ ap (λ (i : Option (List ℕ)). file_named i (opened before c.outfile false (files_in d0 c.outfile)).files)
     (still_open (files_in d0 c.outfile) pass before c.outfile refl)
     ∙ ap (λ (files : List ℕ → Option File). files c.outfile) (open_stands before c.outfile (files_in d0 c.outfile))
 

@@ -2,7 +2,7 @@
 use Rattle.std.proofs.Common.{map, ◌≡◌, ◌≢◌, ℕ, true, IsTrue, List, [], ◌∷◌, ◌++◌, take, drop, All, Option, Some, None, refl, sym, ap, subst, ◌∙◌}
 use Rattle.std.proofs.lemmas.List.{map-append}
 use Rattle.std.proofs.lemmas.List.Elements.{All-weaker}
-use Rattle.crash_site.specs.Files.{File, bytes_of, empty_file, put, file_at}
+use Rattle.crash_site.specs.Files.{File, bytes_of, empty_file, put, file_named}
 use Rattle.crash_site.specs.Calls.{Call, Entry, Done, draft_append, draft_sync, draft_publish, map_settle}
 use Rattle.crash_site.specs.Folder.{Folder, after}
 use Rattle.crash_site.specs.SiteState.{SiteState, image_in}
@@ -26,13 +26,13 @@ Apart names image = (name : List ℕ) → image ≡ Some name → (name ≢ name
 -- it stays open, and reads as it did
 record Untouched (d e : Folder) : Type 0 where
   image : e.image ≡ d.image
-  file : file_at e.files e.image ≡ file_at d.files d.image
+  file : file_named e.image e.files ≡ file_named d.image d.files
 
 untouched_more : (a b c : Folder) → Untouched a b → Untouched b c → Untouched a c
 untouched_more a b c f g = record { image = g.image ∙ f.image; file = g.file ∙ f.file }
 
 put_apart : (files : List ℕ → Option File) (image : Option (List ℕ)) (name : List ℕ) (file : Option File)
-    → ((n : List ℕ) → image ≡ Some n → n ≢ name) → file_at (put files name file) image ≡ file_at files image
+    → ((n : List ℕ) → image ≡ Some n → n ≢ name) → file_named image (put files name file) ≡ file_named image files
 put_apart files None name file apart = refl
 put_apart files (Some n) name file apart = put_other files name n file (apart n refl)
 

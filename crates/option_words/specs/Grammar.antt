@@ -61,8 +61,7 @@ pub record AskForOnly {C : Type 0} (g : Grammar C) (words : List (List ℕ)) (c 
   pub accepted : (fault : UsageFault) → AreRefusedBy g words fault → ⊥
   pub quiet_is : AskSilence g words ↔ (quiet ≡ true)
 
--- this is what the words ask for, and nothing else, and it is within limits; `quiet` says whether
--- they ask that nothing be said
+-- this is what the words ask for, and nothing else, within limits; `quiet` says whether they ask that nothing be said
 pub record IsAskedWithin {C : Type 0} (g : Grammar C) (words : List (List ℕ)) (c : C) (Limits : Type 0)
     (quiet : Bool) : Type 0 where
   pub only : AskForOnly g words c quiet

@@ -12,7 +12,7 @@ use Rattle.rescue_domain.specs.Domain.{is_below, whole_domain, in_map}
 use Rattle.rescue_domain.specs.Finished.{is_finished, is_finished_at}
 use Rattle.ddrescue_words.specs.Command.{Command, Rescue as ForRescue}
 use Rattle.task_files.specs.Asked.{Maps, domain_asked, in_list}
-use Rattle.task_files.specs.Maps.{Found, file_of, found_in, mapfile_of, MapfileLists}
+use Rattle.task_files.specs.Maps.{Found, file_named, found_in, mapfile_of, MapfileLists}
 use Rattle.ddrescue_cli.specs.Ddrescue.{TaskDone}
 use Rattle.rescue_safety.specs.Rescue.{Rescue, files_at_first}
 use Rattle.rescue_safety.specs.AskedFor.{IsAskedFor}
@@ -59,8 +59,8 @@ in_whole pos size limit x is =
 
 -- the file that an option names
 pub named_file : (name : Option (List ℕ)) (n : List ℕ) (files : List ℕ → Option File) → name ≡ Some n
-    → file_of name files ≡ files n
-named_file name n files is = ap (λ (o : Option (List ℕ)). file_of o files) is
+    → file_named name files ≡ files n
+named_file name n files is = ap (λ (o : Option (List ℕ)). file_named o files) is
 
 pub asked_for : (r : Rescue) (p : TaskDone (ForRescue r.command) r.did.call.told) (x : ℕ)
     → domain_asked r.command.options p.outside.end p.outside.maps x ≡ true → IsAskedFor r x

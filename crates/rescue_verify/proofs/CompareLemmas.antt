@@ -16,7 +16,7 @@ use Rattle.faulty_source.specs.SourceChanges.{Keeps as SourceKeeps, Stays as Sou
 use Rattle.crash_site.specs.declared.site.SiteCall.{SiteCall}
 use Rattle.crash_site.specs.Calls.{Call, Entry, Done, Failed, image_read}
 use Rattle.crash_site.specs.CallsMade.{Lost, BrokeAt}
-use Rattle.crash_site.specs.Files.{File, bytes_of, file_at}
+use Rattle.crash_site.specs.Files.{File, bytes_of, file_named}
 use Rattle.crash_site.specs.Folder.{Folder, after}
 use Rattle.crash_site.proofs.LawLemmas.{after-append}
 use Rattle.crash_site.specs.SiteState.{SiteState, image_in}
@@ -176,7 +176,7 @@ same_image p from tally old new source source' site site' u stays = record {
       ∙ looks_stand (place_in p) u.looks (after site.start site.calls) in
       let folder : after site'.start site'.calls ≡ after site.start site.calls =
       ap (λ (f : Folder). after f site'.calls) (stays.keeps.start tells) ∙ calls in
-      ap (λ (f : Folder). file_at f.files f.image) folder;
+      ap (λ (f : Folder). file_named f.image f.files) folder;
 }
 
 -- a piece that was taken is one more look

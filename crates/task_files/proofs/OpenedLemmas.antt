@@ -32,7 +32,7 @@ use Rattle.task_files.specs.declared.ending.Ending.TheVariants.{Usage, SourceFau
 use Rattle.task_files.specs.declared.load.LoadedMap.{LoadedMap}
 use Rattle.task_files.specs.Names.{AreNamedApart}
 use Rattle.task_files.specs.Asked.{names_by, place_by, setting_of, ArePlacedBy, IsBeyond}
-use Rattle.task_files.specs.Maps.{Found, file_of, found_in, mapfile_of, seen_through}
+use Rattle.task_files.specs.Maps.{Found, file_named, found_in, mapfile_of, seen_through}
 use Rattle.task_files.specs.Refusals.{PlacesRefused}
 use Rattle.task_files.specs.Outside.{HasGainedReads}
 use Rattle.work_rules.specs.Opens.{AreOpens}
@@ -190,7 +190,7 @@ own_loads makes c n end r d0 d1 d2 h =
 
 mapfile_stands : (makes : Bool) (out : List ℕ) (mapfile : Option (List ℕ)) (d0 d1 : SiteState)
     → AreNamedApart out (option_map names_of mapfile) → d1.start ≡ d0.start
-    → Made (image_open out makes ∷ []) d0.calls d1.calls → file_of mapfile (files_in d1) ≡ file_of mapfile (files_in d0)
+    → Made (image_open out makes ∷ []) d0.calls d1.calls → file_named mapfile (files_in d1) ≡ file_named mapfile (files_in d0)
 mapfile_stands makes out None d0 d1 apart same made = refl
 mapfile_stands makes out (Some name) d0 d1 apart same made =
     open_apart makes d0.start d1.start out name d0.calls d1.calls same apart.0 made
@@ -206,7 +206,7 @@ only_open false forced out file calls t =
 -- the mapfile that was loaded is the one that stood there before
 pub own_mapfile : (makes : Bool) (c : Command) (n : Option MapNames) (end : ℕ) (r : Result LoadedMap Ending)
     (d0 d1 d2 : SiteState) → (h : HasLoaded makes c n end r d0 d1 d2) → (file : Option File)
-    → (IsTrue d1.tells → file ≡ file_of c.mapfile (files_in d1)) → IsTrue d0.tells → file ≡ mapfile_of c (files_in d0)
+    → (IsTrue d1.tells → file ≡ file_named c.mapfile (files_in d1)) → IsTrue d0.tells → file ≡ mapfile_of c (files_in d0)
 own_mapfile makes c n end r d0 d1 d2 h file own td =
     own (rw h.keeps.tells td)
     ∙ mapfile_stands makes c.outfile c.mapfile d0 d1 (subst (AreNamedApart c.outfile) h.names h.apart) (h.keeps.start td)

@@ -29,7 +29,7 @@ use Rattle.task_files.specs.declared.ending.Which.{Which}
 use Rattle.task_files.specs.declared.ending.Which.TheVariants.{DomainMap, TestMap}
 use Rattle.task_files.specs.declared.ending.Ending.{Ending}
 use Rattle.task_files.specs.Asked.{Maps, setting_of}
-use Rattle.task_files.specs.Maps.{Found, IsNamedMap, file_of, found_in, mapfile_of}
+use Rattle.task_files.specs.Maps.{Found, IsNamedMap, file_named, found_in, mapfile_of}
 use Rattle.task_files.specs.Work.{Rescues, rescue_faults, map_rows, opened_rows}
 use Rattle.task_files.specs.Steps.{statuses_in, HasTiles, ReadsMap, IsOnlyMaps, maps_of, DidAfterMaps, Worked}
 use Rattle.task_files.proofs.OpenedLemmas.{none_seen}
@@ -188,9 +188,9 @@ pub worked_test : (c : Command) (line : List ℕ) (domain : Option Tiled) (heard
     → Worked c line heard heard e (across source source old new clock clock x x)
 worked_test c line domain heard e source old mid new clock x f stays r =
     let found : Found = record (found_in c (files_in old)) { domain = f.file; test = r.file } in
-    let own : IsTrue old.tells → r.file ≡ file_of c.test_map (files_in old) =
+    let own : IsTrue old.tells → r.file ≡ file_named c.test_map (files_in old) =
     λ t. r.is_own (rw stays.keeps.tells t)
-    ∙ ap (file_of c.test_map) (stands_after DomainMap (mode_by c) c.domain_map domain old mid f stays t) in
+    ∙ ap (file_named c.test_map) (stands_after DomainMap (mode_by c) c.domain_map domain old mid f stays t) in
     worked_reads c line heard e source old new clock x found (f.calls ++ r.calls)
     (λ t. ap (λ (g : Option File). record (found_in c (files_in old)) { domain = g; test = r.file }) (f.is_own t)
     ∙ ap (λ (g : Option File). record (found_in c (files_in old)) { test = g }) (own t))
@@ -261,7 +261,7 @@ worked_after c line domain test heard heard' e s0 s1 old mid new last k k' x x' 
       agrees = record {
         opens = o.opens;
         found = λ t. found_is found (found_in c (files_in old)) (f.is_own t)
-            (h.is_own (told t) ∙ ap (file_of c.test_map) (stand t))
+            (h.is_own (told t) ∙ ap (file_named c.test_map) (stand t))
             (o.output (told' t) ∙ ap (λ (fs : List ℕ → Option File). fs c.outfile) (stand' t))
             (o.mapfile (told' t) ∙ ap (mapfile_of c) (stand' t));
         calls = λ t. o.gains.calls (told' t)

@@ -23,13 +23,13 @@ pub data MapfileLists (mapfile : Option File) (first end : ℕ) : Type 0 where
       → IsMapText there.bytes Tight shown first listed statuses → end ≡ length statuses → MapfileLists mapfile first end
 
 -- a file by its name, if it has one
-abbrev pub file_of : Option (List ℕ) → (List ℕ → Option File) → Option File
-file_of None files = None
-file_of (Some name) files = files name
+abbrev pub file_named : Option (List ℕ) → (List ℕ → Option File) → Option File
+file_named None files = None
+file_named (Some name) files = files name
 
 -- the mapfile of a command among files, if there is one
 abbrev pub mapfile_of : Command → (List ℕ → Option File) → Option File
-mapfile_of c files = file_of c.mapfile files
+mapfile_of c files = file_named c.mapfile files
 
 -- There is a map only where an option asks for it.
 pub record AreAskedFor (c : Command) (maps : Maps) : Type 0 where
@@ -47,8 +47,8 @@ pub record Found : Type 0 where
 -- what a command finds among files that stand
 abbrev pub found_in : Command → (List ℕ → Option File) → Found
 found_in c files = record {
-  domain = file_of c.domain_map files;
-  test = file_of c.test_map files;
+  domain = file_named c.domain_map files;
+  test = file_named c.test_map files;
   output = files c.outfile;
   mapfile = mapfile_of c files;
 }

@@ -39,7 +39,7 @@ use Rattle.task_files.specs.declared.ending.Ending.{Ending}
 use Rattle.task_files.specs.declared.ending.Ending.TheVariants.{NoMap, NotRegular, MapRefused, NoOutput, SiteFault, NoMemory}
 use Rattle.task_files.specs.Names.{AreNamedApart, first_same}
 use Rattle.task_files.specs.Asked.{ArePlacedBy, Maps, names_by, setting_of}
-use Rattle.task_files.specs.Maps.{Found, AreAskedFor, AreMapsIn, IsListing, MapfileLists, file_of, mapfile_of}
+use Rattle.task_files.specs.Maps.{Found, AreAskedFor, AreMapsIn, IsListing, MapfileLists, file_named, mapfile_of}
 use Rattle.task_files.specs.Outside.{Outside, HasGainedReads, Agrees}
 use Rattle.work_rules.specs.Opens.{AreOpens}
 use Rattle.task_files.specs.Work.{RunsOver, Rescues, rescue_faults, map_rows, output_rows, load_rows, opened_rows, worked_rows}
@@ -134,7 +134,7 @@ HasTiles (Some name) mode (Some tiles) file = IsMapOf file mode tiles.statuses
 abbrev pub ReadsMap : Which → Mode → (name : Option (List ℕ)) → Result (Option Tiled) Ending → (old new : SiteState)
     → Type 0
 ReadsMap which mode name result old new =
-    DidPart rescue_faults (map_rows which mode name) (file_of name (files_in old)) (HasTiles name mode) result old new
+    DidPart rescue_faults (map_rows which mode name) (file_named name (files_in old)) (HasTiles name mode) result old new
 
 -- what the open of the output did
 abbrev pub OpensOutput : {T : Type 0} → (makes forced : Bool) → (outfile : List ℕ) → Result T Ending
@@ -150,7 +150,7 @@ pub record StartsAs (end : ℕ) (start : LoadedMap) (file : Option File) : Type 
 -- what the load of a mapfile did, if there is one
 abbrev pub Loads : (mapfile : Option (List ℕ)) → (end : ℕ) → Result LoadedMap Ending → (old new : SiteState) → Type 0
 Loads mapfile end result old new =
-    DidPart rescue_faults (load_rows mapfile) (file_of mapfile (files_in old)) (StartsAs end) result old new
+    DidPart rescue_faults (load_rows mapfile) (file_named mapfile (files_in old)) (StartsAs end) result old new
 
 -- the name of a mapfile, by its names
 abbrev pub mapfile_by : Option MapNames → Option (List ℕ)

@@ -3,7 +3,7 @@ use Rattle.std.proofs.Common.{◌≡◌, ℕ, ◌<◌, ◌^◌, Bool, true, fals
 use Rattle.std.proofs.lemmas.List.Elements.{All-nil}
 use Rattle.block_list.specs.Tiled.{Tiled}
 use Rattle.faulty_source.specs.SourceState.{SourceState}
-use Rattle.crash_site.specs.Files.{File, bytes_of, file_at}
+use Rattle.crash_site.specs.Files.{File, bytes_of, file_named}
 use Rattle.crash_site.specs.Folder.{Folder, opened, after}
 use Rattle.crash_site.specs.Calls.{Entry, Done as Returned, image_open}
 use Rattle.crash_site.specs.SiteState.{SiteState}
@@ -51,7 +51,7 @@ use Rattle.task_sweeps.proofs.FilledLemmas.{sweep_silent, sweep_unread}
 -- this file is open, under this name
 record IsOpenFile (out : List ℕ) (file : Option File) (d : Folder) : Type 0 where
   image : d.image ≡ Some out
-  is : file_at d.files d.image ≡ file
+  is : file_named d.image d.files ≡ file
 
 opened_there : (d : Folder) (out : List ℕ) (file : Option File) → (file ≡ None → ⊥) → d.files out ≡ file
     → IsOpenFile out file (opened d out false file)

@@ -22,7 +22,7 @@ use Rattle.task_files.specs.declared.ending.Which.TheVariants.{DomainMap}
 use Rattle.task_files.specs.declared.ending.Ending.{Ending}
 use Rattle.task_files.specs.Names.{first_same}
 use Rattle.task_files.specs.Asked.{names_by}
-use Rattle.task_files.specs.Maps.{Found, file_of, found_in, mapfile_of}
+use Rattle.task_files.specs.Maps.{Found, file_named, found_in, mapfile_of}
 use Rattle.task_files.specs.Outside.{Outside}
 use Rattle.work_rules.specs.Opens.{AreOpens}
 use Rattle.task_files.specs.Work.{rescue_faults, map_rows}
@@ -62,7 +62,7 @@ module _ (c : Command) (domain : Option Tiled) (s0 s1 : SourceState) (old mid la
   outside_after = record {
     found = record {
       domain = f.file;
-      test = file_of c.test_map (files_in old);
+      test = file_named c.test_map (files_in old);
       output = b.output;
       mapfile = b.mapfile;
     };

@@ -2,7 +2,7 @@
 #![tactic(auto, using(crate::proofs::FolderLemmas::folder_lemmas))]
 
 ghost use Rattle.std.specs.Prelude.{◌≡◌, ℕ, ◌+◌, ◌-◌, min, ◌<◌, ◌≤◌, ◌^◌, true, false, IsTrue, List, length, take, slice_range, Some, None, IsSome, is_some, IfOk, OnOk, OnErr, MatchOption, if◌then◌else◌};
-ghost use Rattle.crash_site.specs.Files.{File, put, file_at, written_file};
+ghost use Rattle.crash_site.specs.Files.{File, file_named, put, written_file};
 ghost use Rattle.crash_site.specs.FileAnswers.{kind_of, is_absent, IsRead, IsWithin, IsImageRead};
 ghost use Rattle.crash_site.specs.Calls.{image_open, image_write, draft_begin, draft_append, draft_publish, map_remove};
 ghost use Rattle.crash_site.specs.Folder.{Folder, after_done, after_failed};
@@ -124,7 +124,7 @@ impl MemoryFolder {
     /// Reads the open image.
     pub(crate) fn read_image(&self, pos: u64, buf: &mut [u8]) -> usize
         requires { IsSome self.now.image }
-        ensures { IsImageRead (file_at (folder_of self.now).files (folder_of self.now).image) pos buf.new result }
+        ensures { IsImageRead (file_named (folder_of self.now).image (folder_of self.now).files) pos buf.new result }
     {
         let Some(name) = &self.image else {
             unreachable!();
