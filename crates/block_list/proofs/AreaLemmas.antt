@@ -41,7 +41,7 @@ next_out set a f = begins_next set a ∙ ap (λ b. set (a + 1) && not b) f ∙ a
 next_in : (set : ℕ → Bool) (a : ℕ) → set a ≡ true → begins_area set (a + 1) ≡ false
 next_in set a t = begins_next set a ∙ ap (λ b. set (a + 1) && not b) t ∙ and_right (set (a + 1)) false refl
 
-abbrev weight : Bool → ℕ
+abbrev pub weight : Bool → ℕ
 weight b = if b then 1 else 0
 
 count_at : (p : ℕ → Bool) (a n : ℕ)

@@ -90,7 +90,7 @@ nearest r p q c asks =
 abbrev pub cursor_by : Bool → (len p q jump : ℕ) → ℕ
 cursor_by up len p q jump = if up then min len (q + jump) else p - jump
 
-abbrev jump_of : Setting → Machine → Event → ℕ
+abbrev pub jump_of : Setting → Machine → Event → ℕ
 jump_of s m e = if is_jump s m e then m.skip else 0
 
 cursor_is : (r : RunState) (e : Event) → MayCopy r → cursor_after (setting_in r) r.machine e

@@ -1,7 +1,6 @@
 -- Turns of copying, one after another, and one that stops.
-use Rattle.std.proofs.Common.{◌≡◌, ℕ, ◌+◌, ◌<◌, ◌≤◌, ◌^◌, Bool, true, false, IsTrue, List, [], ◌∷◌, ◌++◌, length, drop, All, None, refl, sym, ap, ◌∙◌, arith, subst, append_assoc, append-nil}
+use Rattle.std.proofs.Common.{◌≡◌, ℕ, ◌+◌, ◌<◌, ◌≤◌, ◌^◌, true, false, IsTrue, List, [], ◌∷◌, ◌++◌, length, drop, All, None, refl, sym, ap, ◌∙◌, arith, subst, append-nil}
 use Rattle.std.specs.List.{slice_range}
-use Rattle.std.proofs.lemmas.List.{map-append}
 use Rattle.std.proofs.lemmas.List.Elements.{All-nil, All-cons, All-append}
 use Rattle.faulty_source.specs.Journal.{Reading, IsFrom}
 use Rattle.faulty_source.specs.SourceState.{SourceState}
@@ -10,13 +9,10 @@ use Rattle.faulty_source.proofs.Keeping.{stays_self, stays_more, reads_more}
 use Rattle.crash_site.specs.Calls.{Call}
 use Rattle.crash_site.specs.SiteState.{SiteState}
 use Rattle.crash_site.specs.SiteChanges.{Makes}
-use Rattle.save_resume.proofs.CallLemmas.{made_more}
 use Rattle.save_resume.proofs.FillLemmas.{keeps_self, keeps_more}
-use Rattle.rescue_console.specs.declared.console.Channel.TheVariants.{Out}
-use Rattle.rescue_console.specs.ClockState.{ClockState, Keeps as ClockKeeps, Reads as ReadsClock}
+use Rattle.rescue_console.specs.ClockState.{ClockState, Reads as ReadsClock}
 use Rattle.rescue_console.specs.ConsoleState.{ConsoleState}
-use Rattle.rescue_console.specs.Speaking.{SpokenPiece, SpeaksOn, out_pieces}
-use Rattle.rescue_console.proofs.SpeakingLemmas.{speeches_join}
+use Rattle.rescue_console.specs.Speaking.{SpeaksOn, out_pieces}
 use Rattle.transfer_token.specs.declared.token.Request.{Request}
 use Rattle.rescue_rules.specs.declared.phase.Phase.{Phase}
 use Rattle.rescue_rules.specs.declared.phase.Phase.TheVariants.{Copying}
@@ -40,41 +36,15 @@ use Rattle.rescue_core.specs.RunState.{RunState, setting_in, passed, HasPlaces}
 use Rattle.rescue_core.specs.Turning.{IsEvent, move_by, Turned, Halted, stepped, move_pieces}
 use Rattle.rescue_core.specs.Closing.{drafting_at_stop}
 use Rattle.rescue_core.proofs.TurnEndLemmas.{says_none}
+use Rattle.rescue_core.proofs.ObjectLemmas.{clock_self, clock_keeps, timed_more, makes_more, says_more}
 use Rattle.copy_passes.specs.Turns.{IsAlike, moved_to, Went, WentUpTo, WentByTurns}
 use Rattle.copy_passes.specs.Copying.{MayCopy}
 use Rattle.copy_passes.proofs.AlikeLemmas.{alike_by, alike_on, next_pass_is_alike, RunMore, run_more}
 use Rattle.copy_passes.proofs.CopyingLemmas.{ahead_of, CopyStep, copy_steps, two_of, copying_passed}
 
-clock_self : (a : ClockState) → ClockKeeps a a
-clock_self a = record { planned = refl; plan = refl }
-
-clock_keeps : (a b c : ClockState) → ClockKeeps a b → ClockKeeps b c → ClockKeeps a c
-clock_keeps a b c f g = record { planned = g.planned ∙ f.planned; plan = g.plan ∙ f.plan }
-
-pub timed_more : (xs ys : List ℕ) (a b c : ClockState) → ReadsClock xs a b → ReadsClock ys b c → ReadsClock (xs ++ ys) a c
-timed_more xs ys a b c f g = record {
-  tells = λ now. f.tells (g.tells now);
-  told = λ now. g.told now ∙ ap (λ (r : List ℕ). r ++ ys) (f.told (g.tells now)) ∙ append_assoc a.readings xs ys;
-}
-
-makes_more : (xs ys : List Call) (a b c : SiteState) → b.tells ≡ a.tells → Makes xs a b → Makes ys b c → Makes (xs ++ ys) a c
-makes_more xs ys a b c same f g = record {
-  made = λ tells. made_more a.calls b.calls c.calls xs ys (f.made tells) (g.made (rw same tells));
-  faults = g.faults ∙ f.faults;
-}
-
 pub times_append : (front back : List Event) → times_of (front ++ back) ≡ times_of front ++ times_of back
 times_append [] back = refl
 times_append (e ∷ front) back = ap (λ (ts : List ℕ). e.before ∷ e.after ∷ ts) (times_append front back)
-
-abbrev out_piece : List ℕ → SpokenPiece
-out_piece text = record { channel = Out; text = text }
-
-pub says_more : (front back : List (List ℕ)) (h h1 h2 : Bool) (x y z : ConsoleState) → SpeaksOn (out_pieces front) h h1 x y
-    → SpeaksOn (out_pieces back) h1 h2 y z → SpeaksOn (out_pieces (front ++ back)) h h2 x z
-says_more front back h h1 h2 x y z f g =
-    subst (λ (ps : List SpokenPiece). SpeaksOn ps h h2 x z) (sym (map-append out_piece front back))
-    (speeches_join (out_pieces front) (out_pieces back) h h1 h2 x y z f g)
 
 -- no turn
 went_none : (r : RunState) (a : SourceState) (d : SiteState) (k : ClockState) (x : ConsoleState)

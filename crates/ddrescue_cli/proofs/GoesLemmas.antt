@@ -5,7 +5,7 @@ use Rattle.block_list.specs.declared.status.Status.{Status}
 use Rattle.mapfile_text.specs.declared.state.MapState.{MapState}
 use Rattle.mapfile_text.specs.declared.read.Mode.{Mode}
 use Rattle.crash_site.specs.declared.site.SiteCall.TheVariants.{MapRead}
-use Rattle.crash_site.specs.Files.{File, bytes_of}
+use Rattle.crash_site.specs.Files.{File, bytes_of, file_named}
 use Rattle.crash_site.specs.Calls.{Call, Entry, Done as Returned, image_open, image_sync, map_settle}
 use Rattle.crash_site.specs.CallsMade.{Lost, BrokeAt}
 use Rattle.crash_site.specs.Left.{MayBeLeft}
@@ -29,7 +29,7 @@ use Rattle.save_resume.specs.Named.{map_mode}
 use Rattle.task_files.specs.Refusals.{MapfileRefused, PlacesRefused}
 use Rattle.work_rules.specs.Work.{Deeds, WorkStep, Look, Read, Works, with_calls, with_opens}
 use Rattle.task_files.specs.Asked.{Maps, setting_asked, setting_of}
-use Rattle.task_files.specs.Maps.{file_named, found_in, mapfile_of}
+use Rattle.task_files.specs.Maps.{found_in, mapfile_of}
 use Rattle.task_files.specs.Work.{Rescues, RunsOver, rescue_faults, map_rows, load_rows, opened_rows, worked_rows}
 use Rattle.task_files.specs.Steps.{IsOnlyMaps}
 use Rattle.rescue_rules.proofs.MapfileLemmas.{settling_calls, opening_is}

@@ -5,7 +5,7 @@ use Rattle.std.proofs.lemmas.List.Elements.{All-nil, All-append}
 use Rattle.block_list.specs.declared.types.TypeSet.{TypeSet}
 use Rattle.mapfile_text.specs.declared.read.Mode.{Mode}
 use Rattle.crash_site.specs.declared.site.SiteCall.TheVariants.{MapRead}
-use Rattle.crash_site.specs.Files.{File}
+use Rattle.crash_site.specs.Files.{File, file_named}
 use Rattle.crash_site.specs.Calls.{Call, Entry, Done}
 use Rattle.save_resume.specs.Named.{map_mode}
 use Rattle.rescue_rules.specs.declared.stop.RunEnd.{RunEnd}
@@ -22,7 +22,7 @@ use Rattle.task_files.specs.declared.ending.Ending.{Ending}
 use Rattle.task_files.specs.declared.ending.Which.{Which}
 use Rattle.task_files.specs.declared.ending.Which.TheVariants.{DomainMap}
 use Rattle.task_files.specs.Asked.{Maps, setting_of}
-use Rattle.task_files.specs.Maps.{file_named, found_in}
+use Rattle.task_files.specs.Maps.{found_in}
 use Rattle.task_files.specs.Refusals.{PatternEmpty}
 use Rattle.task_files.specs.Work.{rescue_faults, files_rows, map_rows}
 use Rattle.task_sweeps.specs.Pattern.{ThenPattern, IsLost, IsShort, IsRead, with_reads}

@@ -10,7 +10,7 @@ use Rattle.std.proofs.lemmas.List.Elements.{All-nil, All-append}
 use Rattle.block_list.specs.declared.status.Status.{Status}
 use Rattle.block_list.proofs.Places.{slice_get-append_right}
 use Rattle.mapfile_text.specs.declared.state.MapState.{MapState}
-use Rattle.crash_site.specs.Files.{File, bytes_of}
+use Rattle.crash_site.specs.Files.{File, bytes_of, file_named}
 use Rattle.crash_site.specs.Calls.{Call, Entry, Done as Returned, image_open}
 use Rattle.crash_site.specs.Folder.{Folder, after}
 use Rattle.crash_site.specs.Left.{MayBeLeft}
@@ -55,7 +55,7 @@ use Rattle.ddrescue_cli.specs.Tasks.{with_did}
 use Rattle.ddrescue_cli.specs.Told.{Told, calls_before}
 use Rattle.ddrescue_cli.specs.ToldParts.{files_of, asked_of}
 use Rattle.work_rules.specs.Work.{Deeds, Works, with_calls, with_opens}
-use Rattle.task_files.specs.Maps.{Found, file_named, found_in, mapfile_of}
+use Rattle.task_files.specs.Maps.{Found, found_in, mapfile_of}
 use Rattle.task_files.specs.Outside.{Outside}
 use Rattle.task_files.specs.Work.{answer_of, Rescues, RunsOver, rescue_faults, rescue_rows, worked_rows, barrier_of}
 use Rattle.ddrescue_cli.specs.Ddrescue.{TaskDone, Ddrescue}

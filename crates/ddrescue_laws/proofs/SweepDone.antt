@@ -4,7 +4,7 @@ use Rattle.std.proofs.lemmas.List.{map-append}
 use Rattle.block_list.specs.declared.status.Status.{Status}
 use Rattle.block_list.specs.declared.types.TypeSet.{TypeSet}
 use Rattle.mapfile_text.specs.declared.state.MapState.{MapState}
-use Rattle.crash_site.specs.Files.{File}
+use Rattle.crash_site.specs.Files.{File, file_named}
 use Rattle.crash_site.specs.Calls.{Call, Entry, Done as Returned, image_open}
 use Rattle.save_resume.specs.Loading.{BeginsLoad}
 use Rattle.save_resume.specs.Resuming.{barrier_calls}
@@ -27,7 +27,7 @@ use Rattle.ddrescue_words.specs.Command.{Command}
 use Rattle.task_files.specs.declared.ending.Ending.{Ending}
 use Rattle.task_files.specs.declared.ending.Ending.TheVariants.{Done, SameName, SourceFault, SourceLost, PatternUnread, SiteFault, NoMemory}
 use Rattle.task_files.specs.Asked.{Maps, setting_of}
-use Rattle.task_files.specs.Maps.{Found, file_named, found_in}
+use Rattle.task_files.specs.Maps.{Found, found_in}
 use Rattle.task_files.specs.Refusals.{NamesRefused}
 use Rattle.task_files.specs.Work.{answer_of, rescue_faults, files_rows}
 use Rattle.task_sweeps.specs.Pattern.{ThenPattern, IsLost, IsShort, IsRead, with_reads}

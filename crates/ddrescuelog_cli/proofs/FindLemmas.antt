@@ -22,7 +22,6 @@ use Rattle.map_algebra.specs.Change.{changed_map}
 use Rattle.map_algebra.specs.Combine.{combined_map}
 use Rattle.map_algebra.specs.Listing.{listed}
 use Rattle.map_algebra.specs.Summary.{summary_of}
-use Rattle.work_rules.specs.Work.{IsIdle}
 use Rattle.ddrescuelog_words.specs.declared.mode.LogMode.{LogMode}
 use Rattle.ddrescuelog_words.specs.declared.mode.LogMode.TheVariants.{Change, Combine, Complete, ListBlocks, Summarize}
 use Rattle.ddrescuelog_words.specs.Command.{Command}
@@ -34,16 +33,13 @@ use Rattle.ddrescuelog_cli.specs.Maps.{Maps, output_from, shape_of, domain_of}
 use Rattle.ddrescuelog_cli.specs.Results.{map_text, number_line, summary_text, text_of}
 use Rattle.ddrescuelog_cli.specs.Refusals.{PlacesRefused}
 use Rattle.work_rules.specs.Parts.{only_calls}
+use Rattle.work_rules.proofs.PartLemmas.{idle}
 use Rattle.ddrescuelog_cli.specs.Work.{EndsPrinted, EndsAs, WorksOver}
 use Rattle.ddrescuelog_cli.specs.Printing.{PutsAs}
 use Rattle.ddrescuelog_cli.specs.Steps.{IsLoadedAs, HasFound, printed_as}
 
--- no calls are no work
-idle : IsIdle (only_calls [])
-idle = record { opens = refl; gain = record { calls = refl; reads = refl; times = refl } }
-
 -- the heading of a map with this command line
-abbrev heading_of : List ℕ → HeadingLines
+abbrev pub heading_of : List ℕ → HeadingLines
 heading_of line = record { program = Ddrescuelog; line = line; start_s = 0; now_s = 0 }
 
 -- a mode that refuses no place

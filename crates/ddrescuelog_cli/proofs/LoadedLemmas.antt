@@ -2,15 +2,15 @@
 use Rattle.std.proofs.Common.{◌≡◌, ℕ, false, IsTrue, List, [], ◌++◌, map, Option, Some, None, Result, Ok, Err, IfOk, IfErr, unwrap_or, refl, sym, ap, ◌∙◌, inl, inr, subst, append_assoc, append-nil}
 use Rattle.std.proofs.lemmas.Bool.{both_ways}
 use Rattle.block_list.specs.declared.status.Status.{Status}
-use Rattle.block_list.specs.Tiled.{Tiled}
+use Rattle.block_list.specs.Tiled.{Tiled, statuses_in}
 use Rattle.mapfile_text.specs.declared.read.Mode.{Mode}
 use Rattle.mapfile_text.specs.declared.read.Mode.TheVariants.{Tight}
 use Rattle.mapfile_text.specs.declared.read.ReadMap.{ReadMap}
-use Rattle.crash_site.specs.Files.{File}
+use Rattle.crash_site.specs.Files.{File, file_named}
 use Rattle.crash_site.specs.Calls.{Entry, Done as Returned}
 use Rattle.crash_site.specs.SiteState.{SiteState, files_in}
 use Rattle.crash_site.specs.SiteChanges.{Stays}
-use Rattle.save_resume.specs.Named.{map_mode}
+use Rattle.save_resume.specs.Named.{map_mode, HasStatuses}
 use Rattle.save_resume.specs.Resuming.{IsReadAs}
 use Rattle.work_rules.specs.Work.{WorkStep}
 use Rattle.ddrescuelog_words.specs.Modes.{creates}
@@ -20,10 +20,10 @@ use Rattle.ddrescuelog_cli.specs.declared.ending.Which.TheVariants.{DomainMap, R
 use Rattle.ddrescuelog_cli.specs.declared.load.LoadedMaps.{LoadedMaps}
 use Rattle.ddrescuelog_cli.specs.declared.ending.LogEnding.{LogEnding}
 use Rattle.ddrescuelog_cli.specs.declared.ending.LogEnding.TheVariants.{NoMemory}
-use Rattle.ddrescuelog_cli.specs.Maps.{Found, file_named, found_in, mapfile_mode, AreMapsOf, AreAskedFor}
+use Rattle.ddrescuelog_cli.specs.Maps.{Found, found_in, mapfile_mode, AreMapsOf, AreAskedFor}
 use Rattle.work_rules.specs.Parts.{Did, only_calls, WentThrough, StoppedIn}
 use Rattle.ddrescuelog_cli.specs.Work.{log_faults, map_rows, named_rows}
-use Rattle.ddrescuelog_cli.specs.Steps.{ReadsMap, HasStatuses, statuses_in, statuses_or_none, ReadsNamed, maps_read, IsLoadedAs, LoadsMaps, ReadCause}
+use Rattle.ddrescuelog_cli.specs.Steps.{ReadsMap, statuses_or_none, ReadsNamed, maps_read, IsLoadedAs, LoadsMaps, ReadCause}
 use Rattle.work_rules.proofs.PartLemmas.{stopped_more, through_then, through_both}
 use Rattle.work_rules.proofs.ReadLemmas.{AreReads}
 use Rattle.ddrescuelog_cli.proofs.ReadLemmas.{stopped_reads, through_reads, files_stand}

@@ -7,7 +7,7 @@ use Rattle.block_list.specs.Tiled.{Tiled}
 use Rattle.crash_site.specs.declared.site.SiteCall.TheVariants.{MapRead as MapReadCall}
 use Rattle.crash_site.specs.declared.site.MapRead.{MapRead}
 use Rattle.crash_site.specs.declared.site.MapRead.TheVariants.{Bytes, Absent}
-use Rattle.crash_site.specs.Files.{File, empty_file}
+use Rattle.crash_site.specs.Files.{File, empty_file, file_named}
 use Rattle.crash_site.specs.FileAnswers.{IsRead}
 use Rattle.crash_site.specs.Calls.{Call, Entry, Done as Returned, Failed, map_read}
 use Rattle.crash_site.specs.CallsMade.{Lost}
@@ -23,7 +23,7 @@ use Rattle.ddrescuelog_cli.specs.declared.ending.Which.{Which}
 use Rattle.ddrescuelog_cli.specs.declared.ending.Which.TheVariants.{DomainMap, OtherMap}
 use Rattle.ddrescuelog_cli.specs.declared.ending.LogEnding.{LogEnding}
 use Rattle.ddrescuelog_cli.specs.declared.ending.LogEnding.TheVariants.{Exists, SiteFault}
-use Rattle.ddrescuelog_cli.specs.Maps.{Found, file_named, found_in}
+use Rattle.ddrescuelog_cli.specs.Maps.{Found, found_in}
 use Rattle.ddrescuelog_cli.specs.Refusals.{MapIsThere}
 use Rattle.work_rules.specs.Parts.{only_calls, WentThrough, StoppedIn}
 use Rattle.ddrescuelog_cli.specs.Work.{log_faults, map_rows, named_rows, SaysIfThere, UnlessThere, WorksOver, WorksAs}

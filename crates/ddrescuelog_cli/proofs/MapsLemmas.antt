@@ -1,5 +1,5 @@
 -- Files have maps, and each of them one.
-use Rattle.std.proofs.Common.{◌≡◌, ◌⊎◌, ℕ, ◌<◌, ◌≤◌, Bool, true, false, List, [], length, Option, Some, None, unwrap_or, refl, sym, ap, ◌∙◌, inl, inr, subst, arith}
+use Rattle.std.proofs.Common.{◌≡◌, ◌⊎◌, ℕ, ◌<◌, ◌≤◌, Bool, true, false, List, [], length, Option, Some, None, unwrap_or, refl, ap, inl, inr, subst, arith}
 use Rattle.std.proofs.lemmas.Bool.{cases_lt}
 use Rattle.block_list.specs.declared.status.Status.{Status}
 use Rattle.mapfile_text.specs.declared.state.MapState.{MapState}
@@ -12,17 +12,13 @@ use Rattle.mapfile_text.proofs.OneReading.{has_one_reading}
 use Rattle.mapfile_text.proofs.OneFault.{map_has_no_fault}
 use Rattle.mapfile_text.proofs.MapOrFault.{is_map_or_has_fault}
 use Rattle.crash_site.specs.Files.{File}
-use Rattle.save_resume.specs.Named.{IsMapOf, map_mode}
+use Rattle.save_resume.specs.Named.{IsMapOf, map_mode, HasStatuses}
 use Rattle.ddrescuelog_words.specs.Modes.{creates}
 use Rattle.ddrescuelog_words.specs.Command.{Command}
 use Rattle.save_resume.proofs.NamedLemmas.{map_is_one}
-use Rattle.save_resume.proofs.AnswerLemmas.{not_there}
+use Rattle.save_resume.proofs.AnswerLemmas.{not_there, one_there}
 use Rattle.ddrescuelog_cli.specs.Maps.{Found, Maps, IsShownBy, mapfile_mode, AreMapsOf, AreAskedFor}
 use Rattle.ddrescuelog_cli.specs.Laws.{MapsAreThere}
-use Rattle.ddrescuelog_cli.specs.Steps.{HasStatuses}
-
-one_there : (file : Option File) (f g : File) → file ≡ Some f → file ≡ Some g → g ≡ f
-one_there file f g is is' = let e : Some f ≡ Some g = sym is ∙ is' in cc
 
 -- a file shows one state and has one list of statuses
 pub shown_is_one : (file : Option File) (mode : Mode) (shown shown' : MapState) (statuses statuses' : List Status)
@@ -32,7 +28,7 @@ shown_is_one file mode shown shown' statuses statuses' s s' =
     let P : File → Type 0 = λ f. IsMapText f.bytes mode shown' s'.first s'.listed statuses' in
     let one : SameReading shown shown' s.first s'.first s.listed s'.listed statuses statuses' =
     has_one_reading s.there.bytes mode shown shown' s.first s'.first s.listed s'.listed statuses statuses' s.reads
-    (subst P (one_there file s.there s'.there s.is s'.is) s'.reads) in
+    (subst P (one_there file s'.there s.there s'.is s.is) s'.reads) in
     (one.state_is, one.statuses_is)
 
 -- a map by its statuses alone shows something
@@ -67,13 +63,13 @@ short_map_or_none f mode short =
       | inr fault ↦ inr (λ shown statuses s.
           let P : File → Type 0 = λ g. IsMapText g.bytes mode shown s.first s.listed statuses in
           map_has_no_fault f.bytes mode shown s.first s.listed statuses fault.0
-          (subst P (one_there (Some f) f s.there refl s.is) s.reads) fault.1)
+          (subst P (one_there (Some f) s.there f s.is refl) s.reads) fault.1)
     ]
 
 too_long : (f : File) (mode : Mode) → text_limit < length f.bytes → HasNoMap (Some f) mode
 too_long f mode long shown statuses s =
     let P : File → Type 0 = λ g. length g.bytes ≤ text_limit in
-    let short : length f.bytes ≤ text_limit = subst P (one_there (Some f) f s.there refl s.is) s.within in
+    let short : length f.bytes ≤ text_limit = subst P (one_there (Some f) s.there f s.is refl) s.within in
     omega (arith, long, short)
 
 map_or_none : (file : Option File) (mode : Mode) → HasMap file mode ⊎ HasNoMap file mode

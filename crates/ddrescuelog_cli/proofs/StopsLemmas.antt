@@ -15,7 +15,7 @@ use Rattle.crash_site.proofs.LawLemmas.{found_only, own_name, until_past, until_
 use Rattle.crash_site.proofs.AlongLemmas.{WentOn, along_until, along_calls, made_goes, broke_goes}
 use Rattle.save_resume.specs.MapNames.{names_of}
 use Rattle.save_resume.specs.Saving.{save_calls}
-use Rattle.save_resume.specs.SaveStops.{disk_of, text_file, Old, New, IsSaved}
+use Rattle.save_resume.specs.SaveStops.{disk_of, text_file, Old, New, IsSaved, LeftAt, CouldBefore}
 use Rattle.rescue_rules.proofs.BeforeLemmas.{or_found}
 use Rattle.work_rules.specs.Work.{IsIdle}
 use Rattle.ddrescuelog_words.specs.declared.mode.LogMode.{LogMode}
@@ -35,7 +35,7 @@ use Rattle.ddrescuelog_cli.specs.Refusals.{ListRefused}
 use Rattle.ddrescuelog_cli.specs.Results.{IsCreated}
 use Rattle.ddrescuelog_cli.specs.Answers.{row_of}
 use Rattle.ddrescuelog_cli.specs.Work.{EndsSaved, EndsCreated, EndsAs, removal_calls, LogWorks}
-use Rattle.ddrescuelog_cli.specs.Stops.{LeftAt, CouldBefore, Replaces, IsChanging, StopsSafely, OnlyReads, LeavesFiles}
+use Rattle.ddrescuelog_cli.specs.Stops.{Replaces, IsChanging, StopsSafely, OnlyReads, LeavesFiles}
 use Rattle.ddrescuelog_cli.proofs.FoundLemmas.{done_of}
 use Rattle.ddrescuelog_cli.proofs.StandLemmas.{leave_all}
 use Rattle.ddrescuelog_cli.proofs.AfterReadsLemmas.{AfterReads, IsShort, after_works}

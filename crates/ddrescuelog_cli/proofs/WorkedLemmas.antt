@@ -5,7 +5,6 @@ use Rattle.crash_site.specs.SiteState.{SiteState, files_in}
 use Rattle.crash_site.specs.SiteChanges.{Stays, Keeps as SiteKeeps}
 use Rattle.rescue_console.specs.FeedState.{FeedState}
 use Rattle.rescue_console.specs.ConsoleState.{ConsoleState}
-use Rattle.mapfile_text.specs.declared.heading.Program.TheVariants.{Ddrescuelog}
 use Rattle.mapfile_text.specs.HeadingLines.{HeadingLines}
 use Rattle.work_rules.specs.Work.{IsOnlyCalls, Take}
 use Rattle.program_promise.specs.World.{WorldState}
@@ -41,10 +40,7 @@ use Rattle.ddrescuelog_cli.proofs.OtherLemmas.{others_stand}
 use Rattle.ddrescuelog_cli.proofs.MapsLemmas.{MapsOf, maps_of}
 use Rattle.ddrescuelog_cli.proofs.FitLemmas.{answers_fit}
 use Rattle.ddrescuelog_cli.proofs.AfterLemmas.{causes_by, feed_keeps, feed_untaken, over_plain, plain_after, puts_nothing, read_puts}
-
--- the heading of a map with this command line
-abbrev pub heading_of : List ℕ → HeadingLines
-heading_of line = record { program = Ddrescuelog; line = line; start_s = 0; now_s = 0 }
+use Rattle.ddrescuelog_cli.proofs.FindLemmas.{heading_of}
 
 -- ---- nothing was done, for want of memory
 

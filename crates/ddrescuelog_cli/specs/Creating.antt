@@ -1,7 +1,7 @@
 -- How a map of listed blocks is made: what is checked before, how its list is taken, and what is saved.
 use Rattle.std.specs.Prelude.{◌≡◌, ◌⊎◌, ℕ, ◌<◌, ◌≤◌, Bool, true, false, IsTrue, List, [], ◌∷◌, ◌++◌, length, Option, Some, Result, Ok, Err}
 use Rattle.block_list.specs.declared.status.Status.{Status}
-use Rattle.block_list.specs.Tiled.{Tiled}
+use Rattle.block_list.specs.Tiled.{Tiled, statuses_in}
 use Rattle.crash_site.specs.declared.site.MapRead.{MapRead}
 use Rattle.crash_site.specs.Files.{File}
 use Rattle.crash_site.specs.Calls.{Entry, Done as Returned, map_read}
@@ -10,7 +10,7 @@ use Rattle.rescue_console.specs.FeedState.{FeedState, Keeps as FeedKeeps}
 use Rattle.rescue_domain.specs.Domain.{whole_domain, in_map}
 use Rattle.save_resume.specs.Loading.{piece_size}
 use Rattle.save_resume.specs.MapNames.{MapNames}
-use Rattle.save_resume.specs.Named.{map_mode}
+use Rattle.save_resume.specs.Named.{map_mode, HasStatuses}
 use Rattle.save_resume.specs.Saving.{save_calls}
 use Rattle.map_algebra.specs.Create.{created_map}
 use Rattle.map_algebra.specs.Numbers.{list_limit, numbers_in}
@@ -24,7 +24,7 @@ use Rattle.ddrescuelog_cli.specs.Refusals.{MapIsThere, ListRefused}
 use Rattle.ddrescuelog_cli.specs.Results.{ListEndsAt}
 use Rattle.work_rules.specs.Parts.{only_calls}
 use Rattle.ddrescuelog_cli.specs.Work.{log_faults, OnlyAnswers, SaysIfThere, UnlessThere, WorksOver, WorksAs}
-use Rattle.ddrescuelog_cli.specs.Steps.{HasStatuses, ReadCause, statuses_in}
+use Rattle.ddrescuelog_cli.specs.Steps.{ReadCause}
 use Rattle.ddrescuelog_cli.specs.After.{FeedLeft}
 
 -- the answer of a part of the work: where it came to its end, that it is done

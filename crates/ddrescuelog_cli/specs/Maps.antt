@@ -5,7 +5,7 @@ use Rattle.mapfile_text.specs.declared.state.MapState.{MapState}
 use Rattle.mapfile_text.specs.declared.read.Mode.{Mode}
 use Rattle.mapfile_text.specs.declared.read.Mode.TheVariants.{Tight, Loose}
 use Rattle.mapfile_text.specs.MapText.{text_limit, IsMapText}
-use Rattle.crash_site.specs.Files.{File}
+use Rattle.crash_site.specs.Files.{File, file_named}
 use Rattle.save_resume.specs.Named.{IsMapOf, map_mode}
 use Rattle.rescue_domain.specs.Domain.{whole_domain, in_map}
 use Rattle.map_algebra.specs.declared.shape.Shape.{Shape}
@@ -20,11 +20,6 @@ pub record Found : Type 0 where
   pub mapfile : Option File
   pub other : Option File
   pub domain : Option File
-
--- a file by its name, if it has one
-abbrev pub file_named : Option (List ℕ) → (List ℕ → Option File) → Option File
-file_named None files = None
-file_named (Some name) files = files name
 
 -- what a command finds among files that stand
 abbrev pub found_in : Command → (List ℕ → Option File) → Found

@@ -2,7 +2,7 @@
 use Rattle.std.specs.Prelude.{◌≡◌, ◌≢◌, ◌⊎◌, ℕ, Bool, true, false, IsTrue, List, [], ◌∷◌, ◌++◌, Option, Some, None, Result, Ok, Err}
 use Rattle.fault_count.specs.Counts.{Rose}
 use Rattle.block_list.specs.declared.status.Status.{Status}
-use Rattle.block_list.specs.Tiled.{Tiled}
+use Rattle.block_list.specs.Tiled.{Tiled, statuses_in}
 use Rattle.mapfile_text.specs.declared.read.Mode.{Mode}
 use Rattle.mapfile_text.specs.declared.read.MapError.{MapError}
 use Rattle.mapfile_text.specs.declared.read.MapError.TheVariants.{NoMemory as OutOfMemory}
@@ -12,10 +12,10 @@ use Rattle.mapfile_text.specs.HeadingLines.{HeadingLines}
 use Rattle.rescue_console.specs.ConsoleState.{ConsoleState}
 use Rattle.rescue_domain.specs.Parts.{covers}
 use Rattle.crash_site.specs.declared.site.SiteCall.TheVariants.{MapRead}
-use Rattle.crash_site.specs.Files.{File}
+use Rattle.crash_site.specs.Files.{file_named}
 use Rattle.crash_site.specs.Calls.{Entry}
 use Rattle.crash_site.specs.SiteState.{SiteState, files_in}
-use Rattle.save_resume.specs.Named.{IsMapOf}
+use Rattle.save_resume.specs.Named.{HasStatuses}
 use Rattle.save_resume.specs.Resuming.{IsReadAs}
 use Rattle.work_rules.specs.Work.{Take}
 use Rattle.ddrescuelog_words.specs.Command.{Command}
@@ -23,7 +23,7 @@ use Rattle.ddrescuelog_cli.specs.declared.ending.Which.{Which}
 use Rattle.ddrescuelog_cli.specs.declared.load.LoadedMaps.{LoadedMaps}
 use Rattle.ddrescuelog_cli.specs.declared.ending.LogEnding.{LogEnding}
 use Rattle.ddrescuelog_cli.specs.declared.ending.LogEnding.TheVariants.{Done, NoMap, MapRefused, SiteFault, ConsoleFault, NoMemory}
-use Rattle.ddrescuelog_cli.specs.Maps.{Found, Maps, file_named, found_in, AreMapsOf, AreAskedFor, domain_of}
+use Rattle.ddrescuelog_cli.specs.Maps.{Found, Maps, found_in, AreMapsOf, AreAskedFor, domain_of}
 use Rattle.ddrescuelog_cli.specs.Results.{text_of}
 use Rattle.ddrescuelog_cli.specs.Modes.{prints}
 use Rattle.ddrescuelog_cli.specs.Printing.{PutsAs}
@@ -35,17 +35,6 @@ abbrev pub ReadsMap : Which → Mode → (name : List ℕ) → Result ReadMap Lo
 ReadsMap which mode name result old new =
     DidPart log_faults (map_rows which mode (Some name)) (files_in old name)
     (λ (m : ReadMap) file. IsReadAs file mode m) result old new
-
--- the statuses of tiles, if there are some
-abbrev pub statuses_in : Option Tiled → Option (List Status)
-statuses_in None = None
-statuses_in (Some tiles) = Some tiles.statuses
-
--- a file that may be named has these statuses
-abbrev pub HasStatuses : Option (List ℕ) → Mode → Option File → Option (List Status) → Type 0
-HasStatuses None mode file statuses = statuses ≡ None
-HasStatuses (Some name) mode file None = ⊥
-HasStatuses (Some name) mode file (Some statuses) = IsMapOf file mode statuses
 
 -- what the read of a map did that may be named
 abbrev pub ReadsNamed : Which → Mode → (name : Option (List ℕ)) → Result (Option Tiled) LogEnding

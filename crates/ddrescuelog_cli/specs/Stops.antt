@@ -1,11 +1,10 @@
 -- What may be found at whatever moment `ddrescuelog` is stopped.
-use Rattle.std.specs.Prelude.{◌≡◌, ◌≢◌, ◌⊎◌, ℕ, ◌+◌, ◌≤◌, true, false, List, length, ◌++◌, Option, Some, None, Ok}
+use Rattle.std.specs.Prelude.{◌≡◌, ◌≢◌, ◌⊎◌, ℕ, ◌≤◌, true, false, List, length, Option, Some, None, Ok}
 use Rattle.crash_site.specs.Files.{File}
 use Rattle.crash_site.specs.Calls.{Entry}
 use Rattle.crash_site.specs.SiteState.{SiteState}
-use Rattle.crash_site.specs.Left.{MayShow, MayBeLeft}
 use Rattle.save_resume.specs.MapNames.{names_of}
-use Rattle.save_resume.specs.SaveStops.{disk_of, text_file}
+use Rattle.save_resume.specs.SaveStops.{text_file, LeftAt, CouldBefore}
 use Rattle.map_algebra.specs.Compare.{IsDoneIn}
 use Rattle.map_algebra.specs.Numbers.{numbers_in}
 use Rattle.program_promise.specs.Kinds.{AtCall, Failed}
@@ -18,14 +17,6 @@ use Rattle.ddrescuelog_cli.specs.declared.ending.LogEnding.TheVariants.{Done}
 use Rattle.ddrescuelog_cli.specs.Maps.{Maps, shape_of, domain_of}
 use Rattle.ddrescuelog_cli.specs.Results.{IsCreated}
 use Rattle.ddrescuelog_cli.specs.Answers.{row_of}
-
--- a stop after the first k calls may leave these files
-abbrev pub LeftAt : SiteState → List Entry → ℕ → (List ℕ → Option File) → Type 0
-LeftAt site calls k files = MayBeLeft site.start (site.calls ++ calls) (length site.calls + k) files
-
--- a stop before the call could have left this under a name as well
-abbrev pub CouldBefore : SiteState → (name : List ℕ) → (found : Option File) → Type 0
-CouldBefore site name found = MayShow ((disk_of site).shows name) found
 
 -- What a mode leaves in the place of the mapfile: -c the map that it creates, whole; -d nothing, where the mapfile is
 -- done; no other mode anything.
@@ -60,7 +51,7 @@ pub record StopsSafely (c : Command) (line list : List ℕ) (m : Maps) (site : S
   -- under the mapfile's name stands what could be found there before, or what the mode leaves in its place, whole
   pub mapfile : (k : ℕ) (files : List ℕ → Option File) → k ≤ length calls → LeftAt site calls k files
       → CouldBefore site c.mapfile (files c.mapfile) ⊎ Replaces c.mode c line list m (files c.mapfile)
-  -- once the call has answered that it is done, only what the mode leaves stands under the mapfile's name
+  -- once the call has answered that it is done, only what the mode leaves is found in the mapfile's place
   pub kept : (files : List ℕ → Option File) → answer ≡ Done → IsChanging c.mode → LeftAt site calls (length calls) files
       → Replaces c.mode c line list m (files c.mapfile)
   -- every file but the mapfile, and the draft of a map that is created, could be found so before

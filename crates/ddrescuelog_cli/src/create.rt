@@ -1,5 +1,6 @@
 //! Makes the map of the blocks whose numbers a feed lists.
 ghost use Rattle.std.specs.Prelude.{◌≡◌, ◌⊎◌, ℕ, List, ◌<◌, ◌≤◌, ◌^◌, All, None, Ok, false, length, OnOk, IfOk, IfErr};
+ghost use Rattle.block_list.specs.Tiled.{statuses_in};
 ghost use Rattle.mapfile_text.specs.declared.heading.Program.TheVariants.{Ddrescuelog};
 ghost use Rattle.mapfile_text.specs.declared.state.Current.TheVariants.{Copying};
 ghost use Rattle.mapfile_text.specs.Printed.{printed};
@@ -12,7 +13,6 @@ ghost use Rattle.ddrescuelog_cli.specs.declared.ending.LogEnding.TheVariants.{No
 ghost use Rattle.ddrescuelog_cli.specs.Maps.{shape_of};
 ghost use Rattle.ddrescuelog_cli.specs.Refusals.{ListRefused};
 ghost use Rattle.ddrescuelog_cli.specs.Results.{ListEndsAt};
-ghost use Rattle.ddrescuelog_cli.specs.Steps.{statuses_in};
 ghost use Rattle.ddrescuelog_cli.specs.After.{FeedLeft, SiteLeft};
 ghost use Rattle.ddrescuelog_cli.specs.Creating.{AreOfList, AsksIfThere, CreatesMap, LookCause, Looks, MakesList, SavesText, StopsTaking, TakesAll, TakesFeedPiece, ended_as};
 

@@ -24,6 +24,7 @@ use Rattle.partition_domain.specs.Reads.{AreNext, HasPart, losses_after, records
 use Rattle.partition_domain.specs.Steps.{Searched}
 use Rattle.partition_domain.proofs.ReadLemmas.{few_reads}
 use Rattle.ddrescuepart_words.specs.Command.{Command}
+use Rattle.work_rules.proofs.PartLemmas.{no_deeds}
 use Rattle.ddrescuepart_cli.specs.declared.ending.PartEnding.{PartEnding}
 use Rattle.ddrescuepart_cli.specs.declared.ending.PartEnding.TheVariants.{Done, SourceFault, ConsoleFault, NoMemory}
 use Rattle.ddrescuepart_cli.specs.Answers.{AnswersBy, ending_of, row_of}
@@ -31,9 +32,6 @@ use Rattle.ddrescuepart_cli.specs.Work.{Agrees, text_by, text_of}
 use Rattle.ddrescuepart_cli.specs.Ddrescuepart.{PartWorked, handed, part_program}
 
 -- ---- nothing was opened
-
-abbrev no_deeds : Deeds
-no_deeds = record { opens = []; gain = record { calls = []; reads = []; times = [] } }
 
 -- memory ran out first
 pub starved_done : (c : Command) (line : List ℕ) (w : WorldState) → DoneFor part_program c line NoMemory w w

@@ -1,17 +1,15 @@
 -- The program is well made: its rows agree with its grammar and with its work. And a test map brings one verdict at most.
-use Rattle.std.proofs.Common.{◌≡◌, ℕ, Bool, true, false, cond, List, [], ◌∷◌, Option, Some, None, Result, Ok, Err, refl, sym, ap, ◌∙◌, inl, inr, subst, arith}
+use Rattle.std.proofs.Common.{◌≡◌, ℕ, Bool, true, false, cond, List, [], ◌∷◌, Option, Some, None, Result, Ok, Err, refl, sym, ap, ◌∙◌, inl, inr, subst}
 use Rattle.mapfile_text.specs.declared.read.MapError.{MapError}
 use Rattle.mapfile_text.specs.declared.read.Mode.TheVariants.{Tight}
 use Rattle.crash_site.specs.Files.{File}
-use Rattle.crash_site.specs.SiteState.{SiteState}
-use Rattle.crash_site.specs.SiteChanges.{Stays}
 use Rattle.save_resume.proofs.AnswerLemmas.{not_there, refused_for_one}
 use Rattle.option_words.specs.Words.{word}
 use Rattle.option_words.specs.declared.fault.UsageFault.{UsageFault}
 use Rattle.option_words.specs.declared.fault.UsageFault.TheVariants.{BadValue}
 use Rattle.option_words.specs.declared.reading.Item.{Item}
 use Rattle.option_words.specs.Values.{is_empty_text}
-use Rattle.ddrescue_words.specs.Asking.{is_too_large}
+use Rattle.ddrescue_words.specs.Asking.{is_too_large, cluster_word}
 use Rattle.work_rules.specs.Work.{Deeds}
 use Rattle.work_rules.specs.Verdicts.{IsOnce}
 use Rattle.program_promise.specs.World.{WorldState}
@@ -22,11 +20,12 @@ use Rattle.program_promise.specs.Promise.{IsDone}
 use Rattle.program_promise.proofs.GrammarLemmas.{IsRefusedBy, refused_by}
 use Rattle.program_promise.proofs.PromiseLemmas.{asked, keeps_promises}
 use Rattle.plan_source.specs.declared.loss.PlanLoss.TheVariants.{Memory, Console}
+use Rattle.save_resume.proofs.FillLemmas.{site_stays}
 use Rattle.rescue_plan.specs.declared.run.PlanEnd.{PlanEnd}
 use Rattle.rescue_plan.specs.declared.run.PlanEnd.TheVariants.{Whole, Lost}
 use Rattle.ddrescueplan_words.specs.declared.options.PlanOptions.{PlanOptions}
 use Rattle.ddrescueplan_words.specs.Options.{options_in}
-use Rattle.ddrescueplan_words.specs.Command.{Command, IsAsked, length_by, with_length, command_with, command_by, command_in, cluster_word}
+use Rattle.ddrescueplan_words.specs.Command.{Command, IsAsked, length_by, with_length, command_with, command_by, command_in}
 use Rattle.ddrescueplan_cli.specs.declared.ending.PlanEnding.{PlanEnding}
 use Rattle.ddrescueplan_cli.specs.declared.ending.PlanEnding.TheVariants.{Done, MapRefused}
 use Rattle.ddrescueplan_cli.specs.Answers.{ending_of, row_of}
@@ -83,13 +82,6 @@ work_answers c file e d (inr (inr (inl w))) = subst IsOfWork (sym w.1) tt
 work_answers c file e d (inr (inr (inr (load, rest, is, split, inl w)))) = refusal_works file e w.0
 work_answers c file e d (inr (inr (inr (load, rest, is, split, inr w)))) =
     subst IsOfWork (sym w.1.answer) (end_works w.1.end)
-
-site_stays : (s : SiteState) → Stays s s
-site_stays s = record {
-  keeps = record { tells = refl; start = λ tells. refl; planned = refl; later = omega arith };
-  image = refl;
-  draft = refl;
-}
 
 pub plan_made : IsWellMade plan_program
 plan_made = record {

@@ -16,11 +16,10 @@ use Rattle.save_resume.specs.Resuming.{IsOfFile, IsReadAs, IsRefusedFor, LoadEnd
 use Rattle.rescue_console.specs.ConsoleState.{ConsoleState}
 use Rattle.rescue_sample.specs.Line.{IsStill}
 use Rattle.rescue_rules.specs.Moves.{IsMove}
-use Rattle.work_rules.specs.Work.{IsIdle}
 use Rattle.work_rules.specs.Parts.{only_calls}
 use Rattle.work_rules.proofs.LoadLemmas.{broke_off, ended, ran_out}
 use Rattle.work_rules.proofs.LoadedLemmas.{read_passes}
-use Rattle.program_promise.specs.World.{WorldState}
+use Rattle.program_promise.specs.World.{WorldState, handed}
 use Rattle.program_promise.specs.Causes.{Changed, changes_of}
 use Rattle.program_promise.specs.Promise.{DoneFor}
 use Rattle.plan_source.specs.declared.loss.PlanLoss.TheVariants.{Memory, Console}
@@ -29,11 +28,12 @@ use Rattle.rescue_plan.specs.declared.run.PlanEnd.TheVariants.{Whole, Lost}
 use Rattle.rescue_plan.specs.Plan.{IsPlannedIn, plan_setting}
 use Rattle.rescue_plan.specs.Running.{PutsFirst, PutsPlan}
 use Rattle.ddrescueplan_words.specs.Command.{Command}
+use Rattle.work_rules.proofs.PartLemmas.{idle}
 use Rattle.ddrescueplan_cli.specs.declared.ending.PlanEnding.{PlanEnding}
 use Rattle.ddrescueplan_cli.specs.declared.ending.PlanEnding.TheVariants.{NoMap, MapRefused, NoMemory}
 use Rattle.ddrescueplan_cli.specs.Answers.{ending_of, refusal_of, row_of}
 use Rattle.ddrescueplan_cli.specs.Work.{LeavesAs, Loading, PlanWorks, Planning, TestMapRefused, Untouched}
-use Rattle.ddrescueplan_cli.specs.Ddrescueplan.{PlanWorked, handed, plan_program}
+use Rattle.ddrescueplan_cli.specs.Ddrescueplan.{PlanWorked, plan_program}
 
 -- nothing was put, since memory ran out before the run
 pub starved_first : (c : Command) (test : List Status) (p : ConsoleState) → PutsFirst c test p p
@@ -68,9 +68,6 @@ starved_done c line w = record {
   work = inl (refl, record { opens = refl; gain = record { calls = refl; reads = refl; times = refl } });
   leaves = Untouched refl;
 }
-
-idle : IsIdle (only_calls [])
-idle = record { opens = refl; gain = record { calls = refl; reads = refl; times = refl } }
 
 module _ (c : Command) (file : Option File) (load : List Call) (is : IsLoad c.test_map file load) where
   went : (m : ReadMap) (end : PlanEnd) → IsReadAs file Tight m

@@ -1,10 +1,8 @@
 -- `ddrescueplan` as a program, and its promise.
 use Rattle.std.specs.Prelude.{⊤, ℕ, Bool, List, Option}
 use Rattle.crash_site.specs.Files.{File}
-use Rattle.crash_site.specs.SiteState.{SiteState}
 use Rattle.crash_site.specs.SiteChanges.{Stays}
-use Rattle.rescue_console.specs.ConsoleState.{ConsoleState}
-use Rattle.program_promise.specs.World.{WorldState, no_clock, no_feed, no_source, Told}
+use Rattle.program_promise.specs.World.{WorldState, Told}
 use Rattle.program_promise.specs.WordFaults.{IsPlainFault}
 use Rattle.program_promise.specs.Program.{Program}
 use Rattle.program_promise.specs.Promise.{IsDone, Promise, Worked}
@@ -14,11 +12,6 @@ use Rattle.ddrescueplan_cli.specs.declared.ending.PlanEnding.TheVariants.{Usage}
 use Rattle.ddrescueplan_cli.specs.Names.{program_name}
 use Rattle.ddrescueplan_cli.specs.Answers.{row_of}
 use Rattle.ddrescueplan_cli.specs.Work.{Agrees, LeavesAs, RunsPlan, plan_faults, plan_rows}
-
--- what it is handed: a site and a console
-abbrev pub handed : SiteState → ConsoleState → WorldState
-handed site console =
-    record { source = no_source; site = site; clock = no_clock; feed_ = no_feed; console = console }
 
 -- The program's work finds the test map's file outside of it, and leaves the plan on standard output.
 abbrev pub plan_program : Program Command PlanEnding (Option File)

@@ -2,8 +2,8 @@
 ghost use Rattle.std.specs.Prelude.{◌≡◌, ℕ, List};
 ghost use Rattle.option_words.specs.declared.fault.UsageFault.{UsageFault as Fault};
 ghost use Rattle.ddrescueplan_words.specs.Command.{AreInLimits, AreRefused, told_by};
-ghost use Rattle.program_promise.specs.World.{told};
-ghost use Rattle.ddrescueplan_cli.specs.Ddrescueplan.{Ddrescueplan, PlanDone, PlanWorked, handed};
+ghost use Rattle.program_promise.specs.World.{told, handed};
+ghost use Rattle.ddrescueplan_cli.specs.Ddrescueplan.{Ddrescueplan, PlanDone, PlanWorked};
 
 use crate::ending::PlanEnding;
 use crash_site::site::Site;

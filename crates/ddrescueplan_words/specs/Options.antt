@@ -32,10 +32,6 @@ option_row letter = record {
   sets = λ sector o value. option_map of_rescue (set_by (row_of letter rescue_rows) sector o.rescue value);
 }
 
--- the letter of the option that gives the size of a cluster, which is checked again after all others
-abbrev pub cluster_letter : ℕ
-cluster_letter = 99
-
 -- the letters of the options
 abbrev pub option_letters : List ℕ
 option_letters = codes "bciKnNqrRsu"

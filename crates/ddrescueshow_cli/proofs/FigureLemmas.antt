@@ -3,22 +3,17 @@ use Rattle.std.proofs.Common.{◌≡◌, ℕ, zero, suc, ◌+◌, ◌*◌, ◌/�
 use Rattle.std.specs.List.{count_by, range_with_len}
 use Rattle.std.proofs.lemmas.Bool.{cases_lt}
 use Rattle.std.proofs.lemmas.Bool.Decides.{nat_tests}
-use Rattle.std.proofs.lemmas.List.Sums.{sum_by-cons}
 use Rattle.std.proofs.Math.Nat.{le-div_iff_mul-le, mul-div_left}
 use Rattle.block_list.specs.declared.status.Status.{Status}
 use Rattle.block_list.specs.declared.status.Status.TheVariants.{Finished}
 use Rattle.block_list.specs.Status.{same}
+use Rattle.rescue_domain.proofs.SizeLemmas.{one_if}
 use Rattle.map_algebra.specs.At.{status_at}
 use Rattle.map_algebra.specs.Summary.{summary_of}
 use Rattle.map_algebra.proofs.MapLemmas.{finished_at}
+use Rattle.map_algebra.proofs.SummaryLemmas.{count_first}
 use Rattle.ddrescueshow_cli.specs.Picture.{line_of}
 use Rattle.ddrescueshow_cli.specs.Laws.{AllIsFinishedAt100}
-
-abbrev one_if : Bool → ℕ
-one_if b = cond b 1 0
-
-count_first : (p : ℕ → Bool) (x : ℕ) (xs : List ℕ) → count_by p (x ∷ xs) ≡ one_if (p x) + count_by p xs
-count_first p x xs = sum_by-cons (λ y. one_if (p y)) x xs
 
 fewer_if : (a b : Bool) → one_if (a && b) ≤ one_if a
 fewer_if true true = omega arith

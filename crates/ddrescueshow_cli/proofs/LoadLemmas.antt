@@ -12,12 +12,12 @@ use Rattle.save_resume.specs.Resuming.{IsReadAs, IsOfFile, LoadEnded}
 use Rattle.rescue_console.specs.ConsoleState.{ConsoleState}
 use Rattle.program_promise.specs.Causes.{Changed, none_rises}
 use Rattle.work_rules.proofs.LoadedLemmas.{AnswersNamed, reads_alone, read_passes, read_is_map, went_through, named_stopped as stopped}
+use Rattle.program_promise.specs.World.{handed}
 use Rattle.ddrescueshow_cli.specs.declared.ending.Which.{Which}
 use Rattle.ddrescueshow_cli.specs.declared.ending.ShowEnding.{ShowEnding}
 use Rattle.ddrescueshow_cli.specs.declared.ending.ShowEnding.TheVariants.{NoMap, MapRefused}
 use Rattle.ddrescueshow_cli.specs.Answers.{refusal_of}
 use Rattle.ddrescueshow_cli.specs.Work.{MapIsRefused, show_faults}
-use Rattle.ddrescueshow_cli.specs.Ddrescueshow.{handed}
 use Rattle.ddrescueshow_cli.specs.Steps.{ReadCause, ReadsMap, ReadsNamed}
 
 -- the picture takes the statuses of the map

@@ -5,6 +5,7 @@ use Rattle.std.proofs.lemmas.Bool.{and_parts, cases_lt}
 use Rattle.block_list.specs.declared.status.Status.{Status}
 use Rattle.block_list.specs.declared.status.Status.TheVariants.{NonTried, NonTrimmed, NonScraped, BadSector, Finished}
 use Rattle.block_list.specs.Status.{same}
+use Rattle.block_list.proofs.StretchLemmas.{same_self}
 use Rattle.map_algebra.specs.At.{status_at}
 use Rattle.map_algebra.specs.Summary.{has_status}
 use Rattle.ddrescueshow_cli.specs.Cells.{begin_of, end_of, has_some, worst_by}
@@ -147,13 +148,6 @@ same_is NonScraped NonScraped e = refl
 same_is BadSector BadSector e = refl
 same_is Finished Finished e = refl
 same_is s t e = absurd (cc)
-
-same_self : (s : Status) → same s s ≡ true
-same_self NonTried = refl
-same_self NonTrimmed = refl
-same_self NonScraped = refl
-same_self BadSector = refl
-same_self Finished = refl
 
 module _ (domain : ℕ → Bool) (statuses : List Status) (from to : ℕ) (s : Status) where
   abbrev there_by : Status → Bool

@@ -10,6 +10,7 @@ use Rattle.option_words.specs.declared.fault.UsageFault.{UsageFault}
 use Rattle.option_words.specs.declared.reading.Item.{Item}
 use Rattle.option_words.specs.Values.{empty_operand}
 use Rattle.option_words.specs.Grammar.{unless_empty}
+use Rattle.save_resume.proofs.FillLemmas.{site_stays}
 use Rattle.work_rules.specs.Work.{Deeds, Take, WorkStep, Works}
 use Rattle.work_rules.specs.Verdicts.{IsOnce}
 use Rattle.program_promise.specs.World.{WorldState}
@@ -30,7 +31,7 @@ use Rattle.ddrescueshow_cli.specs.Answers.{row_of}
 use Rattle.ddrescueshow_cli.specs.Work.{Found, MapIsRefused, PutsAll, ShowWorks, map_rows, show_faults}
 use Rattle.ddrescueshow_cli.specs.Ddrescueshow.{ShowWorked, show_program}
 use Rattle.ddrescueshow_cli.specs.Laws.{HasOneVerdict, IsVerdict, ShowKeepsPromises}
-use Rattle.ddrescueshow_cli.proofs.WorkedLemmas.{site_stays, starved_done}
+use Rattle.ddrescueshow_cli.proofs.WorkedLemmas.{starved_done}
 
 -- ---- the faults that words may have
 

@@ -1,44 +1,33 @@
 -- What a command did, by what came of the reads of its maps, and of the picture.
 use Rattle.std.proofs.Common.{◌≡◌, ◌⊎◌, ℕ, ◌++◌, Bool, true, false, IsTrue, List, [], ◌∷◌, map, Option, Some, Ok, Err, refl, sym, ap, subst, ◌∙◌, inl, inr, append-nil, append_assoc, arith}
-use Rattle.block_list.specs.Tiled.{Tiled}
+use Rattle.block_list.specs.Tiled.{Tiled, statuses_in}
 use Rattle.mapfile_text.specs.declared.read.Mode.{Mode}
 use Rattle.mapfile_text.specs.declared.read.Mode.TheVariants.{Tight}
-use Rattle.crash_site.specs.Files.{File}
-use Rattle.crash_site.specs.Calls.{Call, Entry, Done as Returned}
-use Rattle.crash_site.specs.Folder.{Folder, after}
+use Rattle.crash_site.specs.Files.{File, file_named}
+use Rattle.crash_site.specs.Calls.{Entry, Done as Returned}
 use Rattle.crash_site.specs.SiteState.{SiteState, files_in}
 use Rattle.crash_site.specs.SiteChanges.{Stays}
-use Rattle.crash_site.proofs.LawLemmas.{after-append}
-use Rattle.rescue_rules.specs.Work.{AreMapReads}
 use Rattle.save_resume.specs.Named.{map_mode}
 use Rattle.rescue_console.specs.declared.console.Channel.TheVariants.{Out}
 use Rattle.rescue_console.specs.ConsoleState.{ConsoleState, Puts, PutsPart}
+use Rattle.save_resume.proofs.FillLemmas.{site_stays}
 use Rattle.work_rules.specs.Work.{IsIdle, Take, WorkStep, Works}
 use Rattle.work_rules.specs.Parts.{only_calls, WentThrough}
-use Rattle.work_rules.proofs.FrontLemmas.{load_reads, reads_stand}
-use Rattle.work_rules.proofs.PartLemmas.{stopped_more, through_then}
-use Rattle.program_promise.specs.World.{WorldState}
+use Rattle.work_rules.proofs.FrontLemmas.{load_reads}
+use Rattle.work_rules.proofs.PartLemmas.{stopped_more, through_then, idle}
+use Rattle.program_promise.specs.World.{WorldState, handed}
 use Rattle.program_promise.specs.Causes.{Changed, changes_of}
 use Rattle.program_promise.specs.Promise.{DoneFor}
 use Rattle.ddrescueshow_words.specs.Command.{Command}
+use Rattle.work_rules.proofs.ReadLemmas.{AllReads, files_stand}
 use Rattle.ddrescueshow_cli.specs.declared.ending.Which.{Which}
 use Rattle.ddrescueshow_cli.specs.declared.ending.Which.TheVariants.{RunMap, DomainMap}
 use Rattle.ddrescueshow_cli.specs.declared.ending.ShowEnding.{ShowEnding}
 use Rattle.ddrescueshow_cli.specs.declared.ending.ShowEnding.TheVariants.{Done, TooManyCells, ConsoleFault, NoMemory}
 use Rattle.ddrescueshow_cli.specs.Answers.{row_of}
-use Rattle.ddrescueshow_cli.specs.Work.{AreMapsOf, Found, LeavesAs, Maps, PutsAll, file_named, found_in, is_too_large, map_rows, show_faults, text_of}
-use Rattle.ddrescueshow_cli.specs.Ddrescueshow.{ShowWorked, handed, show_program}
-use Rattle.ddrescueshow_cli.specs.Steps.{ReadCause, ReadsMap, ReadsNamed, statuses_in}
-
-idle : IsIdle (only_calls [])
-idle = record { opens = refl; gain = record { calls = refl; reads = refl; times = refl } }
-
-pub site_stays : (s : SiteState) → Stays s s
-site_stays s = record {
-  keeps = record { tells = refl; start = λ tells. refl; planned = refl; later = omega arith };
-  image = refl;
-  draft = refl;
-}
+use Rattle.ddrescueshow_cli.specs.Work.{AreMapsOf, Found, LeavesAs, Maps, PutsAll, found_in, is_too_large, map_rows, show_faults, text_of}
+use Rattle.ddrescueshow_cli.specs.Ddrescueshow.{ShowWorked, show_program}
+use Rattle.ddrescueshow_cli.specs.Steps.{ReadCause, ReadsMap, ReadsNamed}
 
 stays_more : (s t u : SiteState) → Stays s t → Stays t u → Stays s u
 stays_more s t u a b = record {
@@ -89,12 +78,6 @@ found_by mapfile domain = record { mapfile = mapfile; domain = domain }
 
 -- ---- what reads leave
 
--- calls that returned, and read maps
-record AllReads (calls : List Entry) : Type 0 where
-  maps : List Call
-  are : AreMapReads maps
-  all : calls ≡ map Returned maps
-
 reads_through : (which : Which) (mode : Mode) (name : List ℕ) (file : Option File) (calls : List Entry)
     → WentThrough (map_rows which mode (Some name) file) calls → AllReads calls
 reads_through which mode name file calls t = record {
@@ -102,16 +85,6 @@ reads_through which mode name file calls t = record {
   are = load_reads name file t.0 t.2.begins;
   all = t.3 ∙ ap (λ (r : List Entry). map Returned t.0 ++ r) t.4.1 ∙ append-nil (map Returned t.0);
 }
-
--- such calls leave the files as they read
-files_stand : (calls : List Entry) (old new : SiteState) → AllReads calls → new.start ≡ old.start
-    → new.calls ≡ old.calls ++ calls → files_in new ≡ files_in old
-files_stand calls old new r same grew =
-    ap (λ (s : Folder). (after s new.calls).files) same
-    ∙ ap (λ (cs : List Entry). (after old.start cs).files)
-    (grew ∙ ap (λ (cs : List Entry). old.calls ++ cs) r.all)
-    ∙ ap (λ (d : Folder). d.files) (after-append old.start old.calls (map Returned r.maps)
-    ∙ reads_stand r.maps (after old.start old.calls) r.are)
 
 -- ---- the work
 

@@ -1,9 +1,7 @@
 -- `ddrescueshow` as a program, and its promise.
 use Rattle.std.specs.Prelude.{⊤, ℕ, Bool, List}
-use Rattle.crash_site.specs.SiteState.{SiteState}
 use Rattle.crash_site.specs.SiteChanges.{Stays}
-use Rattle.rescue_console.specs.ConsoleState.{ConsoleState}
-use Rattle.program_promise.specs.World.{WorldState, no_clock, no_feed, no_source, Told}
+use Rattle.program_promise.specs.World.{WorldState, Told}
 use Rattle.program_promise.specs.WordFaults.{IsPlainFault}
 use Rattle.program_promise.specs.Program.{Program}
 use Rattle.program_promise.specs.Promise.{IsDone, Promise, Worked}
@@ -13,11 +11,6 @@ use Rattle.ddrescueshow_cli.specs.declared.ending.ShowEnding.TheVariants.{Usage}
 use Rattle.ddrescueshow_cli.specs.Names.{program_name}
 use Rattle.ddrescueshow_cli.specs.Answers.{row_of}
 use Rattle.ddrescueshow_cli.specs.Work.{Agrees, Found, LeavesAs, PutsAll, show_faults, show_rows}
-
--- what it is handed: a site and a console
-abbrev pub handed : SiteState → ConsoleState → WorldState
-handed site console =
-    record { source = no_source; site = site; clock = no_clock; feed_ = no_feed; console = console }
 
 -- The program's work finds the files of the maps outside of it, and leaves the picture on standard output, which may be
 -- a terminal.

@@ -1,24 +1,19 @@
 -- What the steps of `ddrescueshow` did, by what the objects tell. For contracts and proofs: no promise uses it.
-use Rattle.std.specs.Prelude.{ℕ, Bool, List, Option, Some, None, Result}
-use Rattle.block_list.specs.declared.status.Status.{Status}
-use Rattle.block_list.specs.Tiled.{Tiled}
+use Rattle.std.specs.Prelude.{ℕ, Bool, List, Option, Some, Result}
+use Rattle.block_list.specs.Tiled.{Tiled, statuses_in}
 use Rattle.mapfile_text.specs.declared.read.Mode.{Mode}
 use Rattle.crash_site.specs.SiteState.{SiteState, files_in}
-use Rattle.save_resume.specs.Named.{IsMapOf}
+use Rattle.crash_site.specs.Files.{file_named}
+use Rattle.save_resume.specs.Named.{IsMapOf, HasStatuses}
 use Rattle.rescue_console.specs.ConsoleState.{ConsoleState}
 use Rattle.work_rules.specs.Parts.{DidPart}
 use Rattle.program_promise.specs.Causes.{Changed, changes_of}
 use Rattle.ddrescueshow_words.specs.Command.{Command}
+use Rattle.program_promise.specs.World.{handed}
 use Rattle.ddrescueshow_cli.specs.declared.ending.Which.{Which}
 use Rattle.ddrescueshow_cli.specs.declared.ending.ShowEnding.{ShowEnding}
 use Rattle.ddrescueshow_cli.specs.Answers.{row_of}
-use Rattle.ddrescueshow_cli.specs.Work.{Found, HasStatuses, LeavesAs, file_named, map_rows, show_faults}
-use Rattle.ddrescueshow_cli.specs.Ddrescueshow.{handed}
-
--- the statuses of tiles, if there are some
-abbrev pub statuses_in : Option Tiled → Option (List Status)
-statuses_in None = None
-statuses_in (Some tiles) = Some tiles.statuses
+use Rattle.ddrescueshow_cli.specs.Work.{Found, LeavesAs, map_rows, show_faults}
 
 -- what the read of a map did that is named
 abbrev pub ReadsMap : Which → Mode → (name : List ℕ) → Result Tiled ShowEnding → (old new : SiteState) → Type 0

@@ -4,9 +4,9 @@ use Rattle.block_list.specs.declared.status.Status.{Status}
 use Rattle.mapfile_text.specs.declared.read.MapError.{MapError}
 use Rattle.mapfile_text.specs.declared.read.Mode.{Mode}
 use Rattle.mapfile_text.specs.declared.read.Mode.TheVariants.{Tight}
-use Rattle.crash_site.specs.Files.{File}
+use Rattle.crash_site.specs.Files.{File, file_named}
 use Rattle.crash_site.specs.SiteState.{SiteState, files_in}
-use Rattle.save_resume.specs.Named.{IsMapOf, map_mode}
+use Rattle.save_resume.specs.Named.{IsMapOf, map_mode, HasStatuses}
 use Rattle.save_resume.specs.Resuming.{IsRefusedFor}
 use Rattle.rescue_console.specs.declared.console.Channel.TheVariants.{Out}
 use Rattle.rescue_console.specs.ConsoleState.{ConsoleState, Puts, PutsPart}
@@ -33,11 +33,6 @@ show_faults = record { call = λ call. SiteFault call; memory = NoMemory; input 
 pub record Found : Type 0 where
   pub mapfile : Option File
   pub domain : Option File
-
--- a file by its name, if it has one
-abbrev pub file_named : Option (List ℕ) → (List ℕ → Option File) → Option File
-file_named None files = None
-file_named (Some name) files = files name
 
 -- what a command finds among files
 abbrev pub found_in : Command → (List ℕ → Option File) → Found
@@ -89,12 +84,6 @@ pub record Agrees (c : Command) (found : Found) (did : Deeds) (old new : SiteSta
 pub record Maps : Type 0 where
   pub statuses : List Status
   pub domain : Option (List Status)
-
--- a file that may be named has these statuses
-abbrev pub HasStatuses : Option (List ℕ) → Mode → Option File → Option (List Status) → Type 0
-HasStatuses None mode file statuses = statuses ≡ None
-HasStatuses (Some name) mode file None = ⊥
-HasStatuses (Some name) mode file (Some statuses) = IsMapOf file mode statuses
 
 -- the maps are what the files are
 pub record AreMapsOf (c : Command) (found : Found) (m : Maps) : Type 0 where

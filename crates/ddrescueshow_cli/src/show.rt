@@ -1,13 +1,12 @@
 //! `ddrescueshow`: the top call.
 ghost use Rattle.std.specs.Prelude.{◌≡◌, ℕ, List, IfOk, option_map};
-ghost use Rattle.block_list.specs.Tiled.{Tiled};
+ghost use Rattle.block_list.specs.Tiled.{Tiled, statuses_in};
 ghost use Rattle.option_words.specs.declared.fault.UsageFault.{UsageFault as Fault};
 ghost use Rattle.ddrescueshow_words.specs.Command.{AreInLimits, AreRefused, told_by};
-ghost use Rattle.program_promise.specs.World.{told};
-ghost use Rattle.ddrescueshow_cli.specs.Steps.{statuses_in};
+ghost use Rattle.program_promise.specs.World.{told, handed};
 ghost use Rattle.rescue_domain.specs.Parts.{covers};
 ghost use Rattle.ddrescueshow_cli.specs.Work.{domain_of, is_too_large, text_of};
-ghost use Rattle.ddrescueshow_cli.specs.Ddrescueshow.{Ddrescueshow, ShowDone, ShowWorked, handed};
+ghost use Rattle.ddrescueshow_cli.specs.Ddrescueshow.{Ddrescueshow, ShowDone, ShowWorked};
 
 use crate::ending::{ShowEnding, Which};
 use crate::form::Form;

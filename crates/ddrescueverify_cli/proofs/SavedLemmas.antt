@@ -8,13 +8,14 @@ use Rattle.crash_site.specs.Left.{Leaves, until}
 use Rattle.crash_site.specs.SiteState.{SiteState, files_in}
 use Rattle.crash_site.proofs.DiskLemmas.{reads_rest}
 use Rattle.crash_site.proofs.LawLemmas.{until_all}
+use Rattle.save_resume.specs.SaveStops.{LeftAt}
 use Rattle.program_promise.specs.World.{WorldState, Told}
 use Rattle.program_promise.specs.Program.{line_by}
 use Rattle.program_promise.specs.Promise.{Says, Nothing, Message}
 use Rattle.ddrescueverify_cli.specs.declared.ending.VerifyEnding.{VerifyEnding}
 use Rattle.ddrescueverify_cli.specs.Ddrescueverify.{verify_program}
 use Rattle.ddrescueverify_cli.specs.Laws.{SavedIsVerified}
-use Rattle.ddrescueverify_cli.specs.Stops.{IsVerifiedMap, LeftAt}
+use Rattle.ddrescueverify_cli.specs.Stops.{IsVerifiedMap}
 
 -- what is said touches no file
 same_site : (t : Told VerifyEnding) (between : WorldState) → Says verify_program t between

@@ -17,7 +17,7 @@ use Rattle.crash_site.proofs.DiskLemmas.{reads_run, rest_sound, run-append, run_
 use Rattle.crash_site.proofs.LawLemmas.{found_only, own_name, until_all, left_past}
 use Rattle.save_resume.specs.MapNames.{names_of}
 use Rattle.save_resume.specs.Saving.{save_calls}
-use Rattle.save_resume.specs.SaveStops.{disk_of, text_file, IsOldOrNew, Old, New, IsSaved}
+use Rattle.save_resume.specs.SaveStops.{disk_of, text_file, IsOldOrNew, Old, New, IsSaved, LeftAt, CouldBefore}
 use Rattle.rescue_rules.specs.Start.{Stands as StandsFor}
 use Rattle.rescue_rules.specs.Stops.{has_barrier, is_sync}
 use Rattle.work_rules.specs.Work.{Deeds, Works}
@@ -32,7 +32,7 @@ use Rattle.rescue_rules.proofs.SearchLemmas.{never_both}
 use Rattle.ddrescueverify_cli.specs.declared.ending.VerifyEnding.{VerifyEnding}
 use Rattle.ddrescueverify_cli.specs.Answers.{is_saved}
 use Rattle.ddrescueverify_cli.specs.Asked.{heading_of, shown_by}
-use Rattle.ddrescueverify_cli.specs.Stops.{CouldBefore, IsVerifiedMap, LeftAt, StopsSafely}
+use Rattle.ddrescueverify_cli.specs.Stops.{IsVerifiedMap, StopsSafely}
 use Rattle.ddrescueverify_cli.specs.Outside.{Agrees, Found, Outside, place_by}
 use Rattle.ddrescueverify_cli.specs.Work.{Verifies, verify_faults, verify_rows}
 use Rattle.ddrescueverify_cli.proofs.ShapeLemmas.{Early, IsNewText, Reads, Saving, Shape, opening, opening_calls, shape_of}

@@ -18,6 +18,7 @@ use Rattle.rescue_verify.specs.Across.{across}
 use Rattle.rescue_verify.specs.Comparing.{tally_of}
 use Rattle.faulty_source.specs.Journal.{IsFrom}
 use Rattle.ddrescueverify_words.specs.Command.{Command}
+use Rattle.work_rules.proofs.PartLemmas.{no_deeds}
 use Rattle.program_promise.specs.World.{WorldState}
 use Rattle.program_promise.specs.Program.{line_by}
 use Rattle.program_promise.specs.Promise.{DoneFor}
@@ -136,9 +137,6 @@ module _ (c : Command) (words : List (List ℕ)) (result : Result Tally VerifyEn
       (subst (λ (l : List ℕ). Went planned l result e s s' d d' p q) line_is w))
 
 -- ---- nothing was done
-
-abbrev no_deeds : Deeds
-no_deeds = record { opens = []; gain = record { calls = []; reads = []; times = [] } }
 
 module _ (c : Command) (line : List ℕ) (w : WorldState) where
   abbrev still_outside : Outside

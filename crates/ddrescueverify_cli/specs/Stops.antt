@@ -1,14 +1,12 @@
 -- What may be found at whatever moment `ddrescueverify` is stopped.
-use Rattle.std.specs.Prelude.{◌≡◌, ◌≢◌, ◌⊎◌, ℕ, ◌+◌, ◌≤◌, true, false, List, length, take, ◌++◌, Option, Some}
+use Rattle.std.specs.Prelude.{◌≡◌, ◌≢◌, ◌⊎◌, ℕ, ◌≤◌, true, false, List, length, take, Option, Some}
 use Rattle.block_list.specs.declared.status.Status.{Status}
 use Rattle.mapfile_text.specs.declared.state.MapState.{MapState}
 use Rattle.mapfile_text.specs.Printed.{printed}
 use Rattle.crash_site.specs.Files.{File, bytes_of}
-use Rattle.crash_site.specs.Calls.{Entry}
 use Rattle.crash_site.specs.SiteState.{SiteState, files_in}
-use Rattle.crash_site.specs.Left.{MayShow, MayBeLeft}
 use Rattle.save_resume.specs.MapNames.{names_of}
-use Rattle.save_resume.specs.SaveStops.{disk_of, text_file}
+use Rattle.save_resume.specs.SaveStops.{text_file, LeftAt, CouldBefore}
 use Rattle.rescue_rules.specs.Start.{Stands}
 use Rattle.rescue_rules.specs.Stops.{has_barrier}
 use Rattle.work_rules.specs.Work.{Deeds}
@@ -20,14 +18,6 @@ use Rattle.ddrescueverify_cli.specs.declared.ending.VerifyEnding.{VerifyEnding}
 use Rattle.ddrescueverify_cli.specs.Answers.{is_saved}
 use Rattle.ddrescueverify_cli.specs.Asked.{heading_of, plan_of, shown_by}
 use Rattle.ddrescueverify_cli.specs.Outside.{Outside, place_by}
-
--- a stop after the first k calls may leave these files
-abbrev pub LeftAt : SiteState → List Entry → ℕ → (List ℕ → Option File) → Type 0
-LeftAt site calls k files = MayBeLeft site.start (site.calls ++ calls) (length site.calls + k) files
-
--- a stop before the call could have left this under a name as well
-abbrev pub CouldBefore : SiteState → (name : List ℕ) → (found : Option File) → Type 0
-CouldBefore site name found = MayShow ((disk_of site).shows name) found
 
 -- The new mapfile, whole: all pieces were compared, and it is the printed map of what the mapfile gave, verified by the
 -- reads that were made and by the output as it was.

@@ -21,10 +21,11 @@ use Rattle.rescue_rules.specs.Deeds.{save_of, doing_calls}
 use Rattle.sweep_rules.specs.Sweep.{filler, generator, Sweeper, Sweep, Swept, IsSweptOut, after_pieces, due_save, sweep_end, deeds_of}
 use Rattle.sweep_rules.specs.SweepWork.{SweepEndsBy, IsSaved, IsUnsaved, IsCut as WorkIsCut, IsBroken as WorkIsBroken, sweep_report, sweep_calls, pieces_lines, lost_call}
 use Rattle.rescue_core.specs.Closing.{LastCalls, Saved as LastSaved, Unsaved as LastFailed}
+use Rattle.rescue_core.proofs.ObjectLemmas.{makes_more, says_more}
 use Rattle.fill_generate.specs.Sweeping.{Around, around, BreaksAfter, EndsSweep, Saved, Unsaved, Cut, Broken, SweepTold, LookupTold, EndsAreTold, SweepStopsAt, IsStarved, IsCut, IsBroken}
 use Rattle.fill_generate.specs.SweepState.{SweepState, setting_of}
 use Rattle.fill_generate.specs.Steps.{SweepWent, WentOn, WentUpTo, ClosesFiles, PiecesEnd, IsLookedUp}
-use Rattle.fill_generate.proofs.TellLemmas.{makes_more, breaks_after, says_more}
+use Rattle.fill_generate.proofs.TellLemmas.{breaks_after}
 use Rattle.fill_generate.proofs.ImageLemmas.{all_given}
 
 -- what broke off after a record broke off without it

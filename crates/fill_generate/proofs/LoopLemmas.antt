@@ -17,9 +17,11 @@ use Rattle.rescue_rules.specs.Laws.{AreTimes}
 use Rattle.rescue_rules.specs.Deeds.{Deed, save_of, deed_calls}
 use Rattle.sweep_rules.specs.Sweep.{Sweeper, Sweep, Swept, IsPiece, IsSweep, after_piece, after_pieces, due_save, deeds_of}
 use Rattle.sweep_rules.specs.SweepWork.{sweep_calls, piece_lines, pieces_lines, lost_call}
+use Rattle.rescue_core.proofs.TurnEndLemmas.{says_none}
+use Rattle.rescue_core.proofs.ObjectLemmas.{timed_none, timed_more, makes_none, makes_more, says_more}
 use Rattle.fill_generate.specs.Sweeping.{around, BreaksAfter, times_after, IsStarved, IsCut, IsBroken}
 use Rattle.fill_generate.specs.Steps.{deed_of, DoesPiece, DidPiece, Halted, Starved, Uncalled, Unsaved, SweepWent, WentOn, WentUpTo}
-use Rattle.fill_generate.proofs.TellLemmas.{timed_none, timed_more, makes_none, makes_more, breaks_after, breaks_more, says_none, says_more}
+use Rattle.fill_generate.proofs.TellLemmas.{breaks_after, breaks_more}
 
 pub swept_more : (w : Sweeper) (m : Sweep) (es : List Swept) (e : Swept)
     → after_pieces w m (es ++ e ∷ []) ≡ after_piece w (after_pieces w m es) e

@@ -16,13 +16,10 @@ use Rattle.rescue_rules.specs.Setting.{Setting}
 use Rattle.rescue_rules.specs.Preparation.{if_asked, changed_from}
 use Rattle.rescue_rules.proofs.MarkLemmas.{marked_inside, marked_outside, slice_get-take}
 use Rattle.rescue_rules.proofs.PreparationLemmas.{length_changed}
+use Rattle.rescue_rules.proofs.SearchLemmas.{true_or_false}
 use Rattle.rescue_core.proofs.PrepareLemmas.{changed_is}
 use Rattle.sweep_rules.specs.Sweep.{Swept, is_not_zero, is_there, part_of, is_generated}
 use Rattle.fill_generate.specs.Marking.{is_byte, finished_at, finished_between, piece_at}
-
-pub true_or_false : (b : Bool) → (b ≡ true) ⊎ (b ≡ false)
-true_or_false true = inl refl
-true_or_false false = inr refl
 
 -- two tests that pass together are one
 alike_from : (a b : Bool) → (a ≡ true → b ≡ true) → (b ≡ true → a ≡ true) → a ≡ b

@@ -11,13 +11,13 @@ use Rattle.rescue_rules.specs.declared.stop.Stop.{Stop}
 use Rattle.rescue_rules.specs.Setting.{Setting, place}
 use Rattle.rescue_core.specs.Closing.{drafting_at_stop}
 use Rattle.sweep_rules.specs.Sweep.{Sweeper, Sweep, Swept, generator}
+use Rattle.rescue_core.proofs.ObjectLemmas.{clock_self}
 use Rattle.fill_generate.specs.declared.mode.SweepMode.TheVariants.{Generate}
 use Rattle.fill_generate.specs.declared.sweeping.Piece.{Piece}
 use Rattle.fill_generate.specs.Modes.{IsSweeperOf, current_in}
 use Rattle.fill_generate.specs.SweepState.{SweepState, setting_of, standing, moved}
 use Rattle.fill_generate.specs.Sweeping.{Around, around}
 use Rattle.fill_generate.specs.Steps.{IsFound, EndsPiece, PieceEnds, ObjectsStay, LooksUp, LooksNot, NoRoom, NoRead, Halted, Starved, IsLookedUp, gone_to, heard_as}
-use Rattle.fill_generate.proofs.TellLemmas.{clock_self}
 use Rattle.fill_generate.proofs.PieceLemmas.{done_at, marked_with, took, unsaved, uncalled, lost_read, generates_is}
 
 -- after a piece the same sweep is elsewhere

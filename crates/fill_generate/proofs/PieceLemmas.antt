@@ -21,13 +21,14 @@ use Rattle.rescue_rules.specs.Lines.{phase_front, report_text}
 use Rattle.rescue_rules.specs.Deeds.{save_of}
 use Rattle.sweep_rules.specs.Sweep.{Sweeper, Sweep, Swept, after_piece, due_save, sweep_snapshot, filler, generator}
 use Rattle.sweep_rules.specs.SweepWork.{piece_lines, lost_call, sweep_report}
+use Rattle.rescue_core.proofs.ObjectLemmas.{makes_more}
 use Rattle.fill_generate.specs.declared.sweeping.Piece.{Piece}
 use Rattle.fill_generate.specs.declared.mode.SweepMode.TheVariants.{Fill, Generate}
 use Rattle.fill_generate.specs.Modes.{IsSweeperOf, current_in}
 use Rattle.fill_generate.specs.SweepState.{SweepState, setting_of, standing, moved}
 use Rattle.fill_generate.specs.Sweeping.{Around, around}
 use Rattle.fill_generate.specs.Steps.{IsFound, heard_as, line_after, save_after, DoesPiece, DidPiece, StepsPastPiece, BreaksSave, Halted, Uncalled, Unsaved}
-use Rattle.fill_generate.proofs.TellLemmas.{makes_more, breaks_after}
+use Rattle.fill_generate.proofs.TellLemmas.{breaks_after}
 
 -- a piece that was done, with what the output gave for it, at this time
 abbrev pub done_at : Piece → (got : List ℕ) → (after : ℕ) → Swept

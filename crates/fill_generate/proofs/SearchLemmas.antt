@@ -15,11 +15,11 @@ use Rattle.rescue_rules.specs.Setting.{Setting}
 use Rattle.rescue_rules.specs.Counts.{passes, passing}
 use Rattle.sweep_rules.specs.Sweep.{Sweeper, Sweep, IsTaken, IsPiece, IsSweptOut}
 use Rattle.block_list.specs.Map.{Has}
+use Rattle.rescue_rules.proofs.SearchLemmas.{true_or_false}
 use Rattle.fill_generate.specs.declared.mode.SweepMode.{SweepMode}
 use Rattle.fill_generate.specs.Modes.{takes_in, is_taken, IsTakenIn, IsSweeperOf}
 use Rattle.fill_generate.specs.SweepState.{SweepState, setting_of, IsSweeping}
 use Rattle.fill_generate.specs.Steps.{IsFound}
-use Rattle.fill_generate.proofs.MarkLemmas.{true_or_false}
 
 passes_none : (test : Status → Bool) (o : Option Status) → o ≡ None → passes test o ≡ false
 passes_none test o is = ap (passes test) is

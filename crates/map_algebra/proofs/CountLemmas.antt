@@ -11,14 +11,12 @@ use Rattle.rescue_domain.specs.Stretch.{IsConstant}
 use Rattle.block_list.specs.declared.areas.Count.{Count}
 use Rattle.map_algebra.specs.At.{status_at}
 use Rattle.block_list.specs.Areas.{begins_area, count_of}
+use Rattle.rescue_domain.proofs.SizeLemmas.{one_if}
 use Rattle.map_algebra.specs.Summary.{count_from, has_one, has_status}
 
 -- how many of n positions from one on are in a set
 abbrev counted : (ℕ → Bool) → ℕ → ℕ → ℕ
 counted set from n = count_by set (range_with_len from n)
-
-abbrev one_if : Bool → ℕ
-one_if b = cond b 1 0
 
 counted_first : (set : ℕ → Bool) (from n : ℕ) → counted set from (suc n) ≡ one_if (set from) + counted set (from + 1) n
 counted_first set from n = sum_by-cons (λ x. one_if (set x)) from (range_with_len (from + 1) n)
@@ -169,7 +167,7 @@ counted_piece set from at to v o count next c k b a =
       in_front = open_past set at to v k;
     }
 
-abbrev count_with : (bytes areas : ℕ) → Count
+abbrev pub count_with : (bytes areas : ℕ) → Count
 count_with bytes areas = record { bytes = bytes; areas = areas }
 
 -- up to an end that was come to

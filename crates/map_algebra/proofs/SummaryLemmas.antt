@@ -1,19 +1,17 @@
 -- The lines of a summary, together.
-use Rattle.std.proofs.Common.{◌≡◌, ℕ, ◌+◌, Bool, true, false, ◌&&◌, cond, List, [], ◌∷◌, length, refl, arith}
+use Rattle.std.proofs.Common.{◌≡◌, ℕ, ◌+◌, Bool, true, false, ◌&&◌, List, [], ◌∷◌, length, refl, arith}
 use Rattle.std.specs.List.{count_by, range_with_len}
 use Rattle.std.proofs.lemmas.List.Sums.{sum_by-cons}
 use Rattle.block_list.specs.declared.status.Status.{Status}
 use Rattle.block_list.specs.declared.status.Status.TheVariants.{NonTried, NonTrimmed, NonScraped, BadSector, Finished}
 use Rattle.block_list.specs.Status.{same}
+use Rattle.rescue_domain.proofs.SizeLemmas.{one_if}
 use Rattle.map_algebra.specs.At.{status_at}
 use Rattle.map_algebra.specs.Summary.{has_status}
 use Rattle.map_algebra.specs.Laws.{LinesAddUp}
 
-abbrev one_if : Bool → ℕ
-one_if b = cond b 1 0
-
 -- what is counted of a list with one more number in front
-count_first : (p : ℕ → Bool) (x : ℕ) (xs : List ℕ) → count_by p (x ∷ xs) ≡ one_if (p x) + count_by p xs
+pub count_first : (p : ℕ → Bool) (x : ℕ) (xs : List ℕ) → count_by p (x ∷ xs) ≡ one_if (p x) + count_by p xs
 count_first p x xs = sum_by-cons (λ y. one_if (p y)) x xs
 
 abbrev each_of : (Status → ℕ) → ℕ

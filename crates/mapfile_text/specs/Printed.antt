@@ -25,7 +25,7 @@ at_least_eight ds = replicate (8 - length ds) 48 ++ ds
 abbrev pub hexadecimal : ℕ → List ℕ
 hexadecimal n = codes "0x" ++ at_least_eight (digits 16 true n)
 
--- a byte of a command line as it is printed: a control character becomes a question mark
+-- a byte as a line shows it: a control character becomes a question mark
 abbrev pub shown_byte : ℕ → ℕ
 shown_byte b = if nat_lt b 32 then 63 else if nat_eq b 127 then 63 else b
 

@@ -3,7 +3,8 @@ use Rattle.std.proofs.Common.{◌≡◌, ◌≤◌, ◌++◌, ℕ, false, List, 
 use Rattle.std.proofs.lemmas.Bool.Decides.{nat_tests}
 use Rattle.std.proofs.lemmas.List.Elements.{All-map}
 use Rattle.std.proofs.lemmas.List.{length-map, length-append}
-use Rattle.program_advice.specs.Lines.{shown_byte, IsOneLine}
+use Rattle.mapfile_text.specs.Printed.{shown_byte}
+use Rattle.program_advice.specs.Lines.{IsOneLine}
 
 shown_from : (b : ℕ) → 32 ≤ shown_byte b
 shown_from b = grind (arith, nat_tests)

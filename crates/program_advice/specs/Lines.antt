@@ -1,14 +1,11 @@
 -- The line of a cause.
-use Rattle.std.specs.Prelude.{ℕ, Bool, true, false, List, [], ◌∷◌, ◌++◌, ◌≡◌, ◌≤◌, All, length, take, map, codes, nat_lt, nat_le, nat_eq, if◌then◌else◌}
+use Rattle.std.specs.Prelude.{ℕ, Bool, true, false, List, [], ◌∷◌, ◌++◌, ◌≡◌, ◌≤◌, All, length, take, map, codes, nat_le, nat_eq, if◌then◌else◌}
 use Rattle.std.specs.Fmt.{decimal}
+use Rattle.mapfile_text.specs.Printed.{shown_byte}
 use Rattle.program_advice.specs.declared.cause.Named.{Named}
 use Rattle.program_advice.specs.declared.cause.Cause.{Cause}
 use Rattle.program_advice.specs.declared.cause.Cause.TheVariants.{Refused, Unsaved, Full, File, BadLine, LargeMap, OneName, Limit, Stream, Argument, Usage, Left, Hint}
 use Rattle.program_advice.specs.Texts.{doing_text, fact_text, hint_text, option_text, role_text, stream_text}
-
--- a byte as it is printed: a control character becomes a question mark
-abbrev pub shown_byte : ℕ → ℕ
-shown_byte b = if nat_lt b 32 then 63 else if nat_eq b 127 then 63 else b
 
 -- a text, or `most` bytes of it and two dots
 abbrev pub cut : ℕ → List ℕ → List ℕ

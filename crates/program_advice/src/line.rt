@@ -1,8 +1,9 @@
 //! The line that names a cause.
 ghost use Rattle.std.specs.Prelude.{◌≡◌, ◌+◌, ◌≤◌, ◌++◌, [], ◌∷◌, length, map, codes};
 ghost use Rattle.std.specs.Fmt.{decimal};
+ghost use Rattle.mapfile_text.specs.Printed.{shown_byte};
 ghost use Rattle.arrayvec.specs.ArrayVec.{array_vec_len};
-ghost use Rattle.program_advice.specs.Lines.{IsOneLine, bad_line_text, cause_text, cut, large_map_text, left_text, line_text, named_text, quoted, resuming_text, room_text, shown_byte, unsaved_text};
+ghost use Rattle.program_advice.specs.Lines.{IsOneLine, bad_line_text, cause_text, cut, large_map_text, left_text, line_text, named_text, quoted, resuming_text, room_text, unsaved_text};
 
 use crate::cause::{Cause, Named};
 use crate::texts::{doing_text, fact_text, hint_text, option_text, role_text, stream_text};

@@ -71,3 +71,8 @@ pub record Told (E : Type 0) : Type 0 where
 -- the record of these
 abbrev pub told : {E : Type 0} → (words : List (List ℕ)) → E → (before after : WorldState) → Told E
 told words answer before after = record { words = words; answer = answer; before = before; after = after }
+
+-- what a program that has a site and a console alone is handed
+abbrev pub handed : SiteState → ConsoleState → WorldState
+handed site console =
+    record { source = no_source; site = site; clock = no_clock; feed_ = no_feed; console = console }

@@ -19,7 +19,7 @@ use Rattle.rescue_rules.specs.MachineLaws.{IsInOrder, StepsBy, AsksFor}
 use Rattle.rescue_rules.proofs.MarkLemmas.{marked_inside, marked_outside}
 use Rattle.rescue_rules.proofs.OverLemmas.{good_reaches}
 use Rattle.rescue_rules.proofs.StatusLemmas.{wanted_taken}
-use Rattle.rescue_rules.proofs.StepLemmas.{asks_back, tail_trims, trims_is}
+use Rattle.rescue_rules.proofs.StepLemmas.{asks_back, tail_trims, trims_is, with_kept}
 
 -- A position that was asked for is finished, or was missed by a read that failed, or stands and isn't left of the domain
 -- any more. One that wasn't asked for lies between the front and the back of a range that is trimmed, and is left for
@@ -82,10 +82,6 @@ asked s m e ok order request by =
           (trims_is (pass_of m).phase (tail_trims s m low order is)) has;
       trims = λ low is. tail_trims s m low order is;
     }
-
--- the map with the kept part marked, and with the rest marked too
-abbrev with_kept : Setting → Machine → Reading → List Status
-with_kept s m r = marked m.map r.pos (kept s.sector r) Finished
 
 abbrev with_rest : Setting → Machine → Reading → List Status
 with_rest s m r =

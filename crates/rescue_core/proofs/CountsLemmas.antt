@@ -16,6 +16,7 @@ use Rattle.rescue_domain.specs.declared.live.Live.{Live}
 use Rattle.rescue_domain.specs.Live.{lives}
 use Rattle.rescue_domain.specs.Parts.{covers}
 use Rattle.map_algebra.specs.Summary.{count_from, has_one}
+use Rattle.map_algebra.proofs.CountLemmas.{count_with}
 use Rattle.transfer_token.specs.declared.token.Request.{Request}
 use Rattle.rescue_rules.specs.declared.phase.Phase.{Phase}
 use Rattle.rescue_rules.specs.declared.report.Counts.{Counts}
@@ -69,10 +70,6 @@ failed_counted domain map from to = ap (λ (set : ℕ → Bool). count_from set 
 pub finished_counted : (domain : ℕ → Bool) (map : List Status) (from to : ℕ)
     → count_from (has_one domain map (Finished ∷ [])) from to ≡ count_from (passing has_finished domain map) from to
 finished_counted domain map from to = ap (λ (set : ℕ → Bool). count_from set from to) (finished_set domain map)
-
--- counts with the same numbers are the same
-abbrev count_with : (bytes areas : ℕ) → Count
-count_with bytes areas = record { bytes = bytes; areas = areas }
 
 pub count_is : (a b : Count) → a.bytes ≡ b.bytes → a.areas ≡ b.areas → a ≡ b
 count_is a b bytes areas = ap (λ n. count_with n a.areas) bytes ∙ ap (λ n. count_with b.bytes n) areas

@@ -16,7 +16,7 @@ IsChain s [] = Unit {0}
 IsChain s (p ∷ ps) = (p ∷ ps ≡ passes_from s p.phase p.number) × IsChain s ps
 
 -- one more than the number of a phase's last pass
-abbrev after_last : Setting → Phase → ℕ
+abbrev pub after_last : Setting → Phase → ℕ
 after_last s Copying = 6
 after_last s Trimming = 2
 after_last s Scraping = 2
@@ -107,10 +107,10 @@ scraping_on s phase =
 retrying_on : (s : Setting) (phase : Phase) → All (IsOn s phase) (passes_in s Retrying 1)
 retrying_on s phase = in_on s phase Retrying 1 (record { trims = λ is. absurd (cc); scrapes = λ is. absurd (cc) })
 
-abbrev scraping_passes : Setting → List Pass
+abbrev pub scraping_passes : Setting → List Pass
 scraping_passes s = if s.passes.scrapes then passes_in s Scraping 1 else []
 
-abbrev trimming_passes : Setting → List Pass
+abbrev pub trimming_passes : Setting → List Pass
 trimming_passes s = if s.passes.trims then passes_in s Trimming 1 else []
 
 after_on : (s : Setting) (phase at : Phase) → All (IsOn s phase) (passes_after s at)

@@ -26,7 +26,7 @@ sum_before low (first ∷ parts) (suc i) part t e =
 abbrev counted : (ℕ → Bool) → ℕ → ℕ → ℕ
 counted domain from n = count_by domain (range_with_len from n)
 
-abbrev one_if : Bool → ℕ
+abbrev pub one_if : Bool → ℕ
 one_if b = cond b 1 0
 
 counted_more : (domain : ℕ → Bool) (from n : ℕ)

@@ -1,6 +1,5 @@
 -- There is one plan at most, and what a rescue reads in test mode is the plan's.
-use Rattle.std.proofs.Common.{◌≡◌, ⊎_elim, ℕ, ◌+◌, ◌≤◌, true, false, nat_eq, nat_lt, is_none, List, [], ◌∷◌, ◌++◌, length, map, take, All, None, slice_get, refl, sym, ap, subst, ◌∙◌, arith, length-append}
-use Rattle.std.proofs.lemmas.Bool.Decides.{nat_tests}
+use Rattle.std.proofs.Common.{◌≡◌, ⊎_elim, ℕ, ◌+◌, ◌≤◌, true, false, nat_lt, is_none, List, [], ◌∷◌, ◌++◌, length, map, take, All, None, slice_get, refl, sym, ap, subst, ◌∙◌, arith, length-append}
 use Rattle.std.proofs.lemmas.Bool.{and_parts, cases_Bool, cond_both}
 use Rattle.std.proofs.lemmas.List.{append-nil, length-take-le, nil_from_length}
 use Rattle.std.proofs.lemmas.List.Elements.{All-nil, All-cons, All-head, All-tail}
@@ -24,6 +23,7 @@ use Rattle.rescue_sample.specs.Line.{IsStill}
 use Rattle.task_files.specs.Asked.{setting_of}
 use Rattle.ddrescueplan_words.specs.Command.{ArePlain}
 use Rattle.plan_source.specs.Lines.{PlannedRead, planned}
+use Rattle.plan_source.proofs.AnswerLemmas.{passed_eq}
 use Rattle.rescue_plan.specs.Plan.{IsPlannedIn, BeginsPlan, IsPlan, untried_map, plan_setting, plan_start}
 use Rattle.rescue_plan.specs.Laws.{BeginWith, EndsShort, PlanIsOne, RescuesArePlanned}
 use Rattle.rescue_plan.proofs.SimilarLemmas.{IsUnlimited, SameShape, SameShapes, plain, quiet, ready_alike, request_alike, after_alike, run_alike, state_alike, ended_alike}
@@ -165,9 +165,6 @@ plan_is_one o n test reads are p = record {
 }
 
 -- ---- a rescue in test mode
-
-passed_eq : (m n : ℕ) → nat_eq m n ≡ true → m ≡ n
-passed_eq m n e = grind (arith, nat_tests)
 
 -- a whole read doesn't meet the end
 not_ended : (r : Reading) → is_whole r ≡ true → EndsShort r → r.ended ≡ false

@@ -12,6 +12,7 @@ use Rattle.crash_site.specs.Disk.{Showing, Disk, only, or_this, entered, disk_af
 use Rattle.crash_site.specs.Left.{MayShow, Leaves, until}
 use Rattle.crash_site.proofs.LawLemmas.{Sure, found_only}
 use Rattle.save_resume.specs.Saving.{save_calls}
+use Rattle.save_resume.specs.SaveStops.{text_file}
 use Rattle.rescue_rules.specs.Setting.{Setting}
 use Rattle.rescue_rules.specs.Snapshots.{Snapshot, text_of}
 use Rattle.rescue_rules.specs.Deeds.{Deed, save_of, deed_calls, doing_calls, some_save, saves_in, image_after, WritesAt, Outlasts, KeepsOn, KeepsUp}
@@ -22,7 +23,7 @@ use Rattle.rescue_rules.specs.StopsBy.{IsSave, is_publish}
 use Rattle.rescue_rules.proofs.WriteLemmas.{length-written}
 use Rattle.rescue_rules.proofs.CutLemmas.{Cut, tally, tally_is, Each, at_stop}
 use Rattle.rescue_rules.proofs.BeforeLemmas.{or_found}
-use Rattle.rescue_rules.proofs.SaveStages.{Doing, Base, text_file, StoodFile, Stood, stood_found, stood_only, Calm, calm_written, Wrote, calm_unwritten, Synced, calm_synced, Drafting, begun, unbegun, grown, ungrown, firm, Moved, published_moved, Unmoved, unpublished, moved_unmoved, Settled, moved_settled}
+use Rattle.rescue_rules.proofs.SaveStages.{Doing, Base, StoodFile, Stood, stood_found, stood_only, Calm, calm_written, Wrote, calm_unwritten, Synced, calm_synced, Drafting, begun, unbegun, grown, ungrown, firm, Moved, published_moved, Unmoved, unpublished, moved_unmoved, Settled, moved_settled}
 
 -- the save at a run's end, and all its calls
 abbrev pub last_calls : Setting → Snapshot → List Call

@@ -59,7 +59,7 @@ abbrev RescueCalls : Setting → Machine → List Event → List Call
 RescueCalls s m es = all_calls s (run_deeds s m es) (last_snapshot s (state_after s m es))
 
 -- without a read there is no event
-no_events : (g : Gain) → g.reads ≡ [] → events_in g ≡ []
+pub no_events : (g : Gain) → g.reads ≡ [] → events_in g ≡ []
 no_events g none = ap (λ (l : List Reading). events_of l g.times) none
 
 no_run : (s : Setting) (m : Machine) (es : List Event) → es ≡ [] → IsRun s m es

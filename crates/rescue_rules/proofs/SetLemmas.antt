@@ -7,15 +7,12 @@ use Rattle.std.proofs.lemmas.List.FromFn.{length-range_with_len}
 use Rattle.std.proofs.lemmas.List.Sums.{sum_by-cons, count_by-le-length}
 use Rattle.std.proofs.Math.Bool.{and-true}
 use Rattle.block_list.specs.Areas.{begins_area, count_below, count_of, AgreeOutside}
-use Rattle.block_list.proofs.AreaLemmas.{areas_change_within, count_split, count_same}
+use Rattle.block_list.proofs.AreaLemmas.{areas_change_within, count_split, count_same, weight}
 use Rattle.rescue_rules.specs.Recounts.{count_within, is_in_front}
 
 -- positions from one up to another are all in a set, or none is
 pub record AllAre (set : ℕ → Bool) (from to : ℕ) (v : Bool) : Type 0 where
   pub each : (x : ℕ) → from ≤ x → x < to → set x ≡ v
-
-abbrev weight : Bool → ℕ
-weight b = if b then 1 else 0
 
 abbrev pub size_if : Bool → ℕ → ℕ
 size_if b n = if b then n else 0

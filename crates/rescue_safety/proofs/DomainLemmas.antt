@@ -6,18 +6,18 @@ use Rattle.block_list.specs.declared.status.Status.{Status}
 use Rattle.block_list.specs.declared.status.Status.TheVariants.{Finished}
 use Rattle.block_list.specs.Map.{Has}
 use Rattle.block_list.proofs.StretchLemmas.{equal_from_same}
-use Rattle.crash_site.specs.Files.{File}
+use Rattle.crash_site.specs.Files.{File, file_named}
 use Rattle.save_resume.specs.Named.{map_mode, IsMapOf}
 use Rattle.rescue_domain.specs.Domain.{is_below, whole_domain, in_map}
 use Rattle.rescue_domain.specs.Finished.{is_finished, is_finished_at}
 use Rattle.ddrescue_words.specs.Command.{Command, Rescue as ForRescue}
 use Rattle.task_files.specs.Asked.{Maps, domain_asked, in_list}
-use Rattle.task_files.specs.Maps.{Found, file_named, found_in, mapfile_of, MapfileLists}
+use Rattle.task_files.specs.Maps.{Found, found_in, mapfile_of, MapfileLists}
 use Rattle.ddrescue_cli.specs.Ddrescue.{TaskDone}
 use Rattle.rescue_safety.specs.Rescue.{Rescue, files_at_first}
 use Rattle.rescue_safety.specs.AskedFor.{IsAskedFor}
 
-some_finished : (status : Option Status) → is_finished status ≡ true → status ≡ Some Finished
+pub some_finished : (status : Option Status) → is_finished status ≡ true → status ≡ Some Finished
 some_finished None is = absurd (cc)
 some_finished (Some s) is = ap (λ (v : Status). Some v) (equal_from_same s Finished is)
 

@@ -1,13 +1,13 @@
 -- A rescue that read anything had its test map, if one was named.
 use Rattle.std.proofs.Common.{◌≡◌, ◌⊎◌, ℕ, ◌<◌, ◌≤◌, List, [], ◌++◌, length, Option, Some, None, is_some, refl, sym, ap, ◌∙◌, inl, inr, ⊎_elim}
 use Rattle.std.proofs.lemmas.Bool.{cases_lt}
-use Rattle.block_list.specs.declared.status.Status.{Status}
 use Rattle.mapfile_text.specs.declared.read.Mode.{Mode}
 use Rattle.mapfile_text.specs.declared.read.MapError.TheVariants.{TooLong}
 use Rattle.mapfile_text.specs.MapText.{text_limit}
 use Rattle.mapfile_text.proofs.MapOrFault.{is_map_or_has_fault}
 use Rattle.crash_site.specs.Files.{File}
-use Rattle.save_resume.specs.Named.{map_mode, IsMapOf}
+use Rattle.save_resume.specs.Named.{map_mode}
+use Rattle.save_resume.proofs.NamedLemmas.{HasMap}
 use Rattle.work_rules.specs.Work.{Deeds, WorkStep, Works, with_calls}
 use Rattle.ddrescue_words.specs.Command.{Command}
 use Rattle.task_files.specs.declared.ending.Ending.{Ending}
@@ -17,9 +17,6 @@ use Rattle.task_files.specs.declared.ending.Which.TheVariants.{DomainMap, TestMa
 use Rattle.task_files.specs.Refusals.{NamedMapRefused}
 use Rattle.task_files.specs.Maps.{Found}
 use Rattle.task_files.specs.Work.{rescue_faults, rescue_rows, map_rows, opened_rows, IfNamed}
-
-abbrev HasMap : Option File → Mode → Type 0
-HasMap file mode = (statuses : List Status) × IsMapOf file mode statuses
 
 -- a file that isn't refused is a map
 accepted_short : (which : Which) (mode : Mode) (f : File) → length f.bytes ≤ text_limit

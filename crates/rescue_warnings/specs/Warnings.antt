@@ -1,10 +1,11 @@
 -- The lines of warnings.
 use Rattle.std.specs.Prelude.{ℕ, List, [], ◌∷◌, ◌++◌, map, codes}
 use Rattle.std.specs.Fmt.{decimal}
+use Rattle.mapfile_text.specs.Printed.{shown_byte}
 use Rattle.rescue_warnings.specs.declared.advice.Advice.{Advice}
 use Rattle.rescue_warnings.specs.declared.advice.Advice.TheVariants.{OutfileShort, MapPastInfile, EmptyInfile, BeginsPastInfile, NothingAsked, NothingListed, NewMapfile, LinkedMapfile, UnsafeMapfile, NewOutfile, NothingToFill, LongPattern, OtherSector, MountedInfile, MountedOutfile, LongPlan, NothingToCompare, LateMapfile, EmptyDomain}
 use Rattle.rescue_warnings.specs.declared.warning.Names.{Names}
-use Rattle.program_advice.specs.Lines.{quoted, shown_byte}
+use Rattle.program_advice.specs.Lines.{quoted}
 use Rattle.rescue_console.specs.declared.console.Channel.TheVariants.{Err}
 use Rattle.rescue_console.specs.Speaking.{SpokenPiece}
 

@@ -6,7 +6,7 @@ use Rattle.crash_site.specs.declared.site.SiteCall.TheVariants.{DraftAppend}
 use Rattle.crash_site.specs.Calls.{Call, Entry, Done, image_sync, draft_begin, draft_append}
 use Rattle.crash_site.specs.CallsMade.{Made, BrokeAt}
 use Rattle.crash_site.specs.SiteState.{SiteState}
-use Rattle.crash_site.specs.SiteChanges.{Keeps, Answers}
+use Rattle.crash_site.specs.SiteChanges.{Keeps, Answers, Stays}
 use Rattle.mapfile_text.specs.Pieces.{pieces_of}
 use Rattle.save_resume.specs.Saving.{IsNameIn, fill_calls, EndsBegun, EndsFilled, Saves}
 use Rattle.save_resume.proofs.CallLemmas.{made_more, broke_back, named_back}
@@ -107,3 +107,10 @@ ends_filled ps old new b m = record {
 pub filled_after : (text left : List ℕ) (old new : SiteState) → PartlyFilled text left old new → IsTrue old.tells
     → EndsBegun old.calls → EndsFilled new.calls
 filled_after text left old new f t b = ends_filled f.went old.calls new.calls b (f.made t)
+
+pub site_stays : (s : SiteState) → Stays s s
+site_stays s = record {
+  keeps = record { tells = refl; start = λ tells. refl; planned = refl; later = omega arith };
+  image = refl;
+  draft = refl;
+}

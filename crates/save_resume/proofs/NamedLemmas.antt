@@ -11,11 +11,11 @@ use Rattle.save_resume.specs.Named.{IsMapOf}
 use Rattle.save_resume.proofs.AnswerLemmas.{one_there}
 
 -- a file as a map has one list of statuses
-abbrev Reading : Mode → List Status → File → Type 0
+abbrev pub Reading : Mode → List Status → File → Type 0
 Reading mode statuses f =
     (shown : MapState) × (first : ℕ) × (listed : Bool) × IsMapText f.bytes mode shown first listed statuses
 
-reading : (file : Option File) (mode : Mode) (f : File) (statuses : List Status) → file ≡ Some f
+pub reading : (file : Option File) (mode : Mode) (f : File) (statuses : List Status) → file ≡ Some f
     → IsMapOf file mode statuses → Reading mode statuses f
 reading file mode f statuses is m =
     subst (Reading mode statuses) (one_there file m.there f m.is is) (m.shown, m.first, m.listed, m.reads)
@@ -27,3 +27,7 @@ map_is_one file mode statuses statuses' m m' =
     let one : SameReading m.shown r.0 m.first r.1 m.listed r.2 statuses statuses' =
     has_one_reading m.there.bytes mode m.shown r.0 m.first r.1 m.listed r.2 statuses statuses' m.reads r.3 in
     one.statuses_is
+
+-- a file is a map, or it is none
+abbrev pub HasMap : Option File → Mode → Type 0
+HasMap file mode = (statuses : List Status) × IsMapOf file mode statuses

@@ -1,5 +1,5 @@
 -- Maps that options name: how they are read, and what their load answers.
-use Rattle.std.specs.Prelude.{◌≡◌, ◌≢◌, ⊤, ℕ, ◌≤◌, Bool, List, [], length, Option, Some, None, Result, Ok, Err, if◌then◌else◌}
+use Rattle.std.specs.Prelude.{◌≡◌, ◌≢◌, ⊥, ⊤, ℕ, ◌≤◌, Bool, List, [], length, Option, Some, None, Result, Ok, Err, if◌then◌else◌}
 use Rattle.fault_count.specs.Counts.{Rose}
 use Rattle.block_list.specs.declared.status.Status.{Status}
 use Rattle.block_list.specs.declared.status.Status.TheVariants.{NonTried}
@@ -65,3 +65,9 @@ NamedCounts (Err ReadFailed) faults faults' = Rose faults faults'
 NamedCounts (Err Absent) faults faults' = faults' ≡ faults
 NamedCounts (Err (Refused e)) faults faults' = (faults' ≡ faults) × (e ≢ OutOfMemory)
 NamedCounts (Err NoMemory) faults faults' = faults' ≡ faults
+
+-- a file that may be named has these statuses
+abbrev pub HasStatuses : Option (List ℕ) → Mode → Option File → Option (List Status) → Type 0
+HasStatuses None mode file statuses = statuses ≡ None
+HasStatuses (Some name) mode file None = ⊥
+HasStatuses (Some name) mode file (Some statuses) = IsMapOf file mode statuses

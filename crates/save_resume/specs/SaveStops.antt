@@ -1,6 +1,7 @@
 -- What a stop within a save may leave.
-use Rattle.std.specs.Prelude.{◌≡◌, ◌≢◌, true, ℕ, ◌≤◌, List, length, Option, Some, None}
+use Rattle.std.specs.Prelude.{◌≡◌, ◌≢◌, true, ℕ, ◌+◌, ◌≤◌, List, ◌++◌, length, Option, Some, None}
 use Rattle.crash_site.specs.Files.{File}
+use Rattle.crash_site.specs.Calls.{Entry}
 use Rattle.crash_site.specs.Disk.{Disk, at_rest, only, disk_after}
 use Rattle.crash_site.specs.Left.{MayShow, until, MayBeLeft}
 use Rattle.crash_site.specs.SiteState.{SiteState}
@@ -50,3 +51,11 @@ pub record IsSaved (names : MapNames) (text : List ℕ) (was now : Disk) : Type 
   pub others : (name : List ℕ) → name ≢ names.map → name ≢ names.draft → now.reads.files name ≡ was.reads.files name
   pub no_wider : (name : List ℕ) (found : Option File) → name ≢ names.map → name ≢ names.draft
       → MayShow (now.shows name) found → MayShow (was.shows name) found
+
+-- a stop after the first k calls may leave these files
+abbrev pub LeftAt : SiteState → List Entry → ℕ → (List ℕ → Option File) → Type 0
+LeftAt site calls k files = MayBeLeft site.start (site.calls ++ calls) (length site.calls + k) files
+
+-- a stop before the call could have left this under a name as well
+abbrev pub CouldBefore : SiteState → (name : List ℕ) → (found : Option File) → Type 0
+CouldBefore site name found = MayShow ((disk_of site).shows name) found

@@ -1,37 +1,19 @@
 -- Files have maps, and each of them one.
-use Rattle.std.proofs.Common.{◌≡◌, ◌⊎◌, ℕ, ◌<◌, ◌≤◌, Bool, List, length, Option, Some, None, refl, sym, ap, ◌∙◌, inl, inr, subst, arith}
+use Rattle.std.proofs.Common.{◌≡◌, ◌⊎◌, ℕ, ◌<◌, ◌≤◌, List, length, Option, Some, None, refl, ap, inl, inr, subst, arith}
 use Rattle.std.proofs.lemmas.Bool.{cases_lt}
 use Rattle.block_list.specs.declared.status.Status.{Status}
-use Rattle.mapfile_text.specs.declared.state.MapState.{MapState}
 use Rattle.mapfile_text.specs.declared.read.Mode.{Mode}
-use Rattle.mapfile_text.specs.MapText.{text_limit, IsMapText}
+use Rattle.mapfile_text.specs.MapText.{text_limit}
 use Rattle.mapfile_text.proofs.OneFault.{map_has_no_fault}
 use Rattle.mapfile_text.proofs.MapOrFault.{is_map_or_has_fault}
 use Rattle.crash_site.specs.Files.{File}
 use Rattle.ddrescue_words.specs.Command.{Command}
 use Rattle.task_files.specs.Asked.{Maps}
 use Rattle.save_resume.specs.Named.{IsMapOf, map_mode}
-use Rattle.save_resume.proofs.NamedLemmas.{map_is_one}
-use Rattle.save_resume.proofs.AnswerLemmas.{not_there}
+use Rattle.save_resume.proofs.NamedLemmas.{map_is_one, Reading, HasMap, reading}
+use Rattle.save_resume.proofs.AnswerLemmas.{not_there, one_there}
 use Rattle.task_files.specs.Maps.{Found, AreAskedFor, AreMapsIn, IsNamedMap}
 use Rattle.task_files.proofs.ListingLemmas.{Listing, some_listing}
-
-one_there : (file : Option File) (f g : File) → file ≡ Some f → file ≡ Some g → g ≡ f
-one_there file f g is is' = let e : Some f ≡ Some g = sym is ∙ is' in cc
-
--- a file as a map has one list of statuses
-abbrev Reading : Mode → List Status → File → Type 0
-Reading mode statuses f =
-    (shown : MapState) × (first : ℕ) × (listed : Bool) × IsMapText f.bytes mode shown first listed statuses
-
-reading : (file : Option File) (mode : Mode) (f : File) (statuses : List Status) → file ≡ Some f → IsMapOf file mode statuses
-    → Reading mode statuses f
-reading file mode f statuses is m =
-    subst (Reading mode statuses) (one_there file f m.there is m.is) (m.shown, m.first, m.listed, m.reads)
-
--- a file is a map, or it is none
-abbrev HasMap : Option File → Mode → Type 0
-HasMap file mode = (statuses : List Status) × IsMapOf file mode statuses
 
 abbrev HasNoMap : Option File → Mode → Type 0
 HasNoMap file mode = (statuses : List Status) → IsMapOf file mode statuses → ⊥
@@ -51,7 +33,7 @@ short_map_or_none f mode short =
 too_long : (f : File) (mode : Mode) → text_limit < length f.bytes → HasNoMap (Some f) mode
 too_long f mode long statuses m =
     let P : File → Type 0 = λ g. length g.bytes ≤ text_limit in
-    let short : length f.bytes ≤ text_limit = subst P (one_there (Some f) f m.there refl m.is) m.within in
+    let short : length f.bytes ≤ text_limit = subst P (one_there (Some f) m.there f m.is refl) m.within in
     omega (arith, long, short)
 
 map_or_none : (file : Option File) (mode : Mode) → HasMap file mode ⊎ HasNoMap file mode

@@ -9,10 +9,11 @@ use Rattle.crash_site.specs.FileAnswers.{is_absent, kind_of}
 use Rattle.crash_site.specs.Calls.{Done as Returned, image_open}
 use Rattle.crash_site.specs.CallsMade.{Lost}
 use Rattle.crash_site.specs.SiteState.{SiteState, files_in}
-use Rattle.work_rules.specs.Work.{IsIdle, Look}
-use Rattle.work_rules.specs.Parts.{StoppedIn, WentThrough, only_calls}
+use Rattle.work_rules.specs.Work.{Look}
+use Rattle.work_rules.specs.Parts.{StoppedIn, WentThrough}
 use Rattle.work_rules.proofs.LoadLemmas.{by_tells}
 use Rattle.work_rules.proofs.LoadedLemmas.{broke_first}
+use Rattle.work_rules.proofs.PartLemmas.{idle}
 use Rattle.task_files.specs.declared.ending.Ending.{Ending}
 use Rattle.task_files.specs.declared.ending.Ending.TheVariants.{NoOutput, NotRegular, SiteFault}
 use Rattle.task_files.specs.Refusals.{is_other, OutputMissing, OutputRefused}
@@ -55,9 +56,6 @@ none_kind (Some f) is = cc
 -- something that is no regular file
 other_file : Option File
 other_file = Some (record { bytes = []; regular = false })
-
-idle : IsIdle (only_calls [])
-idle = record { opens = refl; gain = record { calls = refl; reads = refl; times = refl } }
 
 there : (file : Option File) → is_other file ≡ true → (v : Ending) → OutputMissing file v → ⊥
 there None other v missing = cc

@@ -7,7 +7,7 @@ use Rattle.std.proofs.lemmas.Slice.Eq.{bytes_eq-Decides}
 use Rattle.block_list.specs.declared.status.Status.{Status}
 use Rattle.faulty_source.specs.SourceState.{SourceState}
 use Rattle.faulty_source.specs.SourceChanges.{Stays as SourceStays, AnswersOpen, PlansOpen}
-use Rattle.crash_site.specs.Files.{File}
+use Rattle.crash_site.specs.Files.{File, file_named}
 use Rattle.crash_site.specs.Folder.{Folder, opened, after}
 use Rattle.crash_site.specs.Calls.{Entry, Done as Returned, image_open}
 use Rattle.crash_site.specs.CallsMade.{Made}
@@ -32,7 +32,7 @@ use Rattle.task_files.specs.declared.ending.Ending.TheVariants.{Usage, SourceFau
 use Rattle.task_files.specs.declared.load.LoadedMap.{LoadedMap}
 use Rattle.task_files.specs.Names.{AreNamedApart}
 use Rattle.task_files.specs.Asked.{names_by, place_by, setting_of, ArePlacedBy, IsBeyond}
-use Rattle.task_files.specs.Maps.{Found, file_named, found_in, mapfile_of, seen_through}
+use Rattle.task_files.specs.Maps.{Found, found_in, mapfile_of, seen_through}
 use Rattle.task_files.specs.Refusals.{PlacesRefused}
 use Rattle.task_files.specs.Outside.{HasGainedReads}
 use Rattle.work_rules.specs.Opens.{AreOpens}

@@ -2,17 +2,15 @@
 use Rattle.std.proofs.Common.{◌≡◌, ◌⊎◌, ℕ, ◌<◌, ◌^◌, Bool, IsTrue, List, [], ◌++◌, length, map, Option, Some, None, Ok, Err, refl, sym, ap, ◌∙◌, inl, inr, subst, append_assoc, append-nil}
 use Rattle.std.proofs.lemmas.List.Elements.{All-nil, All-append}
 use Rattle.block_list.specs.declared.status.Status.{Status}
-use Rattle.block_list.specs.Tiled.{Tiled}
+use Rattle.block_list.specs.Tiled.{Tiled, statuses_in}
 use Rattle.mapfile_text.specs.declared.read.Mode.{Mode}
 use Rattle.faulty_source.specs.SourceState.{SourceState}
 use Rattle.crash_site.specs.declared.site.SiteCall.TheVariants.{MapRead}
-use Rattle.crash_site.specs.Files.{File}
-use Rattle.crash_site.specs.Folder.{Folder, after}
+use Rattle.crash_site.specs.Files.{File, file_named}
 use Rattle.crash_site.specs.Calls.{Call, Entry, Done as Returned}
 use Rattle.crash_site.specs.CallsMade.{BrokeAt}
 use Rattle.crash_site.specs.SiteState.{SiteState, files_in}
 use Rattle.crash_site.specs.SiteChanges.{Stays}
-use Rattle.crash_site.proofs.LawLemmas.{after-append}
 use Rattle.save_resume.specs.Named.{map_mode}
 use Rattle.rescue_console.specs.ClockState.{ClockState}
 use Rattle.rescue_console.specs.ConsoleState.{ConsoleState}
@@ -29,14 +27,15 @@ use Rattle.task_files.specs.declared.ending.Which.{Which}
 use Rattle.task_files.specs.declared.ending.Which.TheVariants.{DomainMap, TestMap}
 use Rattle.task_files.specs.declared.ending.Ending.{Ending}
 use Rattle.task_files.specs.Asked.{Maps, setting_of}
-use Rattle.task_files.specs.Maps.{Found, IsNamedMap, file_named, found_in, mapfile_of}
+use Rattle.task_files.specs.Maps.{Found, IsNamedMap, found_in, mapfile_of}
 use Rattle.task_files.specs.Work.{Rescues, rescue_faults, map_rows, opened_rows}
-use Rattle.task_files.specs.Steps.{statuses_in, HasTiles, ReadsMap, IsOnlyMaps, maps_of, DidAfterMaps, Worked}
+use Rattle.task_files.specs.Steps.{HasTiles, ReadsMap, IsOnlyMaps, maps_of, DidAfterMaps, Worked}
 use Rattle.task_files.proofs.OpenedLemmas.{none_seen}
 use Rattle.rescue_core.specs.Across.{across}
 use Rattle.rescue_core.proofs.TurnEndLemmas.{says_none}
 use Rattle.task_files.proofs.MapsLemmas.{MapsOf, maps_for}
-use Rattle.work_rules.proofs.FrontLemmas.{IsMapRead, load_reads, reads_stand, broke_in_both, made_both}
+use Rattle.work_rules.proofs.FrontLemmas.{IsMapRead, load_reads, broke_in_both, made_both}
+use Rattle.work_rules.proofs.ReadLemmas.{AllReads, files_stand}
 
 -- ---- reads of maps alone
 
@@ -48,12 +47,6 @@ pub record AreReads (calls : List Entry) : Type 0 where
   pub maps : List Call
   pub are : AreMapReads maps
   pub ends : EndsReads maps calls
-
--- the same of such as all returned
-pub record AllReads (calls : List Entry) : Type 0 where
-  pub maps : List Call
-  pub are : AreMapReads maps
-  pub all : calls ≡ map Returned maps
 
 pub reads_through : (which : Which) (mode : Mode) (name : Option (List ℕ)) (file : Option File) (calls : List Entry)
     → WentThrough (map_rows which mode name file) calls → AllReads calls
@@ -103,15 +96,6 @@ reads_after front calls f r = record {
 
 pub only_maps : (g : Gain) → AreReads g.calls → g.reads ≡ [] → g.times ≡ [] → IsOnlyMaps g
 only_maps g r reads times = record { maps = r.maps; are = r.are; calls = r.ends; reads = reads; times = times }
-
--- such as returned leave the files as they read
-files_stand : (calls : List Entry) (old new : SiteState) → AllReads calls → new.start ≡ old.start
-    → new.calls ≡ old.calls ++ calls → files_in new ≡ files_in old
-files_stand calls old new r same grew =
-    ap (λ (s : Folder). (after s new.calls).files) same
-    ∙ ap (λ (cs : List Entry). (after old.start cs).files) (grew ∙ ap (λ cs. old.calls ++ cs) r.all)
-    ∙ ap (λ (d : Folder). d.files) (after-append old.start old.calls (map Returned r.maps)
-    ∙ reads_stand r.maps (after old.start old.calls) r.are)
 
 -- ---- the work
 

@@ -15,7 +15,7 @@ use Rattle.ddrescue_words.specs.Command.{Command}
 abbrev pub output_from : Options → ℕ
 output_from o = unwrap_or o.output_position o.input_position
 
--- where a position stands in the output
+-- the place of a position in the output
 abbrev pub place_by : Options → ℕ → ℕ
 place_by o x = place_from o.input_position (output_from o) x
 

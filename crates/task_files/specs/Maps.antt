@@ -6,7 +6,7 @@ use Rattle.mapfile_text.specs.declared.read.Mode.{Mode}
 use Rattle.mapfile_text.specs.declared.read.Mode.TheVariants.{Tight}
 use Rattle.mapfile_text.specs.MapText.{text_limit, IsMapText, Blank}
 use Rattle.faulty_source.specs.Journal.{Reading}
-use Rattle.crash_site.specs.Files.{File}
+use Rattle.crash_site.specs.Files.{File, file_named}
 use Rattle.save_resume.specs.Named.{map_mode, IsMapOf}
 use Rattle.rescue_domain.specs.Testing.{seen}
 use Rattle.ddrescue_words.specs.Command.{Command}
@@ -21,11 +21,6 @@ pub data MapfileLists (mapfile : Option File) (first end : ℕ) : Type 0 where
   Blocks : (there : File) → mapfile ≡ Some there → length there.bytes ≤ text_limit
       → (shown : MapState) → (listed : Bool) → (statuses : List Status)
       → IsMapText there.bytes Tight shown first listed statuses → end ≡ length statuses → MapfileLists mapfile first end
-
--- a file by its name, if it has one
-abbrev pub file_named : Option (List ℕ) → (List ℕ → Option File) → Option File
-file_named None files = None
-file_named (Some name) files = files name
 
 -- the mapfile of a command among files, if there is one
 abbrev pub mapfile_of : Command → (List ℕ → Option File) → Option File

@@ -2,14 +2,14 @@
 use Rattle.std.specs.Prelude.{◌≡◌, ◌≢◌, ◌⊎◌, ⊤, ℕ, ◌<◌, ◌≤◌, ◌^◌, Bool, false, IsTrue, List, [], ◌++◌, length, map, Option, Some, None, Result, Ok, Err, IfSome, if◌then◌else◌}
 use Rattle.fault_count.specs.Counts.{Rose}
 use Rattle.block_list.specs.declared.status.Status.{Status}
-use Rattle.block_list.specs.Tiled.{Tiled}
+use Rattle.block_list.specs.Tiled.{Tiled, statuses_in}
 use Rattle.mapfile_text.specs.declared.state.MapState.{MapState}
 use Rattle.mapfile_text.specs.declared.read.Mode.{Mode}
 use Rattle.mapfile_text.specs.declared.read.MapError.{MapError}
 use Rattle.mapfile_text.specs.declared.read.MapError.TheVariants.{NoStatusLine, NoMemory as OutOfMemory}
 use Rattle.crash_site.specs.declared.site.SiteCall.{SiteCall}
 use Rattle.crash_site.specs.declared.site.SiteCall.TheVariants.{ImageOpen, MapRead}
-use Rattle.crash_site.specs.Files.{File}
+use Rattle.crash_site.specs.Files.{File, file_named}
 use Rattle.crash_site.specs.Calls.{Call, Done as Returned}
 use Rattle.crash_site.specs.CallsMade.{BrokeAt}
 use Rattle.crash_site.specs.SiteState.{SiteState, files_in}
@@ -39,7 +39,7 @@ use Rattle.task_files.specs.declared.ending.Ending.{Ending}
 use Rattle.task_files.specs.declared.ending.Ending.TheVariants.{NoMap, NotRegular, MapRefused, NoOutput, SiteFault, NoMemory}
 use Rattle.task_files.specs.Names.{AreNamedApart, first_same}
 use Rattle.task_files.specs.Asked.{ArePlacedBy, Maps, names_by, setting_of}
-use Rattle.task_files.specs.Maps.{Found, AreAskedFor, AreMapsIn, IsListing, MapfileLists, file_named, mapfile_of}
+use Rattle.task_files.specs.Maps.{Found, AreAskedFor, AreMapsIn, IsListing, MapfileLists, mapfile_of}
 use Rattle.task_files.specs.Outside.{Outside, HasGainedReads, Agrees}
 use Rattle.work_rules.specs.Opens.{AreOpens}
 use Rattle.task_files.specs.Work.{RunsOver, Rescues, rescue_faults, map_rows, output_rows, load_rows, opened_rows, worked_rows}
@@ -111,11 +111,6 @@ pub record DidRun (s : Setting) (test : Option (List Status)) (statuses : List S
   pub lines : List (List ℕ)
   pub says : SaysLines lines heard heard' o
   pub runs : RunsOver s statuses state lines e gain
-
--- the statuses of tiles, if there are some
-abbrev pub statuses_in : Option Tiled → Option (List Status)
-statuses_in None = None
-statuses_in (Some tiles) = Some tiles.statuses
 
 -- the answer for a map that an option names and that couldn't be loaded
 abbrev pub refusal_of : Which → NamedFault → Ending

@@ -1,5 +1,5 @@
 -- How a run ends: its last save, or the turn that it stopped in.
-use Rattle.copy_passes.proofs.TurnLemmas.{went_event, went_on, setting_stands, timed_more}
+use Rattle.copy_passes.proofs.TurnLemmas.{went_event, went_on, setting_stands}
 use Rattle.copy_passes.proofs.AlikeLemmas.{limit_alike}
 use Rattle.rescue_rules.specs.declared.stop.Limit.{Limit}
 use Rattle.std.proofs.Common.{◌≡◌, ℕ, ◌+◌, ◌<◌, ◌^◌, Bool, true, false, ◌&&◌, IsTrue, if◌then◌else◌, List, [], ◌∷◌, ◌++◌, map, length, All, Option, Some, None, is_none, refl, sym, ap, ◌∙◌, arith, subst, append_assoc, append-nil}
@@ -46,6 +46,7 @@ use Rattle.rescue_core.specs.Closing.{LastSave, Saved, Unsaved as UnsavedEnd, Cl
 use Rattle.rescue_core.specs.Across.{Across, across}
 use Rattle.copy_passes.specs.Turns.{IsAlike, moved_to, Went, WentUpTo}
 use Rattle.faulty_source.specs.Journal.{IsFrom}
+use Rattle.rescue_core.proofs.ObjectLemmas.{timed_more}
 use Rattle.trim_scrape.specs.Past.{IsPast}
 use Rattle.task_rescue.specs.Running.{WentToEnd}
 use Rattle.task_rescue.proofs.LastLemmas.{past_all}

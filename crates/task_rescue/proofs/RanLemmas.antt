@@ -38,7 +38,7 @@ use Rattle.task_files.specs.Asked.{Maps, names_by, setting_asked, setting_of, do
 use Rattle.rescue_core.specs.Across.{Across}
 use Rattle.rescue_core.proofs.TurnEndLemmas.{says_none}
 use Rattle.faulty_source.specs.Journal.{IsFrom}
-use Rattle.copy_passes.proofs.TurnLemmas.{says_more, timed_more}
+use Rattle.rescue_core.proofs.ObjectLemmas.{timed_more, says_more}
 use Rattle.task_files.specs.Work.{answer_of, said_by}
 use Rattle.task_files.specs.Steps.{DidRun}
 use Rattle.task_files.specs.Settings.{settings_by, lines_in}

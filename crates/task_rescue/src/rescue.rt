@@ -3,11 +3,11 @@ ghost use Rattle.std.specs.Prelude.{◌≡◌, ◌<◌, ◌^◌, false, Option, 
 ghost use Rattle.faulty_source.specs.SourceChanges.{Keeps as SourceKeeps, Stays as SourceStays};
 ghost use Rattle.crash_site.specs.SiteChanges.{Keeps as SiteKeeps};
 ghost use Rattle.rescue_console.specs.ClockState.{Keeps as ClockKeeps};
-ghost use Rattle.block_list.specs.Tiled.{Tiled};
+ghost use Rattle.block_list.specs.Tiled.{Tiled, statuses_in};
 ghost use Rattle.ddrescue_words.specs.Asking.{told_by};
 ghost use Rattle.task_files.specs.Asked.{setting_of};
 ghost use Rattle.task_files.specs.Answers.{Causes, drafting_left};
-ghost use Rattle.task_files.specs.Steps.{ending_of, heard_after, maps_read, statuses_in, DidRun, CanBegin, IsPlanned, DidAfterMaps, Worked};
+ghost use Rattle.task_files.specs.Steps.{ending_of, heard_after, maps_read, DidRun, CanBegin, IsPlanned, DidAfterMaps, Worked};
 ghost use Rattle.task_rescue.specs.Running.{AreReady};
 ghost use Rattle.rescue_core.specs.Across.{across};
 

@@ -30,12 +30,12 @@ use Rattle.rescue_rules.specs.Start.{IsFresh}
 use Rattle.rescue_core.specs.RunState.{RunState, setting_in}
 use Rattle.rescue_core.specs.Across.{Across}
 use Rattle.copy_passes.specs.Turns.{Went, WentByTurns}
-use Rattle.copy_passes.proofs.TurnLemmas.{timed_more}
 use Rattle.trim_scrape.specs.Past.{IsPast}
 use Rattle.rescue_sample.specs.declared.source.Answered.{Answered}
 use Rattle.rescue_sample.specs.Sample.{sample_bytes, sample_size, AreSampleReads, IsSampleRead}
 use Rattle.rescue_sample.specs.Line.{sample_text, IsStill, IsSampleRun}
 use Rattle.rescue_sample.proofs.SampleLemmas.{size_of}
+use Rattle.rescue_core.proofs.ObjectLemmas.{timed_more}
 use Rattle.ddrescue_words.specs.Command.{Command}
 use Rattle.ddrescue_words.specs.Asking.{sample_command}
 use Rattle.task_files.specs.declared.ending.Ending.TheVariants.{Done}

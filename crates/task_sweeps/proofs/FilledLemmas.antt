@@ -2,7 +2,7 @@
 use Rattle.std.proofs.Common.{◌≡◌, ℕ, ◌<◌, ◌^◌, Bool, true, IsTrue, List, [], ◌∷◌, ◌++◌, map, length, Option, None, Result, Ok, Err, refl, sym, inl, inr, subst, arith, append-nil}
 use Rattle.std.proofs.lemmas.List.Elements.{All-nil}
 use Rattle.block_list.specs.declared.status.Status.{Status}
-use Rattle.block_list.specs.Tiled.{Tiled}
+use Rattle.block_list.specs.Tiled.{Tiled, statuses_in}
 use Rattle.block_list.specs.declared.types.TypeSet.{TypeSet}
 use Rattle.mapfile_text.specs.declared.state.MapState.{MapState}
 use Rattle.faulty_source.specs.Journal.{Reading}
@@ -38,7 +38,7 @@ use Rattle.task_files.specs.Asked.{names_by, ArePlacedBy, IsBeyond}
 use Rattle.task_files.specs.Outside.{Outside}
 use Rattle.task_files.specs.Refusals.{PatternEmpty}
 use Rattle.task_files.specs.Work.{rescue_faults, files_rows}
-use Rattle.task_files.specs.Steps.{Loads, OpensOutput, ReadsMap, maps_of, statuses_in}
+use Rattle.task_files.specs.Steps.{Loads, OpensOutput, ReadsMap, maps_of}
 use Rattle.task_sweeps.specs.Pattern.{PatternRead, TakesPattern, ThenPattern, IsLost, IsShort, IsRead}
 use Rattle.task_sweeps.specs.Modes.{IsMapEnd, MaySweep, ThenSweep, fill_setting}
 use Rattle.task_sweeps.specs.SweepSteps.{DidSweep, WorkedFill}

@@ -1,7 +1,7 @@
 -- What a generating did, by where it ended, whatever the objects tell.
 use Rattle.std.proofs.Common.{◌≡◌, ℕ, ◌<◌, ◌^◌, Bool, true, false, IsTrue, List, [], ◌∷◌, ◌++◌, Option, Some, None, is_some, option_map, Ok, Err, refl, sym, ap, ◌∙◌, inl, inr, subst, append-nil}
 use Rattle.std.proofs.lemmas.List.Elements.{All-nil}
-use Rattle.block_list.specs.Tiled.{Tiled}
+use Rattle.block_list.specs.Tiled.{Tiled, statuses_in}
 use Rattle.faulty_source.specs.SourceState.{SourceState}
 use Rattle.crash_site.specs.Files.{File, bytes_of, file_named}
 use Rattle.crash_site.specs.Folder.{Folder, opened, after}
@@ -34,7 +34,7 @@ use Rattle.task_files.specs.Names.{first_same}
 use Rattle.task_files.specs.Asked.{names_by, setting_of, ArePlacedBy, IsBeyond}
 use Rattle.task_files.specs.Outside.{Outside}
 use Rattle.task_files.specs.Work.{rescue_faults, files_rows}
-use Rattle.task_files.specs.Steps.{Loads, OpensOutput, ReadsMap, maps_of, statuses_in}
+use Rattle.task_files.specs.Steps.{Loads, OpensOutput, ReadsMap, maps_of}
 use Rattle.task_sweeps.specs.Modes.{ThenSweep}
 use Rattle.task_sweeps.specs.SweepSteps.{DidGenerate, WorkedGenerate}
 use Rattle.task_files.proofs.ApartLemmas.{three_names}

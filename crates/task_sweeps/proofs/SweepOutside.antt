@@ -1,9 +1,9 @@
 -- What was outside of a sweep: after the map that an option names, or where the read of that map stopped.
 use Rattle.std.proofs.Common.{◌≡◌, ◌⊎◌, ℕ, ◌<◌, ◌^◌, IsTrue, List, [], ◌++◌, length, Option, None, Ok, Err, refl, sym, ap, ◌∙◌, inl, inr, append_assoc, append-nil}
 use Rattle.std.proofs.lemmas.List.Elements.{All-nil}
-use Rattle.block_list.specs.Tiled.{Tiled}
+use Rattle.block_list.specs.Tiled.{Tiled, statuses_in}
 use Rattle.faulty_source.specs.SourceState.{SourceState}
-use Rattle.crash_site.specs.Files.{File}
+use Rattle.crash_site.specs.Files.{File, file_named}
 use Rattle.crash_site.specs.Calls.{Entry}
 use Rattle.crash_site.specs.SiteState.{SiteState, files_in}
 use Rattle.crash_site.specs.SiteChanges.{Stays}
@@ -22,11 +22,11 @@ use Rattle.task_files.specs.declared.ending.Which.TheVariants.{DomainMap}
 use Rattle.task_files.specs.declared.ending.Ending.{Ending}
 use Rattle.task_files.specs.Names.{first_same}
 use Rattle.task_files.specs.Asked.{names_by}
-use Rattle.task_files.specs.Maps.{Found, file_named, found_in, mapfile_of}
+use Rattle.task_files.specs.Maps.{Found, found_in, mapfile_of}
 use Rattle.task_files.specs.Outside.{Outside}
 use Rattle.work_rules.specs.Opens.{AreOpens}
 use Rattle.task_files.specs.Work.{rescue_faults, map_rows}
-use Rattle.task_files.specs.Steps.{Gains, IsOnlyMaps, ReadsMap, maps_of, statuses_in}
+use Rattle.task_files.specs.Steps.{Gains, IsOnlyMaps, ReadsMap, maps_of}
 use Rattle.task_sweeps.specs.Modes.{named_rows}
 use Rattle.task_sweeps.specs.SweepSteps.{IsOutside}
 use Rattle.task_files.proofs.ApartLemmas.{names_pass}

@@ -28,9 +28,9 @@ use Rattle.rescue_rules.specs.Deeds.{save_of, doing_calls}
 use Rattle.rescue_core.specs.declared.settings.Settings.{Settings}
 use Rattle.rescue_core.specs.RunState.{names_in, Suits}
 use Rattle.rescue_core.proofs.TurnEndLemmas.{says_none}
-use Rattle.copy_passes.proofs.TurnLemmas.{says_more, timed_more}
 use Rattle.sweep_rules.specs.Sweep.{Sweeper, Sweep, Swept, filler, generator, sweep_over, after_pieces, due_save, sweep_end, deeds_of}
 use Rattle.sweep_rules.specs.SweepWork.{SweepEnds, IsSaved, IsUnsaved, IsCut, IsBroken, sweep_calls, sweep_lines, lost_call}
+use Rattle.rescue_core.proofs.ObjectLemmas.{timed_more, says_more}
 use Rattle.fill_generate.specs.declared.job.Job.{Job}
 use Rattle.fill_generate.specs.SweepState.{setting_for}
 use Rattle.fill_generate.specs.Sweeping.{Around, around, BreaksAfter, EndsSweep, Saved, Unsaved, Cut, Broken, SweepTold, LookupTold, times_after}

@@ -35,8 +35,8 @@ use Rattle.task_files.specs.Steps.{IsOnlyMaps}
 use Rattle.task_files.specs.Settings.{lines_in, settings_by}
 use Rattle.task_sweeps.specs.Modes.{AreMapsOfSweep, IsMapEnd, MaySweep, Fills, Generates, fill_setting}
 
--- what a sweep begins with over a map: the domain that a command and maps ask for below a limit, the map as it is, the
--- state that its mapfile showed, and the line that says how much is asked for, if there is one
+-- What a sweep begins with over a map: the domain that a command and maps ask for below a limit, and the map as it is.
+-- The state is the one that its mapfile showed, and the line, if there is one, says how much is asked for.
 pub record IsSweepReady (c : Command) (limit : ℕ) (maps : Maps) (statuses : List Status) (state : Option MapState)
     (ready : SweepReady) : Type 0 where
   pub domain : (x : ℕ) → covers ready.domain x ≡ domain_asked c.options limit maps x

@@ -9,7 +9,7 @@ use Rattle.rescue_rules.specs.declared.phase.Phase.{Phase}
 use Rattle.rescue_rules.specs.declared.phase.Phase.TheVariants.{Copying, Trimming, Scraping, Retrying}
 use Rattle.rescue_rules.specs.Setting.{Setting}
 use Rattle.rescue_rules.specs.Passes.{Pass, is_up}
-use Rattle.rescue_rules.specs.Machine.{Machine, pass_of, IsWanted, Search, search_in, search_of, IsNextRange, cut_start, cut_end, is_ahead, IsRequest, has_request}
+use Rattle.rescue_rules.specs.Machine.{Machine, pass_of, IsWanted, Search, search_in, search_of, is_ahead, IsRequest, has_request}
 use Rattle.rescue_rules.specs.Step.{Event, copies, trims, is_trimming, is_slow, is_jump, reach, over_after, cursor_after, step}
 use Rattle.rescue_rules.specs.Moves.{begun}
 use Rattle.rescue_rules.specs.MachineLaws.{IsInOrder, StepsBy, AsksFor}
@@ -17,7 +17,7 @@ use Rattle.rescue_rules.proofs.OverLemmas.{before_was, wanted_before}
 use Rattle.rescue_rules.proofs.SearchLemmas.{wanted_within}
 use Rattle.rescue_rules.proofs.StepLemmas.{trims_is}
 use Rattle.copy_passes.proofs.TopLemmas.{reach_few, reach_some, before_reach}
-use Rattle.copy_passes.proofs.CopyingLemmas.{wanted_seen}
+use Rattle.copy_passes.proofs.CopyingLemmas.{wanted_seen, IsFoundBy, cursor_by, jump_of}
 
 -- a position lies ahead of a cursor, upwards or downwards
 abbrev pub LiesAhead : (up : Bool) → (cursor x : ℕ) → Type 0
@@ -50,10 +50,6 @@ record IsNearest (up : Bool) (P : ℕ → Type 0) (cursor p q : ℕ) : Type 0 wh
   inside : (x : ℕ) → p ≤ x → x < q → LiesAhead up cursor x
   beyond : (x : ℕ) → P x → LiesAhead up cursor x → (x < p) ⊎ (q ≤ x) → LiesAhead up (if up then q else p) x
 
-abbrev IsFoundBy : Search → (ℕ → Type 0) → (sector start end p q : ℕ) → Type 0
-IsFoundBy f P sector start end p q =
-    IsNextRange f.up P f.from start end × (p ≡ cut_start f sector start end) × (q ≡ cut_end f sector start end)
-
 nearest_by : (up : Bool) (P : ℕ → Type 0) (sector cursor size start end p q : ℕ)
     → IsFoundBy (from_cursor up cursor size) P sector start end p q → IsNearest up P cursor p q
 nearest_by true P sector cursor size start end p q found =
@@ -80,13 +76,6 @@ nearest s m p q off asks =
     nearest_by (is_up s (pass_of m)) P s.sector m.cursor (size_of s (pass_of m).phase) asks.start asks.end p q
     (subst (λ (f : Search). IsFoundBy f P s.sector asks.start asks.end p q) (search_is s m (pass_of m).phase m.mode off)
     (asks.range, asks.starts, asks.ends))
-
--- where a read from p that goes up to q puts the cursor, with a jump
-abbrev cursor_by : Bool → (len p q jump : ℕ) → ℕ
-cursor_by up len p q jump = if up then min len (q + jump) else p - jump
-
-abbrev jump_of : Setting → Machine → Event → ℕ
-jump_of s m e = if is_jump s m e then m.skip else 0
 
 cursor_is : (s : Setting) (m : Machine) (e : Event) → is_trimming m ≡ false
     → cursor_after s m e ≡ cursor_by (is_up s (pass_of m)) (length m.map) e.reading.pos

@@ -1,5 +1,5 @@
 -- The order of the passes.
-use Rattle.std.proofs.Common.{◌≡◌, ◌⊎◌, ℕ, zero, suc, ◌+◌, ◌-◌, ◌<◌, ◌≤◌, true, if◌then◌else◌, All, Contains, List, [], ◌∷◌, ◌++◌, map, drop, refl, sym, ap, subst, ◌∙◌, arith, inl, inr, ⊎_elim}
+use Rattle.std.proofs.Common.{◌≡◌, ◌⊎◌, ℕ, zero, suc, ◌+◌, ◌-◌, ◌<◌, ◌≤◌, true, All, Contains, List, [], ◌∷◌, ◌++◌, map, drop, refl, sym, ap, subst, ◌∙◌, arith, inl, inr, ⊎_elim}
 use Rattle.std.specs.List.{slice_index_or, range_with_len}
 use Rattle.std.proofs.lemmas.Bool.{cases_lt, cond_both, true≢false}
 use Rattle.std.proofs.lemmas.List.{append-nil}
@@ -8,6 +8,7 @@ use Rattle.rescue_rules.specs.declared.phase.Phase.{Phase}
 use Rattle.rescue_rules.specs.declared.phase.Phase.TheVariants.{Copying, Trimming, Scraping, Retrying}
 use Rattle.rescue_rules.specs.Setting.{Setting}
 use Rattle.rescue_rules.specs.Passes.{Pass, numbered, passes_in, passes_after, passes_from}
+use Rattle.rescue_core.proofs.PassLemmas.{after_last, scraping_passes, trimming_passes}
 
 abbrev pub order : Phase → ℕ
 order Copying = 0
@@ -45,13 +46,6 @@ never_follows p follows =
 -- some passes of a phase
 abbrev some_in : Phase → (number few : ℕ) → List Pass
 some_in phase number few = map (numbered phase) (range_with_len number few)
-
--- one more than the number of a phase's last pass
-abbrev after_last : Setting → Phase → ℕ
-after_last s Copying = 6
-after_last s Trimming = 2
-after_last s Scraping = 2
-after_last s Retrying = s.passes.retries + 1
 
 in_are : (s : Setting) (phase : Phase) (number : ℕ)
     → passes_in s phase number ≡ some_in phase number (after_last s phase - number)
@@ -97,13 +91,6 @@ ordered_in : (s : Setting) (phase : Phase) (number : ℕ) (after : List Pass)
 ordered_in s phase number after later ordered =
     subst (λ (ps : List Pass). AreOrdered (ps ++ after)) (sym (in_are s phase number))
     (ordered_front phase number (after_last s phase - number) after later ordered)
-
--- the passes of trimming and of scraping, unless they are off
-abbrev trimming_passes : Setting → List Pass
-trimming_passes s = if s.passes.trims then passes_in s Trimming 1 else []
-
-abbrev scraping_passes : Setting → List Pass
-scraping_passes s = if s.passes.scrapes then passes_in s Scraping 1 else []
 
 trimming_later : (s : Setting) (p : Pass) → order p.phase < 1 → All (Follows p) (trimming_passes s)
 trimming_later s p early =

@@ -14,6 +14,7 @@ use Rattle.crash_site.specs.Changes.{Changes}
 use Rattle.crash_site.proofs.DiskLemmas.{failed_files}
 use Rattle.crash_site.proofs.LawLemmas.{own_name, at_other, some_other, part_other, done_other, found_only, sure_synced, moved_own}
 use Rattle.save_resume.specs.Saving.{save_calls}
+use Rattle.save_resume.specs.SaveStops.{text_file}
 use Rattle.save_resume.proofs.StageLemmas.{appended_draft}
 use Rattle.rescue_rules.specs.Setting.{Setting}
 use Rattle.rescue_rules.specs.Held.{Held}
@@ -21,7 +22,7 @@ use Rattle.rescue_rules.specs.Machine.{Machine}
 use Rattle.rescue_rules.specs.Snapshots.{Snapshot, text_of}
 use Rattle.rescue_rules.specs.Laws.{AreThreeNames}
 use Rattle.rescue_rules.proofs.BeforeLemmas.{or_found}
-use Rattle.rescue_rules.proofs.SaveStages.{text_file, put_own, image_apart, OpensNone, image_stays, appended_own, publishing_own}
+use Rattle.rescue_rules.proofs.SaveStages.{put_own, image_apart, OpensNone, image_stays, appended_own, publishing_own}
 use Rattle.turn_laws.specs.Safe.{Saved}
 use Rattle.turn_laws.specs.SafeNow.{IsBacked, IsSafeNow}
 use Rattle.turn_laws.proofs.NowLemmas.{EachStop, held_fewer}

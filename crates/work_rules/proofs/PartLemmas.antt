@@ -1,8 +1,8 @@
 -- Rows in which work stopped, or through which it went, in front of others.
-use Rattle.std.proofs.Common.{◌≡◌, List, [], ◌∷◌, ◌++◌, map, Some, None, sym, ap, ◌∙◌, inl, inr, subst, append_assoc}
+use Rattle.std.proofs.Common.{◌≡◌, List, [], ◌∷◌, ◌++◌, map, Some, None, refl, sym, ap, ◌∙◌, inl, inr, subst, append_assoc}
 use Rattle.crash_site.specs.Calls.{Entry, Done as Returned}
-use Rattle.work_rules.specs.Work.{Deeds, Faults, WorkStep, Take, Look, Open, Make, Read, Works, with_calls}
-use Rattle.work_rules.specs.Parts.{WentThrough}
+use Rattle.work_rules.specs.Work.{Deeds, Faults, IsIdle, WorkStep, Take, Look, Open, Make, Read, Works, with_calls}
+use Rattle.work_rules.specs.Parts.{only_calls, WentThrough}
 use Rattle.work_rules.specs.Holds.{after_entries}
 
 -- what stopped in some rows stopped before all that comes after them
@@ -88,3 +88,10 @@ works_as f (Read (Some name) file ∷ rows) run other also e d (inl h) = inl h
 works_as f (Read (Some name) file ∷ rows) run other also e d (inr (inl h)) = inr (inl h)
 works_as f (Read (Some name) file ∷ rows) run other also e d (inr (inr h)) =
     inr (inr (h.0, h.1, h.2, h.3, works_as f rows run other also e _ h.4))
+
+-- no calls are no work
+pub idle : IsIdle (only_calls [])
+idle = record { opens = refl; gain = record { calls = refl; reads = refl; times = refl } }
+
+abbrev pub no_deeds : Deeds
+no_deeds = record { opens = []; gain = record { calls = []; reads = []; times = [] } }

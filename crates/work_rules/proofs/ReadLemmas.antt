@@ -8,8 +8,10 @@ use Rattle.crash_site.specs.CallsMade.{BrokeAt}
 use Rattle.crash_site.specs.Folder.{Folder, after, after_entry}
 use Rattle.crash_site.specs.Disk.{Disk, entered, disk_after}
 use Rattle.crash_site.specs.Left.{in_part, until}
+use Rattle.crash_site.specs.SiteState.{SiteState, files_in}
+use Rattle.crash_site.proofs.LawLemmas.{after-append}
 use Rattle.rescue_rules.specs.Work.{AreMapReads}
-use Rattle.work_rules.proofs.FrontLemmas.{IsMapRead}
+use Rattle.work_rules.proofs.FrontLemmas.{IsMapRead, reads_stand}
 
 -- a call that reads a mapfile or the image
 abbrev pub is_read : Call → Bool
@@ -109,3 +111,19 @@ maps_broke at (c ∷ calls) old new reads before (inl (name, inr same)) = same_r
 maps_broke at (c ∷ calls) old new reads before (inr broke) =
     maps_broke at calls (old ++ Returned c ∷ []) new (All-tail IsMapRead c calls reads)
     (both_are old (Returned c ∷ []) before (map_is_read c (All-head IsMapRead c calls reads), tt)) broke
+
+-- calls that returned, and read maps
+pub record AllReads (calls : List Entry) : Type 0 where
+  pub maps : List Call
+  pub are : AreMapReads maps
+  pub all : calls ≡ map Returned maps
+
+-- calls that returned and read maps alone leave the files as they read
+pub files_stand : (calls : List Entry) (old new : SiteState) → AllReads calls → new.start ≡ old.start
+    → new.calls ≡ old.calls ++ calls → files_in new ≡ files_in old
+files_stand calls old new r same grew =
+    ap (λ (s : Folder). (after s new.calls).files) same
+    ∙ ap (λ (cs : List Entry). (after old.start cs).files)
+    (grew ∙ ap (λ (cs : List Entry). old.calls ++ cs) r.all)
+    ∙ ap (λ (d : Folder). d.files) (after-append old.start old.calls (map Returned r.maps)
+    ∙ reads_stand r.maps (after old.start old.calls) r.are)

@@ -1,8 +1,8 @@
 -- What is drawn is what was read.
 use Rattle.std.proofs.Common.{ap, ◌∙◌}
+use Rattle.block_list.specs.Tiled.{statuses_in}
 use Rattle.ddrescueshow_words.specs.Command.{told_by}
 use Rattle.ddrescueshow_cli.specs.Cells.{frame_of}
-use Rattle.ddrescueshow_cli.specs.Steps.{statuses_in}
 use Rattle.ddrescueshow_cli.proofs.ShownLemmas.{shown_text}
 use Rattle.ddrescueshow_cli.proofs.show.draw_maps.Goals as goal
 

@@ -4,8 +4,8 @@ use Rattle.save_resume.proofs.FillLemmas.{keeps_more}
 use Rattle.crash_site.specs.Calls.{image_write}
 use Rattle.crash_site.specs.SiteChanges.{Makes}
 use Rattle.sweep_rules.specs.Sweep.{filler}
+use Rattle.rescue_core.proofs.ObjectLemmas.{clock_self}
 use Rattle.fill_generate.specs.SweepState.{setting_of}
-use Rattle.fill_generate.proofs.TellLemmas.{clock_self}
 use Rattle.fill_generate.proofs.PieceLemmas.{uncalled, breaks_one, makes_one, lost_write, fills_is}
 use Rattle.fill_generate.proofs.OutcomeLemmas.{piece_ends, goes_after, passes_after}
 use Rattle.fill_generate.proofs.fill.fill_piece.Goals as goal

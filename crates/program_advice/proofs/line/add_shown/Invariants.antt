@@ -1,5 +1,5 @@
 use Rattle.std.proofs.Common.{◌≡◌, ◌+◌, ◌++◌, length, map, take}
-use Rattle.program_advice.specs.Lines.{shown_byte}
+use Rattle.mapfile_text.specs.Printed.{shown_byte}
 use Rattle.program_advice.proofs.line.add_shown.Given as goal
 
 -- what was added is the bytes so far, as they are printed

@@ -1,6 +1,6 @@
 -- The line is the text as it is printed, and a newline.
 use Rattle.std.proofs.Common.{◌++◌, [], ◌∷◌, map, ap, ◌∙◌}
-use Rattle.program_advice.specs.Lines.{shown_byte}
+use Rattle.mapfile_text.specs.Printed.{shown_byte}
 use Rattle.program_advice.proofs.LineLemmas.{one_line}
 use Rattle.program_advice.proofs.line.finished.Goals as goal
 
