@@ -26,7 +26,7 @@ IsOfOpening ImageOpen = ⊤
 IsOfOpening MapRead = ⊤
 IsOfOpening call = ⊥
 
--- a refusal or a failed open of the input, before the first read; or a failed call that a run doesn't make
+-- of a rescue: a refusal or a failed open of the input, before the first read; or a failed call that no run makes
 pub record IsBeforeReads (e : Ending) : Type 0 where
   pub done : e ≢ Done
   pub lost : e ≢ SourceLost

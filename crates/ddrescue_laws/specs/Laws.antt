@@ -156,7 +156,7 @@ pub record IsVerdict (e : Ending) : Type 0 where
   pub room : e ≢ NoMemory
   pub call : (call : SiteCall) (earlier : Option Stop) → e ≢ SiteFault call earlier
 
--- At most one answer that is a verdict follows from a command, an input's length and the files found.
+-- At most one answer that is a verdict follows from a command, a setting and the files found.
 abbrev pub HasOneVerdict : Type 0
 HasOneVerdict = (c : Command) (s : Setting) (found : Found) (lines lines' : List (List ℕ)) (e e' : Ending)
     (d d' : Deeds) → Works rescue_faults (rescue_rows c found s.end) (Rescues s found.mapfile lines) e d

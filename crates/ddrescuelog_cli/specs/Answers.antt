@@ -113,7 +113,7 @@ FitsUsage PlaceTooLarge c = looks_at_places c.mode ≡ true
 abbrev pub Untaken : (old new : FeedState) → Type 0
 Untaken old new = new ≡ old
 
--- some of the feed was taken, from its front on
+-- what was taken of the feed, if anything was, is its front, where it tells
 abbrev pub TookFront : (old new : FeedState) → Type 0
 TookFront old new = IsTrue old.tells → (front : List ℕ) × (old.left ≡ front ++ new.left)
 

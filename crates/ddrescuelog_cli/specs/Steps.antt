@@ -30,13 +30,13 @@ use Rattle.ddrescuelog_cli.specs.Printing.{PutsAs}
 use Rattle.work_rules.specs.Parts.{DidPart, only_calls, StoppedIn, WentThrough}
 use Rattle.ddrescuelog_cli.specs.Work.{log_faults, map_rows, read_rows, WorksOver}
 
--- what the read of a map did that is named
+-- what the read of a map that is named did
 abbrev pub ReadsMap : Which → Mode → (name : List ℕ) → Result ReadMap LogEnding → (old new : SiteState) → Type 0
 ReadsMap which mode name result old new =
     DidPart log_faults (map_rows which mode (Some name)) (files_in old name)
     (λ (m : ReadMap) file. IsReadAs file mode m) result old new
 
--- what the read of a map did that may be named
+-- what the read of a map that may be named did
 abbrev pub ReadsNamed : Which → Mode → (name : Option (List ℕ)) → Result (Option Tiled) LogEnding
     → (old new : SiteState) → Type 0
 ReadsNamed which mode name result old new =

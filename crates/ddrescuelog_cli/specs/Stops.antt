@@ -51,7 +51,7 @@ pub record StopsSafely (c : Command) (line list : List ℕ) (m : Maps) (site : S
   -- under the mapfile's name stands what could be found there before, or what the mode leaves in its place, whole
   pub mapfile : (k : ℕ) (files : List ℕ → Option File) → k ≤ length calls → LeftAt site calls k files
       → CouldBefore site c.mapfile (files c.mapfile) ⊎ Replaces c.mode c line list m (files c.mapfile)
-  -- once the call has answered that it is done, only what the mode leaves is found in the mapfile's place
+  -- once a mode that changes the mapfile's place is done, only what it leaves is found there
   pub kept : (files : List ℕ → Option File) → answer ≡ Done → IsChanging c.mode → LeftAt site calls (length calls) files
       → Replaces c.mode c line list m (files c.mapfile)
   -- every file but the mapfile, and the draft of a map that is created, could be found so before
@@ -59,7 +59,7 @@ pub record StopsSafely (c : Command) (line list : List ℕ) (m : Maps) (site : S
       → name ≢ c.mapfile → (creates c.mode ≡ true → name ≢ (names_of c.mapfile).draft)
       → CouldBefore site name (files name)
 
--- a mode that only reads: at whatever moment it is stopped, everything is found as it could be before
+-- a mode that only reads: of it `StopsSafely` says that everything is found as it could be before
 abbrev pub OnlyReads : LogMode → Type 0
 OnlyReads mode = IsChanging mode → ⊥
 

@@ -17,7 +17,7 @@ use Rattle.ddrescuepart_cli.specs.Ddrescuepart.{Ddrescuepart, part_program}
 abbrev pub IsVerdict : PartEnding → Type 0
 IsVerdict e = IsVerdictOf part_program e
 
--- A disk leads to one verdict at most.
+-- A command and a disk lead to one verdict at most.
 abbrev pub HasOneVerdict : Type 0
 HasOneVerdict = (c : Command) (disk : ℕ → List ℕ) (e e' : PartEnding) (d d' : Deeds) → PartWorks c e d
     → PartWorks c e' d' → AreGivenBy disk d.gain.reads → AreGivenBy disk d'.gain.reads → IsVerdict e → IsVerdict e'

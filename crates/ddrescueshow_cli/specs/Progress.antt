@@ -95,7 +95,7 @@ abbrev pub shown_text : (terminal : Bool) → (text : List ℕ) → List ℕ
 shown_text true text = over_text text
 shown_text false text = text ++ 10 ∷ []
 
--- what is put of a line without figures: it passes unchanged, after blanks over progress that is up, and a return
+-- what is put of a line that isn't of progress: the line unchanged; over progress that is up, after blanks and a return
 abbrev pub passed_text : (is_up : Bool) → (line : List ℕ) → List ℕ
 passed_text true line = over_text [] ++ 13 ∷ [] ++ line
 passed_text false line = line

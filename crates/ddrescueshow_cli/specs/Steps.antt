@@ -15,13 +15,13 @@ use Rattle.ddrescueshow_cli.specs.declared.ending.ShowEnding.{ShowEnding}
 use Rattle.ddrescueshow_cli.specs.Answers.{row_of}
 use Rattle.ddrescueshow_cli.specs.Work.{Found, LeavesAs, map_rows, show_faults}
 
--- what the read of a map did that is named
+-- what the read of a map that is named did
 abbrev pub ReadsMap : Which → Mode → (name : List ℕ) → Result Tiled ShowEnding → (old new : SiteState) → Type 0
 ReadsMap which mode name result old new =
     DidPart show_faults (map_rows which mode (Some name)) (files_in old name)
     (λ (tiles : Tiled) file. IsMapOf file mode tiles.statuses) result old new
 
--- what the read of a map did that may be named
+-- what the read of a map that may be named did
 abbrev pub ReadsNamed : Which → Mode → (name : Option (List ℕ)) → Result (Option Tiled) ShowEnding
     → (old new : SiteState) → Type 0
 ReadsNamed which mode name result old new =

@@ -45,7 +45,7 @@ pub record StopsSafely (c : Command) (line : List ℕ) (o : Outside) (did : Deed
   pub mapfile : (k : ℕ) (files : List ℕ → Option File) → k ≤ length did.gain.calls
       → LeftAt site did.gain.calls k files → has_barrier (take k did.gain.calls) ≡ true
       → (files c.mapfile ≡ files_in site c.mapfile) ⊎ IsVerifiedMap c line o site (files c.mapfile)
-  -- once the call has answered that it is done, or that something differs, the mapfile is the new one
+  -- once there is an answer before which the map is saved, the mapfile is the new one
   pub kept : (files : List ℕ → Option File) → is_saved answer ≡ true
       → LeftAt site did.gain.calls (length did.gain.calls) files → IsVerifiedMap c line o site (files c.mapfile)
   -- Any file except the output, the mapfile and its draft could be found so before.

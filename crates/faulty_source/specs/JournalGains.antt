@@ -7,7 +7,7 @@ pub record JournalGains (old new : List Reading) : Type 0 where
   pub reads : List Reading
   pub told : new ≡ old ++ reads
 
--- each of these journals gained reads at its end
+-- each of these journals gained reads at its end, or none
 abbrev pub AllGain : List (List Reading) → List (List Reading) → Type 0
 AllGain [] [] = Unit {0}
 AllGain [] (new ∷ news) = ⊥

@@ -47,7 +47,7 @@ abbrev pub bad_after : List BadRange → (pos asked : ℕ) → Got → List BadR
 bad_after bad pos asked got =
     if nat_lt (count_of got) asked && not (is_end got) then met bad (pos + count_of got) else bad
 
--- the ranges ascend, none is empty, and no two overlap
+-- the ranges ascend from a position on, none is empty, and no two overlap
 abbrev pub AreSeparate : ℕ → List BadRange → Type 0
 AreSeparate low [] = ⊤
 AreSeparate low (r ∷ rs) = (low ≤ r.from) × (r.from < r.to) × AreSeparate r.to rs

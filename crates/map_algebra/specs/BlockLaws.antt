@@ -42,7 +42,7 @@ pub record CreatedHas (s : Shape) (ks : List ℕ) (domain : ℕ → Bool) (liste
   pub outside : (x : ℕ) → x < end → domain x ≡ false → Has (created_map s ks domain listed rest end) NonTried x
   pub size : length (created_map s ks domain listed rest end) ≡ end
 
--- in each created map, positions of the domain have one status in the listed blocks, and another elsewhere
+-- in each created map, a position of the domain has one status in a listed block, and the one for the rest elsewhere
 abbrev pub CreatedHaveBlocks : Type 0
 CreatedHaveBlocks =
     (s : Shape) (ks : List ℕ) (domain : ℕ → Bool) (listed rest : Status) (end : ℕ)

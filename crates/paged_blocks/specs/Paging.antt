@@ -39,7 +39,7 @@ pub record IsPaging (pages : List (List Block)) (entries : List PageEntry) : Typ
   pub each : (i : ℕ) (d : PageEntry) → i < length entries → IsEntry pages (slice_index_or entries i d)
 
 -- the last block that begins before a position: it is number j, counted from 1, in the page of entry k, and number
--- before k + j among all blocks, counted alike
+-- `before pages entries k + j` among all blocks, counted alike
 pub record IsHeld (pages : List (List Block)) (entries : List PageEntry) (at k j : ℕ) : Type 0 where
   pub entry : k < length entries
   pub block : 0 < j

@@ -126,7 +126,7 @@ abbrev pub led_from : TrimMode → (cursor : ℕ) → ℕ
 led_from Lead cursor = cursor
 led_from (Tail low) cursor = low
 
--- a run that trims upwards has left nothing to trim before the place that its trimming has come to
+-- a run that trims upwards has left nothing of the domain to trim before the place that its trimming has come to
 abbrev pub IsLed : RunState → Type 0
 IsLed r = r.phase ≡ Trimming → is_up (setting_in r) (numbered r.phase r.pass) ≡ true → (x : ℕ)
     → x < led_from r.machine.mode r.machine.cursor → is_live (setting_in r) r.machine x ≡ true

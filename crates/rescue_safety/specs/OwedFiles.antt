@@ -13,7 +13,7 @@ pub record IsOwedIn (t : Target) (gave : List (ℕ × ℕ)) (old : ℕ → Bool)
   pub each : (x : ℕ) → CallsFinished (files t.mapfile) x
       → (old x ≡ true) ⊎ HoldsLast t gave (bytes_of (files t.outfile)) x
 
--- Each position that the mapfile calls finished is owed in all files that may be found after these calls.
+-- In all files that may be found after these calls, each position called finished is old, or its last byte is held.
 pub record IsOwedAt (t : Target) (gave : List (ℕ × ℕ)) (old : ℕ → Bool) (b : Before) : Type 0 where
   pub each : (files : List ℕ → Option File) → MayBeLeft b.start b.earlier (length b.earlier) files
       → IsOwedIn t gave old files

@@ -66,7 +66,7 @@ NamedCounts (Err Absent) faults faults' = faults' ≡ faults
 NamedCounts (Err (Refused e)) faults faults' = (faults' ≡ faults) × (e ≢ OutOfMemory)
 NamedCounts (Err NoMemory) faults faults' = faults' ≡ faults
 
--- a file that may be named has these statuses
+-- if a file is named, it is there and has the statuses that are given; if none is named, no statuses are given
 abbrev pub HasStatuses : Option (List ℕ) → Mode → Option File → Option (List Status) → Type 0
 HasStatuses None mode file statuses = statuses ≡ None
 HasStatuses (Some name) mode file None = ⊥

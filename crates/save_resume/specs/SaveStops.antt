@@ -52,10 +52,10 @@ pub record IsSaved (names : MapNames) (text : List ℕ) (was now : Disk) : Type 
   pub no_wider : (name : List ℕ) (found : Option File) → name ≢ names.map → name ≢ names.draft
       → MayShow (now.shows name) found → MayShow (was.shows name) found
 
--- a stop after the first k calls may leave these files
+-- after the site's calls and the first k of these, a stop before the next one or within it may leave these files
 abbrev pub LeftAt : SiteState → List Entry → ℕ → (List ℕ → Option File) → Type 0
 LeftAt site calls k files = MayBeLeft site.start (site.calls ++ calls) (length site.calls + k) files
 
--- a stop before the call could have left this under a name as well
+-- a stop after a site's calls, before any further one, could leave this under a name
 abbrev pub CouldBefore : SiteState → (name : List ℕ) → (found : Option File) → Type 0
 CouldBefore site name found = MayShow ((disk_of site).shows name) found

@@ -129,7 +129,8 @@ HasTiles (Some name) mode (Some tiles) file = IsMapOf file mode tiles.statuses
 abbrev pub ReadsMap : Which → Mode → (name : Option (List ℕ)) → Result (Option Tiled) Ending → (old new : SiteState)
     → Type 0
 ReadsMap which mode name result old new =
-    DidPart rescue_faults (map_rows which mode name) (file_named name (files_in old)) (HasTiles name mode) result old new
+    DidPart rescue_faults (map_rows which mode name) (file_named name (files_in old))
+    (HasTiles name mode) result old new
 
 -- what the open of the output did
 abbrev pub OpensOutput : {T : Type 0} → (makes forced : Bool) → (outfile : List ℕ) → Result T Ending

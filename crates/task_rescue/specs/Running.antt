@@ -1,4 +1,4 @@
--- How the run of a rescue goes, by what the objects tell. For contracts and proofs: no promise uses it.
+-- How the run of a rescue goes, by what the objects tell. For contracts, laws and proofs: no promise uses it.
 use Rattle.std.specs.Prelude.{◌≡◌, ℕ, ◌<◌, ◌^◌, Bool, true, false, IsTrue, List, ◌++◌, length, All, Option, IfSome, option_map}
 use Rattle.block_list.specs.declared.status.Status.{Status}
 use Rattle.mapfile_text.specs.declared.state.MapState.{MapState}

@@ -42,7 +42,7 @@ IsLineOf kib line = IsSampleLine kib (sample_setting (sample_size kib)) (sample_
 abbrev pub sample_rows : List (WorkStep Ending)
 sample_rows = Take ∷ []
 
--- The sample is rescued, which does nothing on the objects of the call, and its line is put.
+-- The sample is rescued, and its line is put.
 abbrev pub Samples : (kib : ℕ) → (lines : List (List ℕ)) → Ending → Deeds → Type 0
 Samples kib lines e d = (e ≡ Done) × (line : List ℕ) × IsLineOf kib line × (lines ≡ line ∷ [])
 

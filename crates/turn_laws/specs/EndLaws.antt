@@ -83,7 +83,7 @@ DoneEndsWell = (s : Setting) (r : RunState) (heard : Bool) (o : Across) → sett
     → (w : WentToEnd r RunDone heard o)
     → IsWellEnded s r.machine w.events (disk_of o.site) (disk_of o.site')
 
--- A whole run that stopped, but not at a call on the files, saved its map as it was.
+-- A whole run that stopped, but not at a call on the files, saved its map, or without a mapfile synced its output.
 abbrev pub StoppedIsSaved : Type 0
 StoppedIsSaved = (s : Setting) (r : RunState) (stop : Stop) (heard : Bool) (o : Across) → setting_in r ≡ nameless s
     → IsTrue o.site.tells → Keeps o.site o.site' → is_at_call stop ≡ false → (w : WentToEnd r (Stopped stop) heard o)

@@ -54,41 +54,41 @@ RestIsSafeNow = (s : Setting) (began : List Status) (state : Option MapState) (m
     → AreFinishedAlike began m.map → Rests s d → Stands (d.reads.files s.names.map) s.end began state
     → IsSafeNow s (bytes_of (d.reads.files s.outfile)) [] m d
 
--- A run that is safe now stays so after some events with all their calls.
+-- With a mapfile, a run that is safe now stays so after some events with all their calls.
 abbrev pub RunStaysSafeNow : Type 0
 RunStaysSafeNow = (s : Setting) (start : List ℕ) (reads : List Reading) (m : Machine) (d : Disk) (es : List Event)
     → IsMapped s m → IsSafeNow s start reads m d → IsRun s m es
     → IsSafeNow s start (reads ++ reads_of es) (state_after s m es) (disk_after d (map Done (run_calls s m es)))
 
--- A run that is safe now stays so after a turn.
+-- With a mapfile, a run that is safe now stays so after a turn.
 abbrev pub TurnStaysSafeNow : Type 0
 TurnStaysSafeNow = (s : Setting) (start : List ℕ) (reads : List Reading) (request : Request) (turn : Turn)
     (r r' : RunState) (o : Across) → IsMapped s r.machine → IsTurnOf s request r o
     → (t : Turned request turn r r' o) → IsSafeNow s start reads r.machine (disk_of o.site)
     → IsSafeNow s start (reads ++ t.event.reading ∷ []) r'.machine (disk_of o.site')
 
--- A run that is safe now stays so after a turn that stopped for whatever cause, a failed call on the files too.
+-- With a mapfile, a run safe now stays so after a turn that stopped for any cause, a failed call on the files too.
 abbrev pub HaltedStaysSafeNow : Type 0
 HaltedStaysSafeNow = (s : Setting) (start : List ℕ) (reads : List Reading) (request : Request) (stop : Stop)
     (r r' : RunState) (o : Across) → IsMapped s r.machine → IsTurnOf s request r o
     → (h : Halted request stop r r' o) → IsSafeNow s start reads r.machine (disk_of o.site)
     → IsSafeNow s start (reads ++ reads_by h) r'.machine (disk_of o.site')
 
--- A run that is safe now stays so after the whole turns of a phase.
+-- With a mapfile, a run that is safe now stays so after the whole turns of a phase.
 abbrev pub PhaseStaysSafeNow : Type 0
 PhaseStaysSafeNow = (s : Setting) (start : List ℕ) (reads : List Reading) (r r' : RunState) (o : Across)
     → IsMapped s r.machine → setting_in r ≡ nameless s → IsTrue o.site.tells → Keeps o.site o.site'
     → (w : Went r r' o) → IsSafeNow s start reads r.machine (disk_of o.site)
     → IsSafeNow s start (reads ++ reads_of w.events) r'.machine (disk_of o.site')
 
--- A run that is safe now stays so after turns up to one that stopped, for whatever cause.
+-- With a mapfile, a run that is safe now stays so after turns up to one that stopped, for whatever cause.
 abbrev pub StoppedStaysSafeNow : Type 0
 StoppedStaysSafeNow = (s : Setting) (start : List ℕ) (reads : List Reading) (stop : Stop) (r r' : RunState)
     (o : Across) → IsMapped s r.machine → setting_in r ≡ nameless s → IsTrue o.site.tells → Keeps o.site o.site'
     → (w : WentUpTo stop r r' o) → IsSafeNow s start reads r.machine (disk_of o.site)
     → IsSafeNow s start (reads ++ reads_up_to w) r'.machine (disk_of o.site')
 
--- A run that is safe now stays so after the close, wherever that stopped.
+-- With a mapfile, a run that is safe now stays so after the close, wherever that stopped.
 abbrev pub CloseStaysSafeNow : Type 0
 CloseStaysSafeNow = (s : Setting) (start : List ℕ) (reads : List Reading) (stop : Option Stop) (r : RunState)
     (end : RunEnd) (site site' : SiteState) → s.has_mapfile ≡ true → AreThreeNames s → setting_in r ≡ nameless s
