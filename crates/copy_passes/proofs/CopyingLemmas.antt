@@ -42,8 +42,8 @@ abbrev pub searched : (up : Bool) → (cursor size : ℕ) → Search
 searched up cursor size = record { up = up; from = cursor; front = up; size = size }
 
 pub search_is : (s : Setting) (m : Machine) (number : ℕ) → pass_of m ≡ numbered Copying number
-    → search_of s m ≡ searched (is_up s (pass_of m)) m.cursor s.cluster
-search_is s m number is = ap (λ (phase : Phase). search_in s m phase m.mode) (ap (λ (p : Pass). p.phase) is)
+    → search_of s m ≡ searched (is_up s (pass_of m)) m.progress.cursor s.cluster
+search_is s m number is = ap (λ (phase : Phase). search_in s m phase m.progress.mode) (ap (λ (p : Pass). p.phase) is)
 
 -- a request takes the nearest positions ahead of a cursor for which P holds
 pub record IsNearestUp (P : ℕ → Type 0) (cursor p q : ℕ) : Type 0 where
@@ -78,11 +78,11 @@ nearest_by false P cursor size sector start end p q found =
     }
 
 nearest : (r : RunState) (p q : ℕ) → MayCopy r → IsRequest (setting_in r) r.machine p q
-    → IsNearest (is_upward r) (IsWanted (setting_in r) r.machine) r.machine.cursor p q
+    → IsNearest (is_upward r) (IsWanted (setting_in r) r.machine) r.machine.progress.cursor p q
 nearest r p q c asks =
     let s : Setting = setting_in r in
     let P : ℕ → Type 0 = IsWanted s r.machine in
-    nearest_by (is_upward r) P r.machine.cursor s.cluster s.sector asks.start asks.end p q
+    nearest_by (is_upward r) P r.machine.progress.cursor s.cluster s.sector asks.start asks.end p q
     (subst (λ (f : Search). IsFoundBy f P s.sector asks.start asks.end p q) (search_is s r.machine r.pass (pass_is r c))
     (asks.range, asks.starts, asks.ends))
 
@@ -91,7 +91,7 @@ abbrev pub cursor_by : Bool → (len p q jump : ℕ) → ℕ
 cursor_by up len p q jump = if up then min len (q + jump) else p - jump
 
 abbrev pub jump_of : Setting → Machine → Event → ℕ
-jump_of s m e = if is_jump s m e then m.skip else 0
+jump_of s m e = if is_jump s m e then m.progress.skip else 0
 
 cursor_is : (r : RunState) (e : Event) → MayCopy r → cursor_after (setting_in r) r.machine e
     ≡ cursor_by (is_upward r) (length r.machine.map) e.reading.pos (reach e.reading) (jump_of (setting_in r) r.machine e)
@@ -106,7 +106,7 @@ ahead_by true top cursor = top - cursor
 ahead_by false top cursor = cursor
 
 abbrev pub ahead_of : RunState → ℕ
-ahead_of r = ahead_by (is_upward r) (top_of r.machine) r.machine.cursor
+ahead_of r = ahead_by (is_upward r) (top_of r.machine) r.machine.progress.cursor
 
 -- A read takes the positions from p up to q, of those below a top, and reaches up to an end: it reaches over all that it
 -- asked for, or the top is where it reached.
@@ -140,7 +140,7 @@ last_jump r e c last =
     let m : Machine = r.machine in
     let number : (pass_of m).number ≡ 5 = ap (λ (p : Pass). p.number) (pass_is r c) ∙ last in
     let J : ℕ → Bool = λ n. is_copying m && (if is_failed e.reading then nat_le n 4 else is_slow s e && nat_le n 2) in
-    cond-false (is_jump s m e) m.skip 0 (ap J number ∙ never_jumps (is_copying m) (is_failed e.reading) (is_slow s e))
+    cond-false (is_jump s m e) m.progress.skip 0 (ap J number ∙ never_jumps (is_copying m) (is_failed e.reading) (is_slow s e))
 
 pub takes_by : (s : Setting) (m : Machine) (e : Event) → StepsBy s m e
     → Takes e.reading.pos (e.reading.pos + e.reading.asked) (reach e.reading) (top_of m) (top_of (step s m e))
@@ -206,7 +206,7 @@ non_tried_here s m number x is wanted =
     subst (λ (p : Pass). Has m.map (taken p.phase) x) is (wanted_taken s m x wanted)
 
 ahead_is : (s : Setting) (m : Machine) (number x : ℕ) → pass_of m ≡ numbered Copying number
-    → is_ahead (search_of s m) x ≡ lies_ahead (is_up s (pass_of m)) m.cursor x
+    → is_ahead (search_of s m) x ≡ lies_ahead (is_up s (pass_of m)) m.progress.cursor x
 ahead_is s m number x is = ap (λ (f : Search). is_ahead f x) (search_is s m number is)
 
 -- after an event of its request the last pass has no position left that its cursor passed
@@ -221,7 +221,7 @@ leaves_none r e c last asks by few =
     let q : ℕ = e.reading.pos + e.reading.asked in
     let P : ℕ → Type 0 = IsWanted s m in
     let here : pass_of m ≡ numbered Copying r.pass = pass_is r c in
-    let cursor : n.cursor ≡ cursor_by (is_upward r) (length m.map) p (reach e.reading) 0 =
+    let cursor : n.progress.cursor ≡ cursor_by (is_upward r) (length m.map) p (reach e.reading) 0 =
     cursor_is r e c ∙ ap (cursor_by (is_upward r) (length m.map) p (reach e.reading)) (last_jump r e c last) in
     record {
       ahead = λ x wanted.
@@ -229,10 +229,10 @@ leaves_none r e c last asks by few =
           untried s m e.reading x c.lead by.there by.kept_asked (wanted_before s n x wanted) (non_tried_here s n r.pass x here wanted) in
           let live : is_live s m x ≡ true = live_was s m n e.reading x refl (wanted_live s n x wanted) in
           let before : is_wanted s m x ≡ true = wanted_here r x c live was.0 in
-          let ahead : lies_ahead (is_upward r) m.cursor x ≡ true =
+          let ahead : lies_ahead (is_upward r) m.progress.cursor x ≡ true =
           sym (ahead_is s m r.pass x here) ∙ (c.last last).ahead x before in
           ahead_is s n r.pass x here
-          ∙ still_ahead (is_upward r) P (length m.map) m.cursor p q (reach e.reading) n.cursor x (nearest r p q c asks)
+          ∙ still_ahead (is_upward r) P (length m.map) m.progress.cursor p q (reach e.reading) n.progress.cursor x (nearest r p q c asks)
           (reach_few e.reading few) cursor ahead before was.1;
     }
 
@@ -254,7 +254,7 @@ copy_steps r e heard c asks few within =
     let by : StepsBy s m e = move_steps s m e c.sensible (order_lead s m c.lead) asks few in
     record {
       steps = by;
-      less = less_by (is_upward r) (IsWanted s m) (length m.map) (top_of m) (top_of (step s m e)) m.cursor p q
+      less = less_by (is_upward r) (IsWanted s m) (length m.map) (top_of m) (top_of (step s m e)) m.progress.cursor p q
           (reach e.reading) (jump_of s m e) (cursor_after s m e) (nearest r p q c asks) (takes_by s m e by)
           (top_within m) (omega (arith, top_within (step s m e), by.size)) (cursor_is r e c);
       copying = record {
@@ -294,7 +294,7 @@ start_ahead true len x lt = le-leb 0 x (omega arith)
 start_ahead false len x lt = lt-ltb x len lt
 
 pub leaves_at_start : (s : Setting) (m : Machine) (number : ℕ) → pass_of m ≡ numbered Copying number
-    → m.cursor ≡ start_of s (numbered Copying number) m.map → LeavesNone s m
+    → m.progress.cursor ≡ start_of s (numbered Copying number) m.map → LeavesNone s m
 leaves_at_start s m number is begins = record {
   ahead = λ x wanted.
       let up : Bool = is_up s (pass_of m) in

@@ -54,7 +54,7 @@ asked_tried : (s : Setting) (m : Machine) (e : Event) (x : ℕ) → IsInOrder s 
     → AsksFor e.reading x → IsUntried (move_of s m e).after x → ⊥
 asked_tried s m e x order by on asks left =
     let phase : (pass_of (ready s m)).phase ≡ Copying = copies_is (pass_of (ready s m)).phase on in
-    let lead : (ready s m).mode ≡ Lead = (order_ready s m order).lead (ap trims phase) in
+    let lead : (ready s m).progress.mode ≡ Lead = (order_ready s m order).lead (ap trims phase) in
     let apart : Has (ready s m).map NonTried x × ((x < e.reading.pos) ⊎ (e.reading.pos + e.reading.asked ≤ x)) =
     untried s (ready s m) e.reading x lead by.there by.kept_asked left.before left.status in
     ⊎_elim (λ (low : x < e.reading.pos). omega (arith, low, asks.from))

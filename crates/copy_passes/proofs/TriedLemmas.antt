@@ -46,7 +46,7 @@ unmarked map map' pos size t x m other has =
     (cases_lt x pos)
 
 -- A read leaves non-tried of what is left only what was so, and was not asked for.
-pub untried : (s : Setting) (m : Machine) (r : Reading) (x : ℕ) → m.mode ≡ Lead → r.pos + r.asked ≤ length m.map
+pub untried : (s : Setting) (m : Machine) (r : Reading) (x : ℕ) → m.progress.mode ≡ Lead → r.pos + r.asked ≤ length m.map
     → kept s.sector r ≤ r.asked → is_before (over_after m r) x ≡ true → Has (map_after s m r) NonTried x
     → Has m.map NonTried x × ((x < r.pos) ⊎ (r.pos + r.asked ≤ x))
 untried s m r x lead there few before =
@@ -59,7 +59,7 @@ untried s m r x lead there few before =
     let second : Marked good rest (r.pos + k) (r.asked - k) t x =
     marks good (r.pos + k) (r.asked - k) t x (omega (arith, there, few, size)) in
     let finished : Finished ≡ NonTried → ⊥ = λ is. cc in
-    cond_both (is_failed r) (scraped m.mode r.pos rest) good
+    cond_both (is_failed r) (scraped m.progress.mode r.pos rest) good
     (λ (map : List Status). Has map NonTried x → Has m.map NonTried x × ((x < r.pos) ⊎ (r.pos + r.asked ≤ x)))
     (λ failed has.
     let left : Has rest NonTried x = ap (λ (mode : TrimMode). slice_get (scraped mode r.pos rest) x) (sym lead) ∙ has in

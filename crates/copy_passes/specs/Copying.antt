@@ -20,5 +20,5 @@ pub record MayCopy (r : RunState) : Type 0 where
   pub phase : r.phase ≡ Copying
   pub few : r.pass ≤ copying_passes
   pub passes : r.machine.passes ≡ passes_from (setting_in r) Copying r.pass
-  pub lead : r.machine.mode ≡ Lead
+  pub lead : r.machine.progress.mode ≡ Lead
   pub last : r.pass ≡ copying_passes → LeavesNone (setting_in r) r.machine

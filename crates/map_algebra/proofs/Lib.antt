@@ -1,12 +1,12 @@
 -- Other crates cite these.
-pub mod MapLemmas
+pub mod CountLemmas
 pub mod ListedLemmas
 pub mod ListingLemmas
+pub mod MapLemmas
+pub mod SummaryLemmas
 -- These are the crate's own.
 mod WalkLemmas
 mod AreaLemmas
-mod CountLemmas
-mod SummaryLemmas
 mod ChangeLemmas
 mod BlockLemmas
 mod CreatedLemmas

@@ -1,4 +1,3 @@
 -- Other crates cite these.
+pub mod AnswerLemmas
 pub mod PrintingLemmas
--- These are the crate's own.
-mod AnswerLemmas

@@ -19,8 +19,8 @@ use Rattle.rescue_rules.specs.Beginning.{first_pass, first_cursor}
 use Rattle.rescue_domain.specs.Parts.{covers}
 use Rattle.rescue_core.specs.declared.keeper.Keeper.{Keeper}
 use Rattle.rescue_core.specs.declared.settings.Settings.{Settings}
-use Rattle.rescue_core.specs.declared.state.Progress.{Progress}
 use Rattle.rescue_rules.specs.declared.report.Counts.{Counts}
+use Rattle.rescue_rules.specs.declared.progress.Progress.{Progress}
 use Rattle.rescue_rules.specs.Counts.{counts_of}
 use Rattle.rescue_rules.proofs.FitLemmas.{first_few, first_there, start_there}
 use Rattle.rescue_rules.proofs.ReadyLemmas.{order_lead}
@@ -64,7 +64,10 @@ abbrev at_pass : RunState → Phase → ℕ → List Pass → ℕ → TrimMode �
 at_pass r phase pass passes cursor mode skip = record r {
   phase = phase;
   pass = pass;
-  machine = record r.machine { passes = passes; cursor = cursor; mode = mode; skip = skip };
+  machine = record r.machine {
+    passes = passes;
+    progress = record { pass = pass; cursor = cursor; mode = mode; skip = skip };
+  };
 }
 
 pub passed_is : (settings : Settings) (domain : List Range) (map : List Status) (phase : Phase) (progress : Progress)

@@ -62,9 +62,9 @@ scraped_before (Tail low) p map x there back to =
 record Asked (s : Setting) (m : Machine) (r : Reading) : Type 0 where
   there : r.pos + r.asked ≤ length m.map
   few : kept s.sector r ≤ r.asked
-  back : (low : ℕ) → m.mode ≡ Tail low → low ≤ r.pos
-  between : (low x : ℕ) → m.mode ≡ Tail low → low ≤ x → x < r.pos → Has m.map NonTrimmed x
-  trims : (low : ℕ) → m.mode ≡ Tail low → is_trimming m ≡ true
+  back : (low : ℕ) → m.progress.mode ≡ Tail low → low ≤ r.pos
+  between : (low x : ℕ) → m.progress.mode ≡ Tail low → low ≤ x → x < r.pos → Has m.map NonTrimmed x
+  trims : (low : ℕ) → m.progress.mode ≡ Tail low → is_trimming m ≡ true
 
 asked : (s : Setting) (m : Machine) (e : Event) → IsSensible s → IsInOrder s m
     → IsRequest s m e.reading.pos (e.reading.pos + e.reading.asked) → StepsBy s m e → Asked s m e.reading
@@ -142,23 +142,23 @@ change_good s m r x a good =
 
 -- and one that failed, before what it asked for,
 change_before : (s : Setting) (m : Machine) (r : Reading) (x : ℕ) → Asked s m r → x < r.pos
-    → Change s m r (scraped m.mode r.pos (with_rest s m r)) x
+    → Change s m r (scraped m.progress.mode r.pos (with_rest s m r)) x
 change_before s m r x a to =
     let apart : AsksFor r x → ⊥ = λ asks. omega (arith, to, asks.from) in
-    let map : List Status = scraped m.mode r.pos (with_rest s m r) in
+    let map : List Status = scraped m.progress.mode r.pos (with_rest s m r) in
     ⊎_elim
     (λ (same : slice_get map x ≡ slice_get (with_rest s m r) x).
     Stands apart (same ∙ rest_outside s m r x a (inl (omega arith)) ∙ kept_outside s m r x a (inl to)))
-    (λ (is : (low : ℕ) × (m.mode ≡ Tail low) × (low ≤ x) × Has map NonScraped x).
+    (λ (is : (low : ℕ) × (m.progress.mode ≡ Tail low) × (low ≤ x) × Has map NonScraped x).
     Between apart (a.trims is.0 is.1) (a.between is.0 x is.1 is.2 to) is.3)
-    (scraped_before m.mode r.pos (with_rest s m r) x (omega (arith, size_rest s m r a, a.there)) a.back to)
+    (scraped_before m.progress.mode r.pos (with_rest s m r) x (omega (arith, size_rest s m r a, a.there)) a.back to)
 
 -- and past its position
 change_past : (s : Setting) (m : Machine) (r : Reading) (x : ℕ) → Asked s m r → is_failed r ≡ true → r.pos ≤ x
-    → Change s m r (scraped m.mode r.pos (with_rest s m r)) x
+    → Change s m r (scraped m.progress.mode r.pos (with_rest s m r)) x
 change_past s m r x a failed from =
-    let same : slice_get (scraped m.mode r.pos (with_rest s m r)) x ≡ slice_get (with_rest s m r) x =
-    scraped_past m.mode r.pos (with_rest s m r) x (omega (arith, size_rest s m r a, a.there)) a.back from in
+    let same : slice_get (scraped m.progress.mode r.pos (with_rest s m r)) x ≡ slice_get (with_rest s m r) x =
+    scraped_past m.progress.mode r.pos (with_rest s m r) x (omega (arith, size_rest s m r a, a.there)) a.back from in
     ⊎_elim
     (λ (to : x < r.pos + kept s.sector r).
     Kept (record { from = from; to = omega (arith, to, a.few) })
@@ -178,7 +178,7 @@ pub changes : (s : Setting) (m : Machine) (e : Event) (x : ℕ) → IsSensible s
 changes s m e x ok order request by =
     let r : Reading = e.reading in
     let a : Asked s m r = asked s m e ok order request by in
-    cond_both (is_failed r) (scraped m.mode r.pos (with_rest s m r)) (with_kept s m r)
+    cond_both (is_failed r) (scraped m.progress.mode r.pos (with_rest s m r)) (with_kept s m r)
     (λ (map : List Status). Change s m r map x)
     (λ failed. ⊎_elim (λ (to : x < r.pos). change_before s m r x a to)
     (λ (from : r.pos ≤ x). change_past s m r x a failed from)
@@ -188,12 +188,12 @@ changes s m e x ok order request by =
 -- after a failed read at a range's back all that lies between its front and its back is for scraping
 pub change_between : (s : Setting) (m : Machine) (e : Event) (low x : ℕ) → IsSensible s → IsInOrder s m
     → IsRequest s m e.reading.pos (e.reading.pos + e.reading.asked) → StepsBy s m e → is_failed e.reading ≡ true
-    → m.mode ≡ Tail low → low ≤ x → x < e.reading.pos → Has (step s m e).map NonScraped x
+    → m.progress.mode ≡ Tail low → low ≤ x → x < e.reading.pos → Has (step s m e).map NonScraped x
 change_between s m e low x ok order request by failed is from to =
     let r : Reading = e.reading in
     let a : Asked s m r = asked s m e ok order request by in
     ap (λ (map : List Status). slice_get map x)
-    (cond-true (is_failed r) (scraped m.mode r.pos (with_rest s m r)) (with_kept s m r) failed)
+    (cond-true (is_failed r) (scraped m.progress.mode r.pos (with_rest s m r)) (with_kept s m r) failed)
     ∙ ap (λ (mode : TrimMode). slice_get (scraped mode r.pos (with_rest s m r)) x) is
     ∙ marked_inside (with_rest s m r) low (r.pos - low) NonScraped x
     (omega (arith, size_rest s m r a, a.there, a.back low is)) from (omega (arith, to, a.back low is))

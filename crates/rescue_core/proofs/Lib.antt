@@ -2,6 +2,7 @@
 pub mod ChangeLemmas
 pub mod ClosingLemmas
 pub mod CountsLemmas
+pub mod ObjectLemmas
 pub mod PassLemmas
 pub mod PrepareLemmas
 pub mod StageLemmas

@@ -1,11 +1,11 @@
 -- Where a run is after a read, by the parts of its place.
-use Rattle.std.proofs.Common.{◌≡◌, ℕ, ◌+◌, ◌-◌, min, Bool, length, cond}
+use Rattle.std.proofs.Common.{◌≡◌, ℕ, ◌+◌, ◌-◌, min, Bool, length, cond, ap}
 use Rattle.transfer_token.specs.declared.token.Request.{Request}
 use Rattle.rescue_rules.specs.declared.phase.Phase.{Phase}
+use Rattle.rescue_rules.specs.declared.progress.Progress.{Progress}
 use Rattle.rescue_rules.specs.Passes.{is_up, numbered}
 use Rattle.rescue_rules.specs.Step.{Event, trims, is_jump, cursor_after}
 use Rattle.rescue_core.specs.declared.settings.Settings.{Settings}
-use Rattle.rescue_core.specs.declared.state.Progress.{Progress}
 use Rattle.rescue_core.specs.RunState.{RunState, setting_in}
 use Rattle.rescue_core.specs.TurnParts.{RunsAt, IsReadOf}
 
@@ -18,7 +18,7 @@ pub cursor_is : (settings : Settings) (phase : Phase) (progress : Progress) (r :
     (request.pos - cond jumped progress.skip 0))
 cursor_is settings phase progress r e request given ended top jumped at read jump size =
     let p = at.pass in
-    let q = at.skip in
+    let q : r.machine.progress.skip ≡ progress.skip = ap (λ (p : Progress). p.skip) at.progress_is in
     let pos = read.pos in
     let asked = read.asked in
     let count = read.count in

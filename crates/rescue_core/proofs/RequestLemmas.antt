@@ -8,10 +8,10 @@ use Rattle.rescue_rules.specs.declared.phase.Phase.TheVariants.{Copying, Trimmin
 use Rattle.rescue_rules.specs.declared.stop.TrimMode.{TrimMode}
 use Rattle.rescue_rules.specs.declared.stop.TrimMode.TheVariants.{Lead}
 use Rattle.rescue_rules.specs.declared.tally.Tally.{Tally}
+use Rattle.rescue_rules.specs.declared.progress.Progress.{Progress}
 use Rattle.rescue_rules.specs.Setting.{Setting}
 use Rattle.rescue_rules.specs.Passes.{Pass, is_up, numbered, passes_from}
 use Rattle.rescue_rules.specs.Machine.{Machine, Search, pass_of, start_of, search_in, search_of}
-use Rattle.rescue_core.specs.declared.state.Progress.{Progress}
 use Rattle.rescue_core.specs.RunState.{machine_at}
 use Rattle.rescue_core.specs.Requesting.{StandsAt}
 
@@ -35,8 +35,7 @@ pub stands : (s : Setting) (map : List Status) (phase : Phase) (progress : Progr
 stands s map phase progress tally pass =
     record {
       passes = leads_by s phase progress.pass (passes_from s phase progress.pass) refl pass;
-      cursor = refl;
-      mode = refl;
+      progress_is = refl;
       map = refl;
       over = refl;
     }
@@ -58,17 +57,17 @@ search_is : (s : Setting) (m : Machine) (phase at : Phase) (progress : Progress)
     → StandsAt m phase progress map over
     → phase ≡ at → search_of s m ≡ search_in s m at progress.mode
 search_is s m phase at progress map stands is =
-    ap (λ (p : Pass). search_in s m p.phase m.mode) (pass_is m phase progress map stands)
-    ∙ ap (λ (mode : TrimMode). search_in s m phase mode) stands.mode
+    ap (λ (p : Pass). search_in s m p.phase m.progress.mode) (pass_is m phase progress map stands)
+    ∙ ap (λ (mode : TrimMode). search_in s m phase mode) (ap (λ (q : Progress). q.mode) stands.progress_is)
     ∙ ap (λ (p : Phase). search_in s m p progress.mode) is
 
 pub cursor_search : (s : Setting) (m : Machine) (phase at : Phase) (progress : Progress) (map : List Status) (most : ℕ) (up : Bool)
     {over : Option ℕ} → StandsAt m phase progress map over → phase ≡ at
-    → search_in s m at progress.mode ≡ from_cursor (is_up s (pass_of m)) m.cursor most
+    → search_in s m at progress.mode ≡ from_cursor (is_up s (pass_of m)) m.progress.cursor most
     → up ≡ is_up s (numbered phase progress.pass) → from_cursor up progress.cursor most ≡ search_of s m
 cursor_search s m phase at progress map most up stands is found goes =
     ap (λ (b : Bool). from_cursor b progress.cursor most) (goes ∙ ap (is_up s) (sym (pass_is m phase progress map stands)))
-    ∙ ap (λ (x : ℕ). from_cursor (is_up s (pass_of m)) x most) (sym stands.cursor)
+    ∙ ap (λ (x : ℕ). from_cursor (is_up s (pass_of m)) x most) (ap (λ (q : Progress). q.cursor) (sym stands.progress_is))
     ∙ sym found
     ∙ sym (search_is s m phase at progress map stands is)
 

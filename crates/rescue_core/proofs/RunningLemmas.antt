@@ -30,7 +30,7 @@ use Rattle.rescue_core.proofs.StageLemmas.{running_sensible}
 cursor_within : (s : Setting) (m : Machine) (e : Event) → e.reading.pos + e.reading.asked ≤ length m.map
     → cursor_after s m e ≤ length m.map
 cursor_within s m e there =
-    let jump : ℕ = if is_jump s m e then m.skip else 0 in
+    let jump : ℕ = if is_jump s m e then m.progress.skip else 0 in
     let up : ℕ = min (length m.map) (reach e.reading + jump) in
     cond_both (is_trimming m) e.reading.pos (if is_up s (pass_of m) then up else e.reading.pos - jump)
     (λ (x : ℕ). x ≤ length m.map)
@@ -39,13 +39,13 @@ cursor_within s m e there =
     (λ upwards. omega arith) (λ down. omega arith))
 
 -- and the next jump isn't longer than the longest
-skip_within : (s : Setting) (m : Machine) (e : Event) → s.skips.first ≤ s.skips.most → m.skip ≤ s.skips.most
+skip_within : (s : Setting) (m : Machine) (e : Event) → s.skips.first ≤ s.skips.most → m.progress.skip ≤ s.skips.most
     → skip_after s m e ≤ s.skips.most
 skip_within s m e first now =
-    cond_both (is_jump s m e) (min (2 * m.skip) s.skips.most)
-    (if is_failed e.reading || is_slow s e then m.skip else s.skips.first) (λ (x : ℕ). x ≤ s.skips.most)
+    cond_both (is_jump s m e) (min (2 * m.progress.skip) s.skips.most)
+    (if is_failed e.reading || is_slow s e then m.progress.skip else s.skips.first) (λ (x : ℕ). x ≤ s.skips.most)
     (λ jumps. omega arith)
-    (λ other. cond_both (is_failed e.reading || is_slow s e) m.skip s.skips.first (λ (x : ℕ). x ≤ s.skips.most)
+    (λ other. cond_both (is_failed e.reading || is_slow s e) m.progress.skip s.skips.first (λ (x : ℕ). x ≤ s.skips.most)
     (λ bad. now) (λ good. first))
 
 -- how far trimming upwards comes by a read before a range, and by one at its back
@@ -124,13 +124,13 @@ trims_wanted r room e x t live has =
     (ap (has_taken (numbered Trimming 1 ∷ [])) has)
 
 -- before a range nothing is left before the request,
-none_before : (r : RunState) (room : ℕ) (e : Event) (x : ℕ) → Trims r room e → r.machine.mode ≡ Lead
+none_before : (r : RunState) (room : ℕ) (e : Event) (x : ℕ) → Trims r room e → r.machine.progress.mode ≡ Lead
     → x < e.reading.pos → is_wanted (setting_in r) r.machine x ≡ true → ⊥
 none_before r room e x t lead below wanted =
     let s : Setting = setting_in r in
     let m : Machine = r.machine in
     let is : search_of s m ≡ search_in s m Trimming Lead
-    = ap (λ (phase : Phase). search_in s m phase m.mode) (phase_in r room e t) ∙ ap (search_in s m Trimming) lead in
+    = ap (λ (phase : Phase). search_in s m phase m.progress.mode) (phase_in r room e t) ∙ ap (search_in s m Trimming) lead in
     let up : is_up s (pass_of m) ≡ true = ap (is_up s) t.running.pass ∙ t.up in
     let at : search_in s m Trimming Lead ≡ record { up = true; from = 0; front = true; size = s.sector }
     = ap (λ (b : Bool). record (search_in s m Trimming Lead) { up = b }) up
@@ -141,7 +141,7 @@ none_before r room e x t lead below wanted =
     = t.request.starts ∙ ap (λ (f : Search). cut_start f s.sector t.request.start t.request.end) (is ∙ at) in
     omega (arith, below, starts, range.0.least x (omega arith) wanted)
 
-led_lead : (r : RunState) (room : ℕ) (e : Event) (x : ℕ) → Trims r room e → r.machine.mode ≡ Lead
+led_lead : (r : RunState) (room : ℕ) (e : Event) (x : ℕ) → Trims r room e → r.machine.progress.mode ≡ Lead
     → is_live (setting_in r) r.machine x ≡ true → IsUntrimmed r e x
     → (x < e.reading.pos) ⊎ ((not (is_failed e.reading) ≡ false) × (x < e.reading.pos + e.reading.asked)) → ⊥
 led_lead r room e x t lead live left far =
@@ -154,7 +154,7 @@ led_lead r room e x t lead live left far =
     far
 
 -- and at its back nothing before that range's front, nor after a failed read what lies between them.
-led_tail : (r : RunState) (room : ℕ) (e : Event) (low x : ℕ) → Trims r room e → r.machine.mode ≡ Tail low
+led_tail : (r : RunState) (room : ℕ) (e : Event) (low x : ℕ) → Trims r room e → r.machine.progress.mode ≡ Tail low
     → is_live (setting_in r) r.machine x ≡ true → Has (step (setting_in r) r.machine e).map NonTrimmed x → IsUntrimmed r e x
     → (x < low) ⊎ ((not (is_failed e.reading) ≡ false) × (x < e.reading.pos)) → ⊥
 led_tail r room e low x t tail live has left far =
@@ -162,7 +162,7 @@ led_tail r room e low x t tail live has left far =
     let m : Machine = r.machine in
     let early : x < low → ⊥
     = λ below.
-    t.running.led t.phase t.up x (subst (λ (mode : TrimMode). x < led_from mode m.cursor) (sym tail) below) live left.was in
+    t.running.led t.phase t.up x (subst (λ (mode : TrimMode). x < led_from mode m.progress.cursor) (sym tail) below) live left.was in
     ⊎_elim early
     (λ (part : (not (is_failed e.reading) ≡ false) × (x < e.reading.pos)).
     ⊎_elim early
@@ -174,7 +174,7 @@ led_tail r room e low x t tail live has left far =
     (cases_lt x low))
     far
 
-led_by : (r : RunState) (room : ℕ) (e : Event) (mode : TrimMode) (x : ℕ) → Trims r room e → r.machine.mode ≡ mode
+led_by : (r : RunState) (room : ℕ) (e : Event) (mode : TrimMode) (x : ℕ) → Trims r room e → r.machine.progress.mode ≡ mode
     → is_live (setting_in r) (step (setting_in r) r.machine e) x ≡ true
     → Has (step (setting_in r) r.machine e).map NonTrimmed x
     → x < led_from (mode_after mode (not (is_failed e.reading))
@@ -199,13 +199,13 @@ led_steps r room e heard i request by phase up x below live has =
     let on : is_trimming m ≡ true = ap trims (phase_in r room e t) in
     let r' : Reading = e.reading in
     let more : Bool = is_wanted s (record m { map = (step s m e).map }) (r'.pos + r'.asked) in
-    let mode : (step s m e).mode ≡ mode_after m.mode (not (is_failed r')) more r'.pos (r'.pos + r'.asked)
-    = cond-true (is_trimming m) (mode_after m.mode (not (is_failed r')) more r'.pos (r'.pos + r'.asked)) Lead on in
-    let cursor : (step s m e).cursor ≡ r'.pos
+    let mode : (step s m e).progress.mode ≡ mode_after m.progress.mode (not (is_failed r')) more r'.pos (r'.pos + r'.asked)
+    = cond-true (is_trimming m) (mode_after m.progress.mode (not (is_failed r')) more r'.pos (r'.pos + r'.asked)) Lead on in
+    let cursor : (step s m e).progress.cursor ≡ r'.pos
     = cond-true (is_trimming m) r'.pos _ on in
-    led_by r room e m.mode x t refl live has
-    (subst (λ (n : ℕ). x < led_from (mode_after m.mode (not (is_failed r')) more r'.pos (r'.pos + r'.asked)) n) cursor
-    (subst (λ (n : TrimMode). x < led_from n (step s m e).cursor) mode below))
+    led_by r room e m.progress.mode x t refl live has
+    (subst (λ (n : ℕ). x < led_from (mode_after m.progress.mode (not (is_failed r')) more r'.pos (r'.pos + r'.asked)) n) cursor
+    (subst (λ (n : TrimMode). x < led_from n (step s m e).progress.cursor) mode below))
 
 -- after an event of its request a run is as between any turns
 pub running_steps : (r : RunState) (room : ℕ) (e : Event) (heard : Bool) → IsRunning r room

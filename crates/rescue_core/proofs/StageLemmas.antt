@@ -68,7 +68,7 @@ never_copies r room e t gone on =
     (subst (λ (phase : Phase). IsGone (taken phase) r) (sym (copies_is (pass_of r.machine).phase on)) gone)
 
 -- trimming is on where it is at a range's back
-tail_trims : (r : RunState) (room : ℕ) (low : ℕ) → IsRunning r room → r.machine.mode ≡ Tail low
+tail_trims : (r : RunState) (room : ℕ) (low : ℕ) → IsRunning r room → r.machine.progress.mode ≡ Tail low
     → (pass_of r.machine).phase ≡ Trimming
 tail_trims r room low is at =
     trims_is (pass_of r.machine).phase
@@ -76,7 +76,7 @@ tail_trims r room low is at =
     let e : Tail low ≡ Lead = sym at ∙ is.order.lead off in absurd (cc)))
 
 never_trims : (r : RunState) (room : ℕ) (e : Event) → IsTurn r room e → (r.settings.passes.trims ≡ true → IsGone NonTrimmed r)
-    → (low : ℕ) → r.machine.mode ≡ Tail low → ⊥
+    → (low : ℕ) → r.machine.progress.mode ≡ Tail low → ⊥
 never_trims r room e t gone low at =
     let trims : (pass_of r.machine).phase ≡ Trimming = tail_trims r room low t.running at in
     let on : r.settings.passes.trims ≡ true
@@ -106,7 +106,7 @@ scraped_steps r room e heard t known = record {
   trimmed = trimmed_steps r room e heard t known.trimmed;
   scraped = λ on x live has. ⊎_elim
       (λ (was : Has r.machine.map NonScraped x). known.scraped on x (live_before r e x live) was)
-      (λ (back : (low : ℕ) × (r.machine.mode ≡ Tail low)).
+      (λ (back : (low : ℕ) × (r.machine.progress.mode ≡ Tail low)).
       never_trims r room e t known.trimmed.trimmed back.0 back.1)
       (non_scraped_stood (setting_in r) r.machine e.reading x has);
 }

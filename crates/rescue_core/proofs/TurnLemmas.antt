@@ -13,6 +13,7 @@ use Rattle.rescue_rules.specs.declared.stop.TrimMode.TheVariants.{Lead, Tail}
 use Rattle.rescue_rules.specs.declared.phase.Phase.{Phase}
 use Rattle.rescue_rules.specs.declared.phase.Phase.TheVariants.{Copying, Trimming, Scraping, Retrying}
 use Rattle.rescue_rules.specs.declared.tally.Tally.{Tally}
+use Rattle.rescue_rules.specs.declared.progress.Progress.{Progress}
 use Rattle.rescue_rules.specs.Setting.{Setting, IsSensible}
 use Rattle.rescue_rules.specs.Passes.{Pass, taken, numbered}
 use Rattle.rescue_rules.specs.Machine.{Machine, pass_of, has_taken, is_live, is_wanted, ceiling, Search, search_in, search_of, cut_start, cut_end, IsRequest}
@@ -21,10 +22,9 @@ use Rattle.rescue_rules.proofs.RoundLemmas.{ceiling_above}
 use Rattle.rescue_rules.proofs.StepLemmas.{Asks, request_asks, wanted_domain, asks_back}
 use Rattle.rescue_core.specs.declared.keeper.Keeper.{Keeper}
 use Rattle.rescue_core.specs.declared.settings.Settings.{Settings}
-use Rattle.rescue_core.specs.declared.state.Progress.{Progress}
 use Rattle.rescue_core.specs.RunState.{RunState, setting_in, HasPlaces, IsRunning, run_at}
 use Rattle.rescue_core.specs.Turning.{stepped}
-use Rattle.rescue_core.specs.TurnParts.{progress_of, IsBackOf}
+use Rattle.rescue_core.specs.TurnParts.{IsBackOf}
 use Rattle.rescue_core.proofs.StageLemmas.{running_sensible}
 
 -- no search asks for more than a cluster
@@ -51,7 +51,7 @@ request_few s ok m p q r =
     let f : Search = search_of s m in
     let few : cut_end f s.sector r.start r.end ≤ cut_start f s.sector r.start r.end + f.size
     = cut_few f.front s.sector f.size r.start r.end ok.sector in
-    omega (arith, few, size_most s ok m (pass_of m).phase m.mode (sector_in s ok), r.starts, r.ends)
+    omega (arith, few, size_most s ok m (pass_of m).phase m.progress.mode (sector_in s ok), r.starts, r.ends)
 
 -- what a turn needs of its request: it fits the buffer, the map and the output
 pub record Fits (r : RunState) (room pos len : ℕ) : Type 0 where
@@ -61,7 +61,7 @@ pub record Fits (r : RunState) (room pos len : ℕ) : Type 0 where
   pub there : pos + len ≤ length r.machine.map
   pub short : pos + len < 2 ^ 63
   pub place : pos - r.settings.from + r.settings.to + len < 2 ^ 63
-  pub back : IsBackOf r.machine.mode pos
+  pub back : IsBackOf r.machine.progress.mode pos
   pub wanted : is_wanted (setting_in r) r.machine pos ≡ true
 
 back_of : (mode : TrimMode) (pos : ℕ) → ((low : ℕ) → mode ≡ Tail low → low ≤ pos) → IsBackOf mode pos
@@ -86,7 +86,7 @@ request_fits r room pos len i places request =
       there = asks.there;
       short = omega (arith, asks.there, i.short);
       place = omega (arith, places.low (pos + len - 1) last, i.suits.from pos first);
-      back = back_of r.machine.mode pos
+      back = back_of r.machine.progress.mode pos
           (λ low is. (asks_back s ok r.machine pos (pos + len) low i.order request is).after);
       wanted = asks.wanted pos (omega arith) asks.some;
     }
@@ -114,7 +114,7 @@ pub run_steps : (settings : Settings) (domain : List Range) (map map' : List Sta
     (progress progress' : Progress) (keeper : Keeper) (tally' : Tally) (e : Event)
     → let r : RunState = run_at settings domain map phase progress keeper in
     map' ≡ map_after (setting_in r) r.machine e.reading
-    → progress' ≡ progress_of progress.pass (step (setting_in r) r.machine e)
+    → progress' ≡ (step (setting_in r) r.machine e).progress
     → tally' ≡ (step (setting_in r) r.machine e).tally
     → run_at settings domain map' phase progress' (record keeper { tally = tally' }) ≡ stepped r e keeper.heard
 run_steps settings domain map map' phase progress progress' keeper tally' e map_is place_is tally_is =
@@ -123,4 +123,4 @@ run_steps settings domain map map' phase progress progress' keeper tally' e map_
     let k : Tally → Keeper = λ t. record keeper { tally = t } in
     ap (λ (l : List Status). run_at settings domain l phase progress' (k tally')) map_is
     ∙ ap (λ (p : Progress). run_at settings domain n.map phase p (k tally')) place_is
-    ∙ ap (λ (t : Tally). run_at settings domain n.map phase (progress_of progress.pass n) (k t)) tally_is
+    ∙ ap (λ (t : Tally). run_at settings domain n.map phase n.progress (k t)) tally_is

@@ -9,11 +9,11 @@ use Rattle.faulty_source.specs.Journal.{Reading, kept}
 use Rattle.transfer_token.specs.declared.fetch.Fetched.TheVariants.{Part, Nothing}
 use Rattle.transfer_token.specs.Tokens.{size_of, IsCut}
 use Rattle.rescue_rules.specs.declared.phase.Phase.{Phase}
+use Rattle.rescue_rules.specs.declared.progress.Progress.{Progress}
 use Rattle.rescue_rules.specs.Step.{map_after, rest_status, scraped}
 use Rattle.rescue_core.specs.declared.landing.Kept.{Kept}
 use Rattle.rescue_core.specs.declared.landing.Kept.TheVariants.{Part as PartKept, Nothing as NothingKept}
 use Rattle.rescue_core.specs.declared.settings.Settings.{Settings}
-use Rattle.rescue_core.specs.declared.state.Progress.{Progress}
 use Rattle.rescue_core.specs.RunState.{RunState, setting_in}
 use Rattle.rescue_core.specs.TurnParts.{RunsAt, fetched_of}
 
@@ -33,6 +33,7 @@ pub part_map : (settings : Settings) (phase : Phase) (progress : Progress) (r : 
     (rest_status (setting_in r) r.machine (size_of missed)))
 part_map settings phase progress r reading map pos cut landed missed at is from h cut_is =
     let k : ℕ = kept settings.sector reading in
+    let mode : r.machine.progress.mode ≡ progress.mode = ap (λ (p : Progress). p.mode) at.progress_is in
     let parts : IsCut settings.sector reading (Part landed missed)
     = subst (λ (c : Kept). IsCut settings.sector reading (fetched_of c)) cut_is h in
     let part = parts.0 in
@@ -52,6 +53,7 @@ pub nothing_map : (settings : Settings) (phase : Phase) (progress : Progress) (r
     (rest_status (setting_in r) r.machine (size_of missed)))
 nothing_map settings phase progress r reading map pos cut missed at is from h cut_is =
     let k : ℕ = kept settings.sector reading in
+    let mode : r.machine.progress.mode ≡ progress.mode = ap (λ (p : Progress). p.mode) at.progress_is in
     let parts : IsCut settings.sector reading (Nothing missed)
     = subst (λ (c : Kept). IsCut settings.sector reading (fetched_of c)) cut_is h in
     let part = parts.0 in

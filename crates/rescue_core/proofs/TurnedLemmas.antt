@@ -17,6 +17,7 @@ use Rattle.rescue_rules.specs.Machine.{Machine, pass_of, has_taken, is_live, is_
 use Rattle.rescue_rules.specs.Step.{Event, step}
 use Rattle.rescue_rules.specs.declared.report.Counts.{Counts}
 use Rattle.rescue_rules.specs.declared.tally.Tally.{Tally}
+use Rattle.rescue_rules.specs.declared.progress.Progress.{Progress}
 use Rattle.rescue_rules.specs.Said.{is_line_due}
 use Rattle.rescue_rules.specs.MachineLaws.{StepsBy}
 use Rattle.rescue_rules.proofs.StepLemmas.{move_steps}
@@ -24,13 +25,12 @@ use Rattle.rescue_core.specs.declared.gather.Gathered.{Gathered}
 use Rattle.rescue_core.specs.declared.running.Running.TheInside.{Inside}
 use Rattle.rescue_core.specs.declared.keeper.Keeper.{Keeper}
 use Rattle.rescue_core.specs.declared.settings.Settings.{Settings}
-use Rattle.rescue_core.specs.declared.state.Progress.{Progress}
 use Rattle.rescue_core.specs.declared.turn.Turn.{Turn}
 use Rattle.rescue_core.specs.declared.turn.Advanced.{Advanced}
 use Rattle.rescue_core.specs.Across.{Across}
 use Rattle.rescue_core.specs.RunState.{RunState, setting_in, run_at, HasPlaces, IsRunning, HasCounts}
 use Rattle.rescue_core.specs.Turning.{turn_of, stepped, Halted}
-use Rattle.rescue_core.specs.TurnParts.{progress_of, RunsAt, IsReadOf, Gathers, Advances}
+use Rattle.rescue_core.specs.TurnParts.{RunsAt, IsReadOf, Gathers, Advances}
 use Rattle.rescue_core.specs.After.{Marks, GoesOnAfter}
 use Rattle.rescue_core.proofs.TurnLemmas.{Fits, request_fits, wanted_in, run_steps}
 use Rattle.rescue_core.proofs.RunningLemmas.{running_steps}
@@ -121,7 +121,7 @@ event_steps p r room request got source source' site site' clock clock' b g =
 
 stands_at : (p : Parts) (r : RunState) (room : ℕ) (request : Request) → Begins p r room request
     → RunsAt p.settings p.phase p.progress (run_of p)
-stands_at p r room request b = record { settings_are = refl; pass = b.running.pass; mode = refl; skip = refl }
+stands_at p r room request b = record { settings_are = refl; pass = b.running.pass; progress_is = refl }
 
 -- the marks of a turn are those of its event, and leave the map's length
 marks_map : (p : Parts) (r : RunState) (room : ℕ) (request : Request) (got : Gathered) (old map' : List Status)
@@ -178,11 +178,11 @@ does_step p r room request got map' progress' tally' counts counts' advanced sou
     ∙ ap (λ (l : List Status). is_live s m x && has_taken (numbered p.phase 1 ∷ []) (slice_get l x)) map_is
     ∙ wanted_in s m n.map p.phase p.progress.pass 1 request.pos x (begins_fits p r room request b).wanted b.running.pass in
     let size : length m.map ≡ length d.old = ap (λ (l : List Status). length l) (sym d.old_is) in
-    let place_is : progress' ≡ progress_of p.progress.pass n = d.goes.places before e at read turn size more in
+    let place_is : progress' ≡ n.progress = d.goes.places before e at read turn size more in
     let shown : d.goes.shown ≡ n.tally.shown
     = d.goes.shown_is
     ∙ ap (λ (q : Progress). record { pos = q.cursor; current = current_of p.phase; pass = q.pass }) place_is
-    ∙ ap (λ (q : Pass). record { pos = n.cursor; current = current_of q.phase; pass = q.number }) (sym b.running.pass) in
+    ∙ ap (λ (q : Pass). record { pos = n.progress.cursor; current = current_of q.phase; pass = q.number }) (sym b.running.pass) in
     let tally_is : tally' ≡ n.tally
     = d.goes.tallies before e refl turn g.after shown (d.goes.meets e.reading g.cut) in
     run_steps p.settings p.domain p.map map' p.phase p.progress progress' p.keeper tally' e map_is

@@ -10,12 +10,12 @@ use Rattle.rescue_rules.specs.declared.phase.Phase.{Phase}
 use Rattle.rescue_rules.specs.declared.phase.Phase.TheVariants.{Trimming}
 use Rattle.rescue_rules.specs.declared.stop.TrimMode.{TrimMode}
 use Rattle.rescue_rules.specs.declared.stop.TrimMode.TheVariants.{Lead}
+use Rattle.rescue_rules.specs.declared.progress.Progress.{Progress}
 use Rattle.faulty_source.specs.Ends.{is_before}
 use Rattle.rescue_rules.specs.Setting.{Setting}
 use Rattle.rescue_rules.specs.Passes.{Pass, taken, is_up, numbered}
 use Rattle.rescue_rules.specs.Machine.{Machine, Search, has_taken, is_live, is_wanted, IsWanted, search_of, IsNextRange, cut_start, cut_end, IsRequest, is_ahead, has_request}
 use Rattle.rescue_rules.proofs.SearchLemmas.{request_found}
-use Rattle.rescue_core.specs.declared.state.Progress.{Progress}
 use Rattle.rescue_core.specs.RunState.{RunState, setting_in, led_from, IsLed}
 use Rattle.rescue_core.specs.Search.{IsMarked}
 use Rattle.rescue_core.specs.Requesting.{StandsAt, IsCutOf}
@@ -194,7 +194,7 @@ if_none (Some x) next holds = holds
 
 -- nothing is left to trim before the cursor of a run that trims upwards, before a range
 pub led_clear : (r : RunState) → r.phase ≡ Trimming → is_up (setting_in r) (numbered r.phase r.pass) ≡ true
-    → r.machine.mode ≡ Lead → IsLed r
-    → IsClear (is_live (setting_in r) r.machine) r.machine.map r.machine.cursor
+    → r.machine.progress.mode ≡ Lead → IsLed r
+    → IsClear (is_live (setting_in r) r.machine) r.machine.map r.machine.progress.cursor
 led_clear r phase up lead led x below marked =
-    led phase up x (subst (λ (mode : TrimMode). x < led_from mode r.machine.cursor) (sym lead) below) marked.within marked.has
+    led phase up x (subst (λ (mode : TrimMode). x < led_from mode r.machine.progress.cursor) (sym lead) below) marked.within marked.has

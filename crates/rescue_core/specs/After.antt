@@ -13,6 +13,7 @@ use Rattle.rescue_rules.specs.declared.phase.Phase.{Phase}
 use Rattle.rescue_rules.specs.declared.phase.Phase.TheVariants.{Trimming}
 use Rattle.rescue_rules.specs.declared.report.Counts.{Counts}
 use Rattle.rescue_rules.specs.declared.tally.Tally.{Tally}
+use Rattle.rescue_rules.specs.declared.progress.Progress.{Progress}
 use Rattle.rescue_rules.specs.Passes.{numbered, current_of}
 use Rattle.rescue_rules.specs.Machine.{Machine, has_taken, is_wanted}
 use Rattle.rescue_rules.specs.Said.{is_line_due}
@@ -20,12 +21,11 @@ use Rattle.rescue_rules.specs.Step.{Event, is_timely, map_after, step}
 use Rattle.rescue_core.specs.declared.gather.Gathered.{Gathered}
 use Rattle.rescue_core.specs.declared.landing.Kept.{Kept}
 use Rattle.rescue_core.specs.declared.settings.Settings.{Settings}
-use Rattle.rescue_core.specs.declared.state.Progress.{Progress}
 use Rattle.rescue_core.specs.declared.turn.Turn.{Turn}
 use Rattle.rescue_core.specs.declared.turn.Advanced.{Advanced}
 use Rattle.rescue_core.specs.RunState.{RunState, setting_in, HasCounts}
 use Rattle.rescue_core.specs.Turning.{turn_of, stepped}
-use Rattle.rescue_core.specs.TurnParts.{RunsAt, IsReadOf, progress_of, fetched_of, end_met}
+use Rattle.rescue_core.specs.TurnParts.{RunsAt, IsReadOf, fetched_of, end_met}
 use Rattle.rescue_core.specs.Counting.{IsMarkedRead}
 
 -- the marks of what was kept
@@ -46,7 +46,7 @@ Places settings phase progress request turn top more progress' =
     → turn ≡ turn_of r e → length r.machine.map ≡ top
     → (phase ≡ Trimming → more ≡ is_wanted (setting_in r)
     (record r.machine { map = map_after (setting_in r) r.machine e.reading }) (request.pos + request.len))
-    → progress' ≡ progress_of progress.pass (step (setting_in r) r.machine e)
+    → progress' ≡ (step (setting_in r) r.machine e).progress
 
 -- what the run has come to after the read
 abbrev pub Tallies : Tally → Turn → (after : ℕ) → MapState → (end : Option ℕ) → Tally → Type 0

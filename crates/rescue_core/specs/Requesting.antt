@@ -2,10 +2,10 @@
 use Rattle.std.specs.Prelude.{◌≡◌, ℕ, Bool, List, ◌∷◌, drop, Option}
 use Rattle.block_list.specs.declared.status.Status.{Status}
 use Rattle.rescue_rules.specs.declared.phase.Phase.{Phase}
+use Rattle.rescue_rules.specs.declared.progress.Progress.{Progress}
 use Rattle.rescue_rules.specs.Passes.{numbered}
 use Rattle.rescue_rules.specs.Machine.{Machine, Search as RulesSearch, IsNextRange, cut_start, cut_end}
 use Rattle.rescue_core.specs.declared.request.Search.{Search}
-use Rattle.rescue_core.specs.declared.state.Progress.{Progress}
 use Rattle.rescue_core.specs.Search.{IsMarked}
 
 -- a search, as the rules have it
@@ -16,8 +16,7 @@ search_by f = record { up = f.up; from = f.from; front = f.front; size = f.size 
 pub record StandsAt (m : Machine) (phase : Phase) (progress : Progress) (statuses : List Status) (end : Option ℕ)
     : Type 0 where
   pub passes : m.passes ≡ numbered phase progress.pass ∷ drop 1 m.passes
-  pub cursor : m.cursor ≡ progress.cursor
-  pub mode : m.mode ≡ progress.mode
+  pub progress_is : m.progress ≡ progress
   pub map : m.map ≡ statuses
   pub over : m.tally.over ≡ end
 

@@ -17,12 +17,12 @@ use Rattle.rescue_rules.specs.Machine.{Machine, pass_of, is_live}
 use Rattle.rescue_rules.specs.MachineLaws.{IsInOrder}
 use Rattle.rescue_rules.specs.Moves.{begun}
 use Rattle.rescue_rules.specs.declared.report.Counts.{Counts}
+use Rattle.rescue_rules.specs.declared.progress.Progress.{Progress}
 use Rattle.rescue_rules.specs.Counts.{counts_of}
 use Rattle.rescue_rules.specs.Beginning.{first_pass, shown_at_first, machine_of}
 use Rattle.rescue_domain.specs.Parts.{covers}
 use Rattle.rescue_core.specs.declared.keeper.Keeper.{Keeper}
 use Rattle.rescue_core.specs.declared.settings.Settings.{Settings}
-use Rattle.rescue_core.specs.declared.state.Progress.{Progress}
 
 -- A run's settings, its domain, the names of its mapfile and its draft if there is a mapfile, and the command line. The
 -- phase and the pass that it is in, and how far it is. Whether it is heard: lines are asked for, and each was put.
@@ -98,9 +98,7 @@ abbrev pub machine_at : Setting → List Status → Phase → Progress → Tally
 machine_at s map phase progress tally = record {
   map = map;
   passes = passes_from s phase progress.pass;
-  cursor = progress.cursor;
-  mode = progress.mode;
-  skip = progress.skip;
+  progress = progress;
   tally = tally;
 }
 
@@ -129,7 +127,7 @@ led_from (Tail low) cursor = low
 -- a run that trims upwards has left nothing of the domain to trim before the place that its trimming has come to
 abbrev pub IsLed : RunState → Type 0
 IsLed r = r.phase ≡ Trimming → is_up (setting_in r) (numbered r.phase r.pass) ≡ true → (x : ℕ)
-    → x < led_from r.machine.mode r.machine.cursor → is_live (setting_in r) r.machine x ≡ true
+    → x < led_from r.machine.progress.mode r.machine.progress.cursor → is_live (setting_in r) r.machine x ≡ true
     → Has r.machine.map NonTrimmed x → ⊥
 
 -- what holds of a run between its turns, with a buffer for `room` bytes
@@ -137,8 +135,8 @@ pub record IsRunning (r : RunState) (room : ℕ) : Type 0 where
   pub sound : IsSound r.settings
   pub suits : Suits r.settings (covers r.domain) (length r.machine.map)
   pub short : length r.machine.map < 2 ^ 63
-  pub cursor : r.machine.cursor ≤ length r.machine.map
-  pub skip : r.machine.skip ≤ r.settings.skips.most
+  pub cursor : r.machine.progress.cursor ≤ length r.machine.map
+  pub skip : r.machine.progress.skip ≤ r.settings.skips.most
   pub order : IsInOrder (setting_in r) r.machine
   -- the pass that it is in is one of its phase
   pub pass : pass_of r.machine ≡ numbered r.phase r.pass

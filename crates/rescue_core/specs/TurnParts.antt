@@ -13,9 +13,10 @@ use Rattle.transfer_token.specs.Tokens.{IsCut}
 use Rattle.rescue_rules.specs.declared.phase.Phase.{Phase}
 use Rattle.rescue_rules.specs.declared.stop.TrimMode.{TrimMode}
 use Rattle.rescue_rules.specs.declared.stop.TrimMode.TheVariants.{Lead, Tail}
+use Rattle.rescue_rules.specs.declared.progress.Progress.{Progress}
 use Rattle.rescue_rules.specs.Setting.{Setting, place}
 use Rattle.rescue_rules.specs.Passes.{numbered}
-use Rattle.rescue_rules.specs.Machine.{Machine, pass_of}
+use Rattle.rescue_rules.specs.Machine.{pass_of}
 use Rattle.rescue_rules.specs.Said.{is_line_due}
 use Rattle.rescue_rules.specs.Step.{Event, is_timely}
 use Rattle.rescue_rules.specs.RunCalls.{write_calls}
@@ -23,22 +24,16 @@ use Rattle.rescue_core.specs.declared.gather.Gathered.{Gathered}
 use Rattle.rescue_core.specs.declared.landing.Kept.{Kept}
 use Rattle.rescue_core.specs.declared.landing.Kept.TheVariants.{Whole as WholeKept, Part as PartKept, Nothing as NothingKept, Ended as EndedKept, Empty as EmptyKept}
 use Rattle.rescue_core.specs.declared.settings.Settings.{Settings}
-use Rattle.rescue_core.specs.declared.state.Progress.{Progress}
 use Rattle.rescue_core.specs.declared.timed.Timed.{Timed}
 use Rattle.rescue_core.specs.declared.turn.Advanced.{Advanced}
 use Rattle.rescue_core.specs.RunState.{RunState, setting_in}
 use Rattle.rescue_core.specs.Turning.{IsEvent, turn_of, stepped, move_by}
 
--- where a state stands, in a pass with this number
-abbrev pub progress_of : (pass : ℕ) → Machine → Progress
-progress_of pass m = record { pass = pass; cursor = m.cursor; mode = m.mode; skip = m.skip }
-
 -- a run with these settings, in this phase and at this place
 pub record RunsAt (settings : Settings) (phase : Phase) (progress : Progress) (r : RunState) : Type 0 where
   pub settings_are : r.settings ≡ settings
   pub pass : pass_of r.machine ≡ numbered phase progress.pass
-  pub mode : r.machine.mode ≡ progress.mode
-  pub skip : r.machine.skip ≡ progress.skip
+  pub progress_is : r.machine.progress ≡ progress
 
 -- a read of what was requested, which gave this number of bytes, and met the input's end or didn't
 pub record IsReadOf (request : Request) (given : ℕ) (ended : Bool) (reading : Reading) : Type 0 where

@@ -19,7 +19,6 @@ pub mod running;
 mod save_now;
 pub mod search;
 pub mod settings;
-pub mod state;
 mod tally;
 mod timed;
 pub mod turn;

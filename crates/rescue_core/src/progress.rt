@@ -1,20 +1,67 @@
-//! Where a run is after a read.
-ghost use Rattle.std.specs.Prelude.{◌≡◌, ◌+◌, ◌<◌, ◌≤◌, ◌^◌, length};
+//! Where a run is at the start of a pass, and after a read.
+ghost use Rattle.std.specs.Prelude.{◌≡◌, ℕ, ◌+◌, ◌<◌, ◌≤◌, ◌^◌, List, length, Option};
+ghost use Rattle.block_list.specs.declared.block.Range.{Range};
+ghost use Rattle.block_list.specs.declared.status.Status.{Status};
+ghost use Rattle.save_resume.specs.MapNames.{MapNames};
+ghost use Rattle.rescue_rules.specs.declared.phase.Phase.{Phase};
 ghost use Rattle.rescue_rules.specs.declared.phase.Phase.TheVariants.{Trimming};
+ghost use Rattle.rescue_rules.specs.declared.stop.TrimMode.TheVariants.{Lead};
 ghost use Rattle.rescue_rules.specs.Passes.{numbered};
-ghost use Rattle.rescue_rules.specs.Machine.{pass_of, is_wanted};
+ghost use Rattle.rescue_rules.specs.Machine.{pass_of, start_of, is_wanted};
 ghost use Rattle.rescue_rules.specs.Step.{Event, map_after, is_jump, cursor_after, mode_after, skip_after, step};
-ghost use Rattle.rescue_core.specs.RunState.{RunState, setting_in, IsSound};
+ghost use Rattle.rescue_rules.specs.Beginning.{first_pass, first_cursor};
+ghost use Rattle.rescue_core.specs.RunState.{RunState, setting_in, setting_with, IsSound};
 ghost use Rattle.rescue_core.specs.Turning.{turn_of};
-ghost use Rattle.rescue_core.specs.TurnParts.{RunsAt, IsReadOf, progress_of};
+ghost use Rattle.rescue_core.specs.TurnParts.{RunsAt, IsReadOf};
 
-use crate::request::is_up;
+use crate::request::{is_up, start_of};
 use crate::settings::Settings;
-use crate::state::Progress;
 use crate::turn::Turn;
-use rescue_rules::phase::Phase;
+use mapfile_text::state::MapState;
+use rescue_rules::phase::{COPYING_PASSES, Phase};
+use rescue_rules::progress::Progress;
 use rescue_rules::stop::TrimMode;
 use transfer_token::token::Request;
+
+/// The start of a pass over a map that ends at `end`.
+pub(crate) fn progress_at_start(settings: &Settings, pass: u32, end: u64) -> Progress
+    ensures pass { result.pass ≡ pass }
+    ensures cursor { (domain : List Range) (names : Option MapNames) (line : List ℕ) (phase : Phase)
+        (map : List Status) → length map ≡ end
+        → result.cursor ≡ start_of (setting_with settings.now domain names line) (numbered phase pass) map }
+    ensures mode { result.mode ≡ Lead }
+    ensures skip { result.skip ≡ settings.now.skips.first }
+{
+    Progress {
+        pass,
+        cursor: start_of(settings, pass, end),
+        mode: TrimMode::Lead,
+        skip: settings.skips.first,
+    }
+}
+
+/// Where a run over a map that ends at `end` begins, which may go on from a state that a mapfile showed.
+pub(crate) fn first_progress(settings: &Settings, loaded: Option<MapState>, end: u64) -> Progress
+    ensures pass { result.pass ≡ first_pass loaded }
+    ensures cursor { (domain : List Range) (names : Option MapNames) (line : List ℕ) (map : List Status)
+        → length map ≡ end → result.cursor ≡ first_cursor (setting_with settings.now domain names line) loaded map }
+    ensures mode { result.mode ≡ Lead }
+    ensures skip { result.skip ≡ settings.now.skips.first }
+{
+    let Some(state) = loaded else {
+        return progress_at_start(settings, 1, end);
+    };
+    let pass = state.pass.min(COPYING_PASSES);
+    let progress = progress_at_start(settings, pass, end);
+    if pass == COPYING_PASSES {
+        progress
+    } else {
+        Progress {
+            cursor: state.pos.min(end),
+            ..progress
+        }
+    }
+}
 
 /// Goes on to where a run is after a read, in a map of this many positions. While it trims, `more` says whether the
 /// position after the read is asked for.
@@ -38,7 +85,7 @@ pub(crate) fn progress_after(
         → (phase ≡ Trimming
         → more ≡ is_wanted (setting_in r)
         (record r.machine { map = map_after (setting_in r) r.machine e.reading }) (request.pos + request.len))
-        → progress.new ≡ progress_of progress.old.pass (step (setting_in r) r.machine e) }
+        → progress.new ≡ (step (setting_in r) r.machine e).progress }
 {
     let jumped = jumps(phase, progress.pass, turn);
     progress.cursor = next_cursor(settings, phase, *progress, top, request, turn, jumped);
@@ -93,8 +140,9 @@ fn next_cursor(
 /// How far copying jumps next.
 fn next_skip(settings: &Settings, skip: u64, jumped: bool, turn: Turn) -> u64
     requires small { skip < 2 ^ 63 }
-    ensures { (r : RunState) (e : Event) → r.settings ≡ settings.now → r.machine.skip ≡ skip → turn ≡ turn_of r e
-        → jumped ≡ is_jump (setting_in r) r.machine e → result ≡ skip_after (setting_in r) r.machine e }
+    ensures { (r : RunState) (e : Event) → r.settings ≡ settings.now → r.machine.progress.skip ≡ skip
+        → turn ≡ turn_of r e → jumped ≡ is_jump (setting_in r) r.machine e
+        → result ≡ skip_after (setting_in r) r.machine e }
 {
     if jumped {
         settings.skips.most.min(2 * skip)

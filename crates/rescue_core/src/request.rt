@@ -16,12 +16,12 @@ ghost use Rattle.rescue_core.specs.Requesting.{search_by, StandsAt, IsCutOf};
 
 use crate::search::{find_down, find_up};
 use crate::settings::Settings;
-use crate::state::Progress;
 use block_list::block::Range;
 use block_list::status::Status;
 use block_list::tiles::Tiles;
 use rescue_domain::live::Live;
 use rescue_rules::phase::Phase;
+use rescue_rules::progress::Progress;
 use rescue_rules::stop::TrimMode;
 use transfer_token::token::Request;
 

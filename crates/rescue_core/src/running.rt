@@ -25,9 +25,9 @@ use crate::counts::counts_at_first;
 use crate::gather::gather;
 use crate::keeper::Keeper;
 use crate::limit::limit_met;
+use crate::progress::{first_progress, progress_at_start};
 use crate::request::{leads_up, next_lead, next_request};
 use crate::settings::Settings;
-use crate::state::Progress;
 use crate::turn::{Advanced, Turn};
 use block_list::tiles::Tiles;
 use crash_site::site::Site;
@@ -39,6 +39,7 @@ use rescue_console::console::Console;
 use rescue_domain::domain::Domain;
 use rescue_domain::live::Live;
 use rescue_rules::phase::Phase;
+use rescue_rules::progress::Progress;
 use rescue_rules::report::Counts;
 use rescue_rules::stop::{Limit, Stop};
 use rescue_rules::tally::Tally;
@@ -100,7 +101,7 @@ impl<T: Tiles> Running<T> {
         requires pass { IfSome loaded (λ state. 0 < state.pass) }
         ensures { result ≡ started settings domain names heading.line (T.statuses tiles) loaded moment heard }
     {
-        let progress = Progress::first(&settings, loaded, tiles.end());
+        let progress = first_progress(&settings, loaded, tiles.end());
         let counts = counts_at_first(&domain, &tiles);
         let tally = Tally::first(loaded, moment, counts.failed.areas);
         Running {
@@ -154,7 +155,7 @@ impl<T: Tiles> Running<T> {
         ensures { self.new ≡ passed self.old phase pass }
     {
         self.phase = phase;
-        self.progress = Progress::at_start(&self.settings, pass, self.tiles.end());
+        self.progress = progress_at_start(&self.settings, pass, self.tiles.end());
     }
 
     /// Shows a state until the first event.

@@ -12,11 +12,11 @@ ghost use Rattle.rescue_core.specs.TurnParts.{IsReadOf, end_met};
 
 use crate::due::{Due, pass_event};
 use crate::settings::Settings;
-use crate::state::Progress;
 use crate::turn::Turn;
 use faulty_source::source::Got;
 use mapfile_text::state::{Current, MapState};
 use rescue_rules::phase::Phase;
+use rescue_rules::progress::Progress;
 use rescue_rules::tally::Tally;
 use transfer_token::token::Request;
 

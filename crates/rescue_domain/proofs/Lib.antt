@@ -1,5 +1,6 @@
 -- Other crates cite these.
 pub mod PlaceLemmas
+pub mod SizeLemmas
 pub mod TestingLemmas
 -- These are the crate's own.
 mod FinishedLemmas
@@ -7,4 +8,3 @@ mod MadeLemmas
 mod PartsLemmas
 mod SearchLemmas
 mod StretchLemmas
-mod SizeLemmas

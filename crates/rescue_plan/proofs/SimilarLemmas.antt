@@ -90,7 +90,7 @@ map_by s m pos asked n over =
     let good : List Status = marked m.map pos (kept_by s.sector pos asked n over) Finished in
     let rest : ℕ = asked - kept_by s.sector pos asked n over in
     if failed_by asked n over
-    then scraped m.mode pos (marked good (pos + kept_by s.sector pos asked n over) rest (rest_status s m rest))
+    then scraped m.progress.mode pos (marked good (pos + kept_by s.sector pos asked n over) rest (rest_status s m rest))
     else good
 
 abbrev jump_by : Machine → (asked n : ℕ) → (over slow : Bool) → Bool
@@ -99,7 +99,7 @@ jump_by m asked n over slow = is_copying m
 
 abbrev cursor_by : Setting → Machine → (pos asked n : ℕ) → (over slow : Bool) → ℕ
 cursor_by s m pos asked n over slow =
-    let jump : ℕ = if jump_by m asked n over slow then m.skip else 0 in
+    let jump : ℕ = if jump_by m asked n over slow then m.progress.skip else 0 in
     if is_trimming m then pos
     else if is_up s (pass_of m) then min (length m.map) (pos + (if over then n else asked) + jump)
     else pos - jump
@@ -108,12 +108,14 @@ abbrev after_by : Setting → Machine → (pos asked n : ℕ) → (over slow : B
 after_by s m pos asked n over slow =
     let marks : Machine = record m { map = map_by s m pos asked n over } in
     quiet (record marks {
-      cursor = cursor_by s m pos asked n over slow;
-      mode = if is_trimming m
-          then mode_after m.mode (not (failed_by asked n over)) (is_wanted s marks (pos + asked)) pos (pos + asked)
-          else Lead;
-      skip = if jump_by m asked n over slow then min (2 * m.skip) s.skips.most
-          else if failed_by asked n over || slow then m.skip else s.skips.first;
+      progress = record m.progress {
+        cursor = cursor_by s m pos asked n over slow;
+        mode = if is_trimming m
+            then mode_after m.progress.mode (not (failed_by asked n over)) (is_wanted s marks (pos + asked)) pos (pos + asked)
+            else Lead;
+        skip = if jump_by m asked n over slow then min (2 * m.progress.skip) s.skips.most
+            else if failed_by asked n over || slow then m.progress.skip else s.skips.first;
+      };
       tally = record m.tally { over = if over then Some (earlier m.tally.over (pos + n)) else m.tally.over };
     })
 

@@ -53,7 +53,7 @@ scraped_passes test blind (Tail low) p map x there back between =
 
 -- at a run's back, what lies before the request is to be trimmed
 between_trimmed : (s : Setting) (m : Machine) (r : Reading) (low x : ℕ) → IsInOrder s m → Taking s m r
-    → m.mode ≡ Tail low → low ≤ x → x < r.pos → Has m.map NonTrimmed x
+    → m.progress.mode ≡ Tail low → low ≤ x → x < r.pos → Has m.map NonTrimmed x
 between_trimmed s m r low x order t is from to =
     subst (λ (phase : Phase). Has m.map (taken phase) x) (trims_is (pass_of m).phase (tail_trims s m low order is))
     (wanted_taken s m x ((t.back low is).wanted x from to))
@@ -62,10 +62,10 @@ between_trimmed s m r low x order t is from to =
 apart_passes : (test : Status → Bool) → IsBlind test → (s : Setting) (m : Machine) (r : Reading) (x : ℕ) → IsInOrder s m
     → Taking s m r → Apart r x → passes test (slice_get (map_after s m r) x) ≡ passes test (slice_get m.map x)
 apart_passes test blind s m r x order t apart =
-    cond_both (is_failed r) (scraped m.mode r.pos (with_rest s m r)) (with_kept s m r)
+    cond_both (is_failed r) (scraped m.progress.mode r.pos (with_rest s m r)) (with_kept s m r)
     (λ (map : List Status). passes test (slice_get map x) ≡ passes test (slice_get m.map x))
     (λ failed.
-    scraped_passes test blind m.mode r.pos (with_rest s m r) x (pos_there s m r t) (back_low s m r t)
+    scraped_passes test blind m.progress.mode r.pos (with_rest s m r) x (pos_there s m r t) (back_low s m r t)
     (λ low is from to. rest_apart s m r x t (inl to) ∙ between_trimmed s m r low x order t is from to)
     ∙ ap (passes test) (rest_apart s m r x t apart))
     (λ good. ap (passes test) (kept_apart s m r x t apart))

@@ -17,7 +17,7 @@ use Rattle.rescue_rules.specs.MachineLaws.{IsInOrder, HasNone, StateLeadsOn}
 use Rattle.rescue_rules.proofs.SearchLemmas.{wanted_found}
 
 -- The mode at a pass's start is in order.
-pub order_lead : (s : Setting) (m : Machine) → m.mode ≡ Lead → IsInOrder s m
+pub order_lead : (s : Setting) (m : Machine) → m.progress.mode ≡ Lead → IsInOrder s m
 order_lead s m is = record {
   tail = λ low at. let e : Tail low ≡ Lead = sym at ∙ is in absurd (cc);
   lead = λ off. is;

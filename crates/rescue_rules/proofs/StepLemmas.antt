@@ -52,7 +52,7 @@ request_inside s ok m p q r =
     let f : Search = search_of s m in
     let begun : r.start < r.end = (next_stretch f.up (IsWanted s m) f.from r.start r.end r.range).begun in
     let i : Inside r.start r.end (cut_start f s.sector r.start r.end) (cut_end f s.sector r.start r.end)
-    = cut_inside f.front s.sector f.size r.start r.end ok.sector (size_in s ok m (pass_of m).phase m.mode) begun in
+    = cut_inside f.front s.sector f.size r.start r.end ok.sector (size_in s ok m (pass_of m).phase m.progress.mode) begun in
     subst (λ (x : ℕ). Inside r.start r.end x q) (sym r.starts)
     (subst (λ (x : ℕ). Inside r.start r.end (cut_start f s.sector r.start r.end) x) (sym r.ends) i)
 
@@ -97,16 +97,16 @@ pub trims_is : (phase : Phase) → trims phase ≡ true → phase ≡ Trimming
 trims_is Trimming is = refl
 trims_is _ is = absurd (cc)
 
-pub tail_trims : (s : Setting) (m : Machine) (low : ℕ) → IsInOrder s m → m.mode ≡ Tail low → is_trimming m ≡ true
+pub tail_trims : (s : Setting) (m : Machine) (low : ℕ) → IsInOrder s m → m.progress.mode ≡ Tail low → is_trimming m ≡ true
 tail_trims s m low order is = true_from_ne_false (is_trimming m) (λ off. let e : Tail low ≡ Lead = sym is ∙ order.lead off in absurd (cc))
 
-tail_search : (s : Setting) (m : Machine) (low : ℕ) → IsInOrder s m → m.mode ≡ Tail low
+tail_search : (s : Setting) (m : Machine) (low : ℕ) → IsInOrder s m → m.progress.mode ≡ Tail low
     → search_of s m ≡ search_in s m Trimming (Tail low)
 tail_search s m low order is =
-    ap (λ phase. search_in s m phase m.mode) (trims_is (pass_of m).phase (tail_trims s m low order is))
+    ap (λ phase. search_in s m phase m.progress.mode) (trims_is (pass_of m).phase (tail_trims s m low order is))
     ∙ ap (search_in s m Trimming) is
 
-tail_start : (s : Setting) (m : Machine) (p q low : ℕ) → IsInOrder s m → m.mode ≡ Tail low → (r : IsRequest s m p q)
+tail_start : (s : Setting) (m : Machine) (p q low : ℕ) → IsInOrder s m → m.progress.mode ≡ Tail low → (r : IsRequest s m p q)
     → r.start ≡ low
 tail_start s m p q low order is r =
     let range : IsNextRange true (IsWanted s m) low r.start r.end
@@ -119,7 +119,7 @@ pub record AsksBack (s : Setting) (m : Machine) (p low : ℕ) : Type 0 where
   pub wanted : (x : ℕ) → low ≤ x → x < p → is_wanted s m x ≡ true
 
 pub asks_back : (s : Setting) (ok : IsSensible s) (m : Machine) (p q low : ℕ) → IsInOrder s m → IsRequest s m p q
-    → m.mode ≡ Tail low → AsksBack s m p low
+    → m.progress.mode ≡ Tail low → AsksBack s m p low
 asks_back s ok m p q low order r is =
     let f : Search = search_of s m in
     let range : Stretch (IsWanted s m) r.start r.end = next_stretch f.up (IsWanted s m) f.from r.start r.end r.range in
@@ -163,7 +163,7 @@ scraped_only (Tail low) p map x there back has =
 -- a read of a request, of which no more is kept than was asked for
 pub record Taking (s : Setting) (m : Machine) (r : Reading) : Type 0 where
   pub asks : Asks s m r.pos (r.pos + r.asked)
-  pub back : (low : ℕ) → m.mode ≡ Tail low → AsksBack s m r.pos low
+  pub back : (low : ℕ) → m.progress.mode ≡ Tail low → AsksBack s m r.pos low
   pub few : kept s.sector r ≤ r.asked
 
 pub read_takes : (s : Setting) (m : Machine) (r : Reading) → IsSensible s → IsInOrder s m
@@ -197,7 +197,7 @@ length-with_rest s m r t =
     (rest_status s m (r.asked - kept s.sector r)) (rest_there s m r t)
     ∙ length-with_kept s m r t
 
-pub back_low : (s : Setting) (m : Machine) (r : Reading) → Taking s m r → (low : ℕ) → m.mode ≡ Tail low → low ≤ r.pos
+pub back_low : (s : Setting) (m : Machine) (r : Reading) → Taking s m r → (low : ℕ) → m.progress.mode ≡ Tail low → low ≤ r.pos
 back_low s m r t low is = (t.back low is).after
 
 pub pos_there : (s : Setting) (m : Machine) (r : Reading) → Taking s m r → r.pos ≤ length (with_rest s m r)
@@ -206,9 +206,9 @@ pos_there s m r t = omega (arith, length-with_rest s m r t, t.asks.there)
 -- a read leaves the map's length
 pub length-map_after : (s : Setting) (m : Machine) (r : Reading) → Taking s m r → length (map_after s m r) ≡ length m.map
 length-map_after s m r t =
-    cond_both (is_failed r) (scraped m.mode r.pos (with_rest s m r)) (with_kept s m r)
+    cond_both (is_failed r) (scraped m.progress.mode r.pos (with_rest s m r)) (with_kept s m r)
     (λ (map : List Status). length map ≡ length m.map)
-    (λ failed. length-scraped m.mode r.pos (with_rest s m r) (pos_there s m r t) (back_low s m r t)
+    (λ failed. length-scraped m.progress.mode r.pos (with_rest s m r) (pos_there s m r t) (back_low s m r t)
     ∙ length-with_rest s m r t)
     (λ good. length-with_kept s m r t)
 
@@ -232,11 +232,11 @@ rest_apart s m r x t apart =
 
 -- a read leaves what is outside, but for what lies between a range's front and its back
 after_apart : (s : Setting) (m : Machine) (r : Reading) (x : ℕ) → Taking s m r → Apart r x
-    → ((low : ℕ) → m.mode ≡ Tail low → (x < low) ⊎ (r.pos ≤ x)) → slice_get (map_after s m r) x ≡ slice_get m.map x
+    → ((low : ℕ) → m.progress.mode ≡ Tail low → (x < low) ⊎ (r.pos ≤ x)) → slice_get (map_after s m r) x ≡ slice_get m.map x
 after_apart s m r x t apart off =
-    cond_both (is_failed r) (scraped m.mode r.pos (with_rest s m r)) (with_kept s m r)
+    cond_both (is_failed r) (scraped m.progress.mode r.pos (with_rest s m r)) (with_kept s m r)
     (λ (map : List Status). slice_get map x ≡ slice_get m.map x)
-    (λ failed. scraped_outside m.mode r.pos (with_rest s m r) x (pos_there s m r t) (back_low s m r t) off
+    (λ failed. scraped_outside m.progress.mode r.pos (with_rest s m r) x (pos_there s m r t) (back_low s m r t) off
     ∙ rest_apart s m r x t apart)
     (λ good. kept_apart s m r x t apart)
 
@@ -244,10 +244,10 @@ after_apart s m r x t apart off =
 only_apart : (s : Setting) (m : Machine) (r : Reading) (x : ℕ) → Taking s m r → Apart r x → Has (map_after s m r) Finished x
     → Has m.map Finished x
 only_apart s m r x t apart =
-    cond_both (is_failed r) (scraped m.mode r.pos (with_rest s m r)) (with_kept s m r)
+    cond_both (is_failed r) (scraped m.progress.mode r.pos (with_rest s m r)) (with_kept s m r)
     (λ (map : List Status). Has map Finished x → Has m.map Finished x)
     (λ failed has. sym (rest_apart s m r x t apart)
-    ∙ scraped_only m.mode r.pos (with_rest s m r) x (pos_there s m r t) (back_low s m r t) has)
+    ∙ scraped_only m.progress.mode r.pos (with_rest s m r) x (pos_there s m r t) (back_low s m r t) has)
     (λ good has. sym (kept_apart s m r x t apart) ∙ has)
 
 -- what is kept becomes finished
@@ -256,9 +256,9 @@ pub kept_finished : (s : Setting) (m : Machine) (r : Reading) (x : ℕ) → Taki
 kept_finished s m r x t from to =
     let is : Has (with_kept s m r) Finished x
     = marked_inside m.map r.pos (kept s.sector r) Finished x (omega (arith, t.asks.there, t.few)) from to in
-    cond_both (is_failed r) (scraped m.mode r.pos (with_rest s m r)) (with_kept s m r)
+    cond_both (is_failed r) (scraped m.progress.mode r.pos (with_rest s m r)) (with_kept s m r)
     (λ (map : List Status). Has map Finished x)
-    (λ failed. scraped_outside m.mode r.pos (with_rest s m r) x (pos_there s m r t) (back_low s m r t) (λ low at. inr from)
+    (λ failed. scraped_outside m.progress.mode r.pos (with_rest s m r) x (pos_there s m r t) (back_low s m r t) (λ low at. inr from)
     ∙ marked_outside (with_kept s m r) (r.pos + kept s.sector r) (r.asked - kept s.sector r)
     (rest_status s m (r.asked - kept s.sector r)) x (rest_there s m r t) (inl to)
     ∙ is)
@@ -275,8 +275,8 @@ pub rest_marked : (s : Setting) (m : Machine) (r : Reading) (x : ℕ) → Taking
     → Has (map_after s m r) (rest_status s m (r.asked - kept s.sector r)) x
 rest_marked s m r x t failed from to =
     ap (λ (map : List Status). slice_get map x)
-    (cond-true (is_failed r) (scraped m.mode r.pos (with_rest s m r)) (with_kept s m r) failed)
-    ∙ scraped_outside m.mode r.pos (with_rest s m r) x (pos_there s m r t) (back_low s m r t)
+    (cond-true (is_failed r) (scraped m.progress.mode r.pos (with_rest s m r)) (with_kept s m r) failed)
+    ∙ scraped_outside m.progress.mode r.pos (with_rest s m r) x (pos_there s m r t) (back_low s m r t)
     (λ low at. inr (omega (arith, from)))
     ∙ marked_inside (with_kept s m r) (r.pos + kept s.sector r) (r.asked - kept s.sector r)
     (rest_status s m (r.asked - kept s.sector r)) x (rest_there s m r t) from (omega (arith, t.few))
@@ -286,7 +286,7 @@ pub rest_stands : (s : Setting) (m : Machine) (r : Reading) (x : ℕ) → Taking
     → r.pos + kept s.sector r ≤ x → slice_get (map_after s m r) x ≡ slice_get m.map x
 rest_stands s m r x t good from =
     ap (λ (map : List Status). slice_get map x)
-    (cond-false (is_failed r) (scraped m.mode r.pos (with_rest s m r)) (with_kept s m r) good)
+    (cond-false (is_failed r) (scraped m.progress.mode r.pos (with_rest s m r)) (with_kept s m r) good)
     ∙ marked_outside m.map r.pos (kept s.sector r) Finished x (omega (arith, t.asks.there, t.few)) (inr from)
 
 -- so it isn't finished
@@ -324,7 +324,7 @@ finished_apart s m r x t has =
     (cases_lt x r.pos)
 
 finished_off : (s : Setting) (m : Machine) (r : Reading) (x : ℕ) → Taking s m r → Has m.map Finished x → (low : ℕ)
-    → m.mode ≡ Tail low → (x < low) ⊎ (r.pos ≤ x)
+    → m.progress.mode ≡ Tail low → (x < low) ⊎ (r.pos ≤ x)
 finished_off s m r x t has low is =
     ⊎_elim (λ (lt : x < low). inl lt)
     (λ (from : low ≤ x). ⊎_elim
@@ -347,13 +347,13 @@ tail_after (Tail at) true more p q low P new old is =
 tail_after (Tail at) false more p q low P new old is = absurd (cc)
 
 step_tail : (s : Setting) (m : Machine) (e : Event) → IsInOrder s m → Taking s m e.reading → (low : ℕ)
-    → (step s m e).mode ≡ Tail low → is_wanted s (step s m e) low ≡ true
+    → (step s m e).progress.mode ≡ Tail low → is_wanted s (step s m e) low ≡ true
 step_tail s m e order t low =
     let r : Reading = e.reading in
     let n : Machine = record m { map = map_after s m r } in
-    cond_both (is_trimming m) (mode_after m.mode (not (is_failed r)) (is_wanted s n (r.pos + r.asked)) r.pos (r.pos + r.asked)) Lead
+    cond_both (is_trimming m) (mode_after m.progress.mode (not (is_failed r)) (is_wanted s n (r.pos + r.asked)) r.pos (r.pos + r.asked)) Lead
     (λ (mode : TrimMode). mode ≡ Tail low → is_wanted s (step s m e) low ≡ true)
-    (λ on. tail_after m.mode (not (is_failed r)) (is_wanted s n (r.pos + r.asked)) r.pos (r.pos + r.asked) low
+    (λ on. tail_after m.progress.mode (not (is_failed r)) (is_wanted s n (r.pos + r.asked)) r.pos (r.pos + r.asked) low
     (λ (x : ℕ). is_wanted s (step s m e) x ≡ true)
     (λ failed more.
     ap (λ (o : Option ℕ). (s.domain (r.pos + r.asked) && is_before o (r.pos + r.asked)) && has_taken m.passes (slice_get (map_after s m r) (r.pos + r.asked)))
@@ -365,18 +365,18 @@ step_tail s m e order t low =
     let live = and_parts (s.domain at) (is_before m.tally.over at) parts.0 in
     let same : slice_get (map_after s m r) at ≡ slice_get m.map at
     = ap (λ (map : List Status). slice_get map at)
-    (cond-false (is_failed r) (scraped m.mode r.pos (with_rest s m r)) (with_kept s m r) (not-true (is_failed r) good))
+    (cond-false (is_failed r) (scraped m.progress.mode r.pos (with_rest s m r)) (with_kept s m r) (not-true (is_failed r) good))
     ∙ kept_apart s m r at t (inl lt) in
     and_from (s.domain at && is_before (over_after m r) at) (has_taken m.passes (slice_get (map_after s m r) at))
     (and_from (s.domain at) (is_before (over_after m r) at) live.0 (before_over m r at live.1 lt))
     (ap (λ (o : Option Status). has_taken m.passes o) same ∙ parts.1)))
     (λ off is. absurd (cc))
 
-step_lead : (s : Setting) (m : Machine) (e : Event) → is_trimming (step s m e) ≡ false → (step s m e).mode ≡ Lead
+step_lead : (s : Setting) (m : Machine) (e : Event) → is_trimming (step s m e) ≡ false → (step s m e).progress.mode ≡ Lead
 step_lead s m e off =
     let r : Reading = e.reading in
     let n : Machine = record m { map = map_after s m r } in
-    cond-false (is_trimming m) (mode_after m.mode (not (is_failed r)) (is_wanted s n (r.pos + r.asked)) r.pos (r.pos + r.asked)) Lead off
+    cond-false (is_trimming m) (mode_after m.progress.mode (not (is_failed r)) (is_wanted s n (r.pos + r.asked)) r.pos (r.pos + r.asked)) Lead off
 
 pub move_steps : MoveSteps
 move_steps s m e ok order request few =

@@ -4,13 +4,12 @@ use Rattle.block_list.specs.declared.status.Status.{Status}
 use Rattle.mapfile_text.specs.declared.state.MapState.{MapState}
 use Rattle.mapfile_text.specs.declared.state.Current.{Current}
 use Rattle.mapfile_text.specs.declared.state.Current.TheVariants.{Copying as NowCopying, Trimming as NowTrimming, Scraping as NowScraping, Retrying as NowRetrying, Filling as NowFilling, Generating as NowGenerating, Finished as NowFinished}
-use Rattle.rescue_rules.specs.declared.stop.TrimMode.TheVariants.{Lead}
 use Rattle.rescue_rules.specs.declared.tally.Tally.{Tally}
 use Rattle.rescue_rules.specs.Setting.{Setting}
 use Rattle.rescue_rules.specs.declared.phase.Phase.TheVariants.{Copying}
 use Rattle.rescue_rules.specs.Passes.{copying_passes, passes_from, numbered}
 use Rattle.rescue_rules.specs.Counts.{counts_of}
-use Rattle.rescue_rules.specs.Machine.{Machine, start_of}
+use Rattle.rescue_rules.specs.Machine.{Machine, at_start, start_of}
 use Rattle.rescue_rules.specs.Preparation.{prepared}
 
 -- the pass with which copying begins: the first, or the one of the state that a mapfile showed, the last at most
@@ -56,9 +55,7 @@ abbrev pub machine_of : Setting → List Status → (from : Option MapState) →
 machine_of s map from shown time = record {
   map = map;
   passes = passes_from s Copying (first_pass from);
-  cursor = first_cursor s from map;
-  mode = Lead;
-  skip = s.skips.first;
+  progress = record (at_start s (numbered Copying (first_pass from)) map) { cursor = first_cursor s from map };
   tally = tally_at_first shown time (counts_of s.domain map).failed.areas;
 }
 

@@ -49,7 +49,7 @@ event_at pos asked given =
 
 -- the pass of each event and the cursor after it
 abbrev pub trail : Setting → Machine → List Event → List (Pass × ℕ)
-trail s m events = map (λ v. (pass_of v.before, v.after.cursor)) (moves s m events)
+trail s m events = map (λ v. (pass_of v.before, v.after.progress.cursor)) (moves s m events)
 
 -- a bad sector in the middle: copying finds it, and trimming takes its range from the front and then from the back
 abbrev pub trimmed : List Event

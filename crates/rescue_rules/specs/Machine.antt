@@ -12,16 +12,16 @@ use Rattle.rescue_rules.specs.Setting.{Setting}
 use Rattle.rescue_rules.specs.declared.phase.Phase.{Phase}
 use Rattle.rescue_rules.specs.declared.phase.Phase.TheVariants.{Copying, Trimming, Scraping, Retrying}
 use Rattle.rescue_rules.specs.Passes.{Pass, taken, is_up, numbered}
+use Rattle.rescue_rules.specs.declared.progress.Progress.{Progress}
 use Rattle.rescue_rules.specs.declared.tally.Tally.{Tally}
 
--- the state of a rescue: its map, its passes, its cursor, its mode of trimming, its skip and its tally
+-- the state of a rescue: its map, its passes, its progress and its tally
 pub record Machine : Type 0 where
   pub map : List Status
   -- the pass that it is in, and those after it
   pub passes : List Pass
-  pub cursor : ℕ
-  pub mode : TrimMode
-  pub skip : ℕ
+  -- the number of the pass that it is in, its cursor, its mode of trimming and its skip
+  pub progress : Progress
   -- its counts and times, the input's end if a read met it, and what it last showed and said
   pub tally : Tally
 
@@ -32,6 +32,10 @@ pass_of m = slice_index_or m.passes 0 (numbered Copying 1)
 -- where a pass over a map begins
 abbrev pub start_of : Setting → Pass → List Status → ℕ
 start_of s p map = if is_up s p then 0 else length map
+
+-- how far a rescue is at the start of a pass over a map
+abbrev pub at_start : Setting → Pass → List Status → Progress
+at_start s p map = record { pass = p.number; cursor = start_of s p map; mode = Lead; skip = s.skips.first }
 
 -- a position has the status that the present pass asks for
 abbrev pub has_taken : List Pass → Option Status → Bool
@@ -62,18 +66,18 @@ pub record Search : Type 0 where
 -- Trimming takes the front of a range, and then the back of the same range; all else begins at the cursor.
 abbrev pub search_in : Setting → Machine → Phase → TrimMode → Search
 search_in s m Copying mode =
-    record { up = is_up s (pass_of m); from = m.cursor; front = is_up s (pass_of m); size = s.cluster }
+    record { up = is_up s (pass_of m); from = m.progress.cursor; front = is_up s (pass_of m); size = s.cluster }
 search_in s m Trimming Lead =
     record { up = is_up s (pass_of m); from = start_of s (pass_of m) m.map; front = true; size = s.sector }
 search_in s m Trimming (Tail low) = record { up = true; from = low; front = false; size = s.sector }
 search_in s m Scraping mode =
-    record { up = is_up s (pass_of m); from = m.cursor; front = is_up s (pass_of m); size = s.sector }
+    record { up = is_up s (pass_of m); from = m.progress.cursor; front = is_up s (pass_of m); size = s.sector }
 search_in s m Retrying mode =
-    record { up = is_up s (pass_of m); from = m.cursor; front = is_up s (pass_of m); size = s.sector }
+    record { up = is_up s (pass_of m); from = m.progress.cursor; front = is_up s (pass_of m); size = s.sector }
 
 -- how the request of a state is found, by its pass and its mode of trimming
 abbrev pub search_of : Setting → Machine → Search
-search_of s m = search_in s m (pass_of m).phase m.mode
+search_of s m = search_in s m (pass_of m).phase m.progress.mode
 
 -- upwards the first range of wanted positions at or past a place; downwards the last one that ends there or before
 abbrev pub IsNextRange : (up : Bool) → (ℕ → Type 0) → ℕ → (start end : ℕ) → Type 0

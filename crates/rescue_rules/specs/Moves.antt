@@ -3,16 +3,16 @@ use Rattle.std.specs.Prelude.{◌≡◌, ◌+◌, ◌≤◌, ◌&&◌, List, [],
 use Rattle.rescue_rules.specs.declared.stop.TrimMode.TheVariants.{Lead}
 use Rattle.rescue_rules.specs.Setting.{Setting}
 use Rattle.rescue_rules.specs.Passes.{Pass}
-use Rattle.rescue_rules.specs.Machine.{Machine, start_of, IsRequest, has_request}
+use Rattle.rescue_rules.specs.Machine.{Machine, at_start, IsRequest, has_request}
 use Rattle.rescue_rules.specs.Step.{Event, step, limit_met}
 
 -- the state at the start of a pass, which others follow
 abbrev pub begun : Setting → Machine → Pass → List Pass → Machine
-begun s m p ps = record m { passes = p ∷ ps; cursor = start_of s p m.map; mode = Lead; skip = s.skips.first }
+begun s m p ps = record m { passes = p ∷ ps; progress = at_start s p m.map }
 
 -- the state at the end, where no pass is left
 abbrev pub ended : Machine → Machine
-ended m = record m { passes = []; cursor = 0; mode = Lead; skip = 0 }
+ended m = record m { passes = []; progress = record { pass = 0; cursor = 0; mode = Lead; skip = 0 } }
 
 -- the state at the start of the first of these passes that has a request, or at the end
 abbrev pub at_next : Setting → Machine → List Pass → Machine

@@ -74,7 +74,7 @@ map_after s m r =
     let good : List Status = marked m.map r.pos (kept s.sector r) Finished in
     let rest : ℕ = r.asked - kept s.sector r in
     if is_failed r
-    then scraped m.mode r.pos (marked good (r.pos + kept s.sector r) rest (rest_status s m rest))
+    then scraped m.progress.mode r.pos (marked good (r.pos + kept s.sector r) rest (rest_status s m rest))
     else good
 
 -- Trimming goes from a range's front to its back where a read failed and there is more of it; it stays there until
@@ -97,7 +97,7 @@ reach r = r.pos + (if r.ended then length r.given else r.asked)
 -- the cursor goes to the read's far end, or beyond it by a jump, within the map; in trimming to the read's position
 abbrev pub cursor_after : Setting → Machine → Event → ℕ
 cursor_after s m e =
-    let jump : ℕ = if is_jump s m e then m.skip else 0 in
+    let jump : ℕ = if is_jump s m e then m.progress.skip else 0 in
     if is_trimming m then e.reading.pos
     else if is_up s (pass_of m) then min (length m.map) (reach e.reading + jump)
     else e.reading.pos - jump
@@ -105,8 +105,8 @@ cursor_after s m e =
 -- a jump doubles the next one, and a read that neither failed nor was slow makes it small again
 abbrev pub skip_after : Setting → Machine → Event → ℕ
 skip_after s m e =
-    if is_jump s m e then min (2 * m.skip) s.skips.most
-    else if is_failed e.reading || is_slow s e then m.skip else s.skips.first
+    if is_jump s m e then min (2 * m.progress.skip) s.skips.most
+    else if is_failed e.reading || is_slow s e then m.progress.skip else s.skips.first
 
 -- the milliseconds between two due saves
 abbrev pub save_interval : ℕ
@@ -137,11 +137,14 @@ step s m e =
     let r : Reading = e.reading in
     let n : Machine = record m { map = map_after s m r } in
     record n {
-      cursor = cursor_after s m e;
-      mode = if is_trimming m
-          then mode_after m.mode (not (is_failed r)) (is_wanted s n (r.pos + r.asked)) r.pos (r.pos + r.asked)
-          else Lead;
-      skip = skip_after s m e;
+      progress = record m.progress {
+        cursor = cursor_after s m e;
+        mode = if is_trimming m
+            then mode_after m.progress.mode (not (is_failed r)) (is_wanted s n (r.pos + r.asked)) r.pos
+            (r.pos + r.asked)
+            else Lead;
+        skip = skip_after s m e;
+      };
       tally = record (tally_at m.tally (shown_after s m e) (kept s.sector r) e.after) {
         failed = if is_failed r then raised m.tally.failed else m.tally.failed;
         whole_at = if is_failed r then m.tally.whole_at else e.after;

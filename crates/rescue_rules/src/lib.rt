@@ -3,6 +3,7 @@
 
 pub mod laws;
 pub mod phase;
+pub mod progress;
 pub mod report;
 pub mod stop;
 pub mod tally;

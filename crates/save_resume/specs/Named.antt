@@ -1,5 +1,5 @@
 -- Maps that options name: how they are read, and what their load answers.
-use Rattle.std.specs.Prelude.{◌≡◌, ◌≢◌, ⊥, ⊤, ℕ, ◌≤◌, Bool, List, [], length, Option, Some, None, Result, Ok, Err, if◌then◌else◌}
+use Rattle.std.specs.Prelude.{◌≡◌, ◌≢◌, ⊤, ℕ, ◌≤◌, Bool, List, [], length, Option, Some, None, Result, Ok, Err, if◌then◌else◌}
 use Rattle.fault_count.specs.Counts.{Rose}
 use Rattle.block_list.specs.declared.status.Status.{Status}
 use Rattle.block_list.specs.declared.status.Status.TheVariants.{NonTried}

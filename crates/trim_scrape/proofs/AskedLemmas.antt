@@ -23,7 +23,7 @@ use Rattle.rescue_core.proofs.ChangeLemmas.{scraped_past}
 pub record StepsLater (s : Setting) (m : Machine) (e : Event) : Type 0 where
   pub steps : StepsBy s m e
   pub later : is_copying m ≡ false
-  pub back : (low : ℕ) → m.mode ≡ Tail low → low ≤ e.reading.pos
+  pub back : (low : ℕ) → m.progress.mode ≡ Tail low → low ≤ e.reading.pos
 
 pub steps_later : (s : Setting) (m : Machine) (e : Event) → IsSensible s → IsInOrder s m → is_copying m ≡ false
     → IsRequest s m e.reading.pos (e.reading.pos + e.reading.asked) → length e.reading.given ≤ e.reading.asked → StepsLater s m e
@@ -49,9 +49,9 @@ rest_marked s m e x l before from to =
     let size : length whole ≡ length m.map = length-marked m.map r.pos k Finished (omega (arith, l.steps.there, l.steps.kept_asked)) in
     let there : r.pos + k + (r.asked - k) ≤ length whole = omega (arith, size, l.steps.there, l.steps.kept_asked) in
     let size_rest : length rest ≡ length whole = length-marked whole (r.pos + k) (r.asked - k) t there in
-    cond_both (is_failed r) (scraped m.mode r.pos rest) whole (λ (map : List Status). Has map BadSector x)
+    cond_both (is_failed r) (scraped m.progress.mode r.pos rest) whole (λ (map : List Status). Has map BadSector x)
     (λ failed.
-    scraped_past m.mode r.pos rest x (omega (arith, size, size_rest, l.steps.there)) l.back (omega (arith, from))
+    scraped_past m.progress.mode r.pos rest x (omega (arith, size, size_rest, l.steps.there)) l.back (omega (arith, from))
     ∙ marked_inside whole (r.pos + k) (r.asked - k) t x there from (omega (arith, to, l.steps.kept_asked))
     ∙ ap (λ (u : Status). Some u) (rest_bad s m (r.asked - k) l.later))
     (λ good. let far : r.pos + r.asked ≤ x = good_reaches m r s.sector x good before from in absurd (omega (arith, far, to)))

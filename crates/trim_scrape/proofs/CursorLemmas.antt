@@ -28,7 +28,7 @@ LiesAhead false cursor x = x < cursor
 -- neither anything past the input's end.
 pub record IsLeft (s : Setting) (m : Machine) (x : ℕ) : Type 0 where
   pub before : is_before m.tally.over x ≡ true
-  pub ahead : is_trimming m ≡ false → LiesAhead (is_up s (pass_of m)) m.cursor x
+  pub ahead : is_trimming m ≡ false → LiesAhead (is_up s (pass_of m)) m.progress.cursor x
 
 -- all but trimming search from the cursor on, in the pass's direction
 abbrev size_of : Setting → Phase → ℕ
@@ -41,7 +41,7 @@ abbrev from_cursor : (up : Bool) → (cursor size : ℕ) → Search
 from_cursor up cursor size = record { up = up; from = cursor; front = up; size = size }
 
 search_is : (s : Setting) (m : Machine) (phase : Phase) (mode : TrimMode) → trims phase ≡ false
-    → search_in s m phase mode ≡ from_cursor (is_up s (pass_of m)) m.cursor (size_of s phase)
+    → search_in s m phase mode ≡ from_cursor (is_up s (pass_of m)) m.progress.cursor (size_of s phase)
 search_is s m Trimming mode off = absurd (cc)
 search_is s m _ mode off = refl
 
@@ -70,11 +70,11 @@ nearest_by false P sector cursor size start end p q found =
     }
 
 nearest : (s : Setting) (m : Machine) (p q : ℕ) → is_trimming m ≡ false → IsRequest s m p q
-    → IsNearest (is_up s (pass_of m)) (IsWanted s m) m.cursor p q
+    → IsNearest (is_up s (pass_of m)) (IsWanted s m) m.progress.cursor p q
 nearest s m p q off asks =
     let P : ℕ → Type 0 = IsWanted s m in
-    nearest_by (is_up s (pass_of m)) P s.sector m.cursor (size_of s (pass_of m).phase) asks.start asks.end p q
-    (subst (λ (f : Search). IsFoundBy f P s.sector asks.start asks.end p q) (search_is s m (pass_of m).phase m.mode off)
+    nearest_by (is_up s (pass_of m)) P s.sector m.progress.cursor (size_of s (pass_of m).phase) asks.start asks.end p q
+    (subst (λ (f : Search). IsFoundBy f P s.sector asks.start asks.end p q) (search_is s m (pass_of m).phase m.progress.mode off)
     (asks.range, asks.starts, asks.ends))
 
 cursor_is : (s : Setting) (m : Machine) (e : Event) → is_trimming m ≡ false
@@ -132,9 +132,9 @@ left_before s m e x request by left =
     record {
       before = before_was m e.reading x left.before;
       ahead = λ off.
-          let at : LiesAhead up m.cursor p = (nearest s m p q off request).inside p (omega arith)
+          let at : LiesAhead up m.progress.cursor p = (nearest s m p q off request).inside p (omega arith)
           (omega (arith, by.some)) in
-          goes_on_by up (length m.map) m.cursor p (reach e.reading) (jump_of s m e) x (reach_some e.reading)
+          goes_on_by up (length m.map) m.progress.cursor p (reach e.reading) (jump_of s m e) x (reach_some e.reading)
           (omega (arith, by.there)) at
           (subst (λ (n : ℕ). LiesAhead up n x) (cursor_is s m e off) (left.ahead off));
     }
@@ -152,7 +152,7 @@ no_jump _ number failed slow last = refl
 
 jump_none : (s : Setting) (m : Machine) (e : Event) → JumpsNever (pass_of m) → jump_of s m e ≡ 0
 jump_none s m e never =
-    cond-false (is_jump s m e) m.skip 0
+    cond-false (is_jump s m e) m.progress.skip 0
     (no_jump (pass_of m).phase (pass_of m).number (is_failed e.reading) (is_slow s e) never.last)
 
 -- it leaves what it wants and didn't ask for
@@ -196,18 +196,18 @@ ahead_by false cursor size x ahead = lt-ltb x cursor ahead
 
 -- so is one that trimming wants, wherever it lies
 trimming_seen : (s : Setting) (m : Machine) (x : ℕ) (mode : TrimMode) → IsInOrder s m → is_trimming m ≡ true
-    → m.mode ≡ mode → IsWanted s m x → has_request s m ≡ true
+    → m.progress.mode ≡ mode → IsWanted s m x → has_request s m ≡ true
 trimming_seen s m x Lead order on is wanted =
     let up : Bool = is_up s (pass_of m) in
     let at : search_of s m ≡ search_in s m Trimming Lead =
-    ap (λ (phase : Phase). search_in s m phase m.mode) (trims_is (pass_of m).phase on)
+    ap (λ (phase : Phase). search_in s m phase m.progress.mode) (trims_is (pass_of m).phase on)
     ∙ ap (search_in s m Trimming) is in
     wanted_seen s m x wanted (ap (λ (f : Search). is_ahead f x) at
     ∙ ahead_by up (if up then 0 else length m.map) s.sector x
     (start_by up (length m.map) x (wanted_within s m x wanted)))
 trimming_seen s m x (Tail low) order on is wanted =
     let at : search_of s m ≡ search_in s m Trimming (Tail low) =
-    ap (λ (phase : Phase). search_in s m phase m.mode) (trims_is (pass_of m).phase on)
+    ap (λ (phase : Phase). search_in s m phase m.progress.mode) (trims_is (pass_of m).phase on)
     ∙ ap (search_in s m Trimming) is in
     wanted_seen s m low (order.tail low is) (ap (λ (f : Search). is_ahead f low) at ∙ le-leb low low (omega arith))
 
@@ -215,8 +215,8 @@ trimming_seen s m x (Tail low) order on is wanted =
 pub left_seen : (s : Setting) (m : Machine) (x : ℕ) → IsInOrder s m → IsWanted s m x → IsLeft s m x
     → has_request s m ≡ true
 left_seen s m x order wanted left =
-    ⊎_elim (λ (on : is_trimming m ≡ true). trimming_seen s m x m.mode order on refl wanted)
+    ⊎_elim (λ (on : is_trimming m ≡ true). trimming_seen s m x m.progress.mode order on refl wanted)
     (λ (off : is_trimming m ≡ false).
-    wanted_seen s m x wanted (ap (λ (f : Search). is_ahead f x) (search_is s m (pass_of m).phase m.mode off)
-    ∙ ahead_by (is_up s (pass_of m)) m.cursor (size_of s (pass_of m).phase) x (left.ahead off)))
+    wanted_seen s m x wanted (ap (λ (f : Search). is_ahead f x) (search_is s m (pass_of m).phase m.progress.mode off)
+    ∙ ahead_by (is_up s (pass_of m)) m.progress.cursor (size_of s (pass_of m).phase) x (left.ahead off)))
     (cases_Bool (is_trimming m))

@@ -26,10 +26,10 @@ use Rattle.trim_scrape.proofs.OwedLemmas.{Owes, Now, Later}
 use Rattle.trim_scrape.proofs.RunLemmas.{MayRun}
 
 -- a pass's start leaves each position
-left_at_start : (s : Setting) (m : Machine) (p : Pass) (x : ℕ) → pass_of m ≡ p → m.cursor ≡ start_of s p m.map
+left_at_start : (s : Setting) (m : Machine) (p : Pass) (x : ℕ) → pass_of m ≡ p → m.progress.cursor ≡ start_of s p m.map
     → x < length m.map → is_before m.tally.over x ≡ true → IsLeft s m x
 left_at_start s m p x is starts within before =
-    let at : m.cursor ≡ start_of s (pass_of m) m.map = starts ∙ ap (λ (q : Pass). start_of s q m.map) (sym is) in
+    let at : m.progress.cursor ≡ start_of s (pass_of m) m.map = starts ∙ ap (λ (q : Pass). start_of s q m.map) (sym is) in
     let up : Bool = is_up s (pass_of m) in
     record {
       before = before;

@@ -124,7 +124,7 @@ scrapes_all r e i l asks few is =
           subst (λ (p : Pass). Has n.map (taken p.phase) x) here (wanted_taken s n x wanted) in
           let was : Has m.map NonScraped x =
           ⊎_elim (λ (was : Has m.map NonScraped x). was)
-          (λ (back : (low : ℕ) × (m.mode ≡ Tail low)).
+          (λ (back : (low : ℕ) × (m.progress.mode ≡ Tail low)).
           let e : Tail back.0 ≡ Lead = sym back.1 ∙ i.order.lead w.trimming in absurd (cc))
           (non_scraped_stood s m e.reading x has) in
           let before : is_wanted s m x ≡ true =
@@ -161,17 +161,17 @@ passes_step r e heard i asks few within =
 -- If it has no request left, trimming has left no position that it asks for either:
 -- it isn't at a run's back, whose front would be ahead,
 trims_lead : (r : RunState) → IsInPass r → r.phase ≡ Trimming → has_request (setting_in r) r.machine ≡ false
-    → r.machine.mode ≡ Lead
-trims_lead r i is none = of r.machine.mode refl
+    → r.machine.progress.mode ≡ Lead
+trims_lead r i is none = of r.machine.progress.mode refl
   where
-    of : (mode : TrimMode) → r.machine.mode ≡ mode → mode ≡ Lead
+    of : (mode : TrimMode) → r.machine.progress.mode ≡ mode → mode ≡ Lead
     of Lead at = refl
     of (Tail low) at =
         let s : Setting = setting_in r in
         let m : Machine = r.machine in
         let wanted : is_wanted s m low ≡ true = i.order.tail low at in
         let search : search_of s m ≡ search_in s m Trimming (Tail low) =
-        ap (λ (phase : Phase). search_in s m phase m.mode) (phase_is r i ∙ is) ∙ ap (search_in s m Trimming) at in
+        ap (λ (phase : Phase). search_in s m phase m.progress.mode) (phase_is r i ∙ is) ∙ ap (search_in s m Trimming) at in
         let ahead : is_ahead (search_of s m) low ≡ true =
         ap (λ (f : Search). is_ahead f low) search ∙ le-leb low low (omega arith) in
         absurd (true≢false (sym (wanted_seen s m low wanted ahead) ∙ none))
@@ -183,7 +183,7 @@ trims_all r i is none =
     let s : Setting = setting_in r in
     let m : Machine = r.machine in
     let search : search_of s m ≡ search_in s m Trimming Lead =
-    ap (λ (phase : Phase). search_in s m phase m.mode) (phase_is r i ∙ is)
+    ap (λ (phase : Phase). search_in s m phase m.progress.mode) (phase_is r i ∙ is)
     ∙ ap (search_in s m Trimming) (trims_lead r i is none) in
     record {
       ahead = λ x wanted. ap (λ (f : Search). is_ahead f x) search

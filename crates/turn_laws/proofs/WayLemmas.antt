@@ -33,15 +33,15 @@ use Rattle.turn_laws.specs.EndLaws.{RunStaysUnderWay, NextPassIsUnderWay}
 
 -- All phases but trimming search from the cursor on.
 ahead_in : (s : Setting) (m : Machine) (phase : Phase) (mode : TrimMode) (x : ℕ) → trims phase ≡ false
-    → is_ahead (search_in s m phase mode) x ≡ (if is_up s (pass_of m) then nat_le m.cursor x else nat_lt x m.cursor)
+    → is_ahead (search_in s m phase mode) x ≡ (if is_up s (pass_of m) then nat_le m.progress.cursor x else nat_lt x m.progress.cursor)
 ahead_in s m Copying mode x off = refl
 ahead_in s m Trimming mode x off = absurd (cc)
 ahead_in s m Scraping mode x off = refl
 ahead_in s m Retrying mode x off = refl
 
 ahead_is : (s : Setting) (m : Machine) (x : ℕ) → is_trimming m ≡ false
-    → is_ahead (search_of s m) x ≡ (if is_up s (pass_of m) then nat_le m.cursor x else nat_lt x m.cursor)
-ahead_is s m x off = ahead_in s m (pass_of m).phase m.mode x off
+    → is_ahead (search_of s m) x ≡ (if is_up s (pass_of m) then nat_le m.progress.cursor x else nat_lt x m.progress.cursor)
+ahead_is s m x off = ahead_in s m (pass_of m).phase m.progress.mode x off
 
 lies_by : (up : Bool) (cursor x : ℕ) → (if up then nat_le cursor x else nat_lt x cursor) ≡ true → LiesAhead up cursor x
 lies_by true cursor x is = leb-true cursor x is
@@ -57,13 +57,13 @@ pub owes_by : (s : Setting) (m : Machine) (p : Pass) (x : ℕ) → is_before m.t
 owes_by s m p x before (Now ps is ahead) =
     OwedNow ps is (record {
       before = before;
-      ahead = λ off. lies_by (is_up s (pass_of m)) m.cursor x (sym (ahead_is s m x off) ∙ ahead off);
+      ahead = λ off. lies_by (is_up s (pass_of m)) m.progress.cursor x (sym (ahead_is s m x off) ∙ ahead off);
     })
 owes_by s m p x before (Later has) = OwedLater has
 
 pub comes_by : (s : Setting) (m : Machine) (p : Pass) (x : ℕ) → Owes s m p x → StillComes s m p x
 comes_by s m p x (OwedNow ps is left) =
-    Now ps is (λ off. ahead_is s m x off ∙ ahead_by (is_up s (pass_of m)) m.cursor x (left.ahead off))
+    Now ps is (λ off. ahead_is s m x off ∙ ahead_by (is_up s (pass_of m)) m.progress.cursor x (left.ahead off))
 comes_by s m p x (OwedLater has) = Later has
 
 -- Its passes follow one another,

@@ -11,7 +11,7 @@ invariant_of-self g c =
     let r : RunState = run_at i.settings i.domain (g.T.Tiles.statuses i.tiles) i.phase i.progress i.keeper in
     let next : slice_get r.machine.passes 1 ≡ Some (numbered c.args.phase c.args.pass)
     = ap (λ (now : RunState). slice_get now.machine.passes 1) c.self.view_is ∙ c.requires.next in
-    let progress = c.at_start-self-inside in
+    let progress = c.progress_at_start-self-inside in
     let is = passed_is i.settings i.domain (g.T.Tiles.statuses i.tiles) i.phase i.progress i.keeper c.args.phase
     c.args.pass progress.result next progress.ensures.pass
     (progress.ensures.cursor i.domain i.keeper.names i.keeper.heading.line c.args.phase (g.T.Tiles.statuses i.tiles) (sym c.end.ensures.end))
@@ -28,7 +28,7 @@ returns g c =
     let r : RunState = run_at i.settings i.domain (g.T.Tiles.statuses i.tiles) i.phase i.progress i.keeper in
     let next : slice_get r.machine.passes 1 ≡ Some (numbered c.args.phase c.args.pass)
     = ap (λ (now : RunState). slice_get now.machine.passes 1) c.self.view_is ∙ c.requires.next in
-    let progress = c.at_start-self-inside in
+    let progress = c.progress_at_start-self-inside in
     passed_is i.settings i.domain (g.T.Tiles.statuses i.tiles) i.phase i.progress i.keeper c.args.phase
     c.args.pass progress.result next progress.ensures.pass
     (progress.ensures.cursor i.domain i.keeper.names i.keeper.heading.line c.args.phase (g.T.Tiles.statuses i.tiles) (sym c.end.ensures.end))

@@ -8,7 +8,7 @@ pub invariant_of-result : goal.invariant_of-result
 invariant_of-result g c =
     let a = c.args in
     let map = g.T.Tiles.statuses a.tiles in
-    let progress = c.first-progress in
+    let progress = c.first_progress-progress in
     let keeper : Keeper =
     record { names = a.names; heading = a.heading; tally = c.first-tally.result; heard = a.heard } in (
       running_started a.settings a.domain map a.loaded progress.result keeper (length a.buf.items) c.requires.sound
