@@ -1,14 +1,14 @@
 -- What a call does to the state of a site, and the state in which a site in memory begins.
 use Rattle.std.specs.Prelude.{◌≡◌, ◌⊎◌, ⊤, ℕ, ◌≤◌, Bool, true, false, IsTrue, List, [], ◌∷◌, ◌++◌, Option, None, Result, is_ok, OnOk, OnErr, IsErr}
 use Rattle.fault_count.specs.Counts.{Rose, raised}
-use Rattle.fault_count.specs.Plan.{no_plan, with_call, FailsNext}
+use Rattle.fault_count.specs.Schedule.{no_schedule, with_call, FailsNext}
 use Rattle.crash_site.specs.declared.site.SiteCall.{SiteCall}
 use Rattle.crash_site.specs.Files.{File}
 use Rattle.crash_site.specs.Calls.{Call, Done, Failed, image_open, draft_begin, draft_publish}
 use Rattle.crash_site.specs.CallsMade.{Lost, Made, BrokeAt}
 use Rattle.crash_site.specs.SiteState.{SiteState}
 
--- a site that fails by a plan, as it begins: nothing is open or begun, and no call was made or is to fail
+-- a site that fails by a schedule, as it begins: nothing is open or begun, and no call was made or is to fail
 abbrev pub fresh_site : (List ℕ → Option File) → SiteState
 fresh_site files = record {
   tells = true;
@@ -17,8 +17,8 @@ fresh_site files = record {
   is_open = false;
   is_drafting = false;
   faults = 0;
-  is_planned = true;
-  plan = no_plan;
+  is_scheduled = true;
+  schedule = no_schedule;
   starved = 0;
 }
 
@@ -26,7 +26,7 @@ fresh_site files = record {
 pub record Keeps (old new : SiteState) : Type 0 where
   pub tells : new.tells ≡ old.tells
   pub start : IsTrue old.tells → new.start ≡ old.start
-  pub planned : new.is_planned ≡ old.is_planned
+  pub scheduled : new.is_scheduled ≡ old.is_scheduled
   pub later : old.faults ≤ new.faults
 
 -- what no call changes, and the image and the draft stay open and begun, or not
@@ -56,13 +56,13 @@ abbrev pub KeepsOpen : Call → (before now : Bool) → Type 0
 KeepsOpen (image_open name make) before now = ⊤
 KeepsOpen call before now = now ≡ before
 
--- what a call leaves of a plan: it fails where its number is one of those that fail, and is listed as failed; or
+-- what a call leaves of a schedule: it fails where its number is one of those that fail, and is listed as failed; or
 -- where it finds no memory, which is counted, and isn't listed
-pub record KeepsPlan {T E : Type 0} (call : Call) (result : Result T E) (old new : SiteState) : Type 0 where
-  pub plan : new.plan ≡ with_call old.plan
-  pub fails : FailsNext old.plan → IsErr result
+pub record KeepsSchedule {T E : Type 0} (call : Call) (result : Result T E) (old new : SiteState) : Type 0 where
+  pub schedule : new.schedule ≡ with_call old.schedule
+  pub fails : FailsNext old.schedule → IsErr result
   pub why : OnErr result
-      ((FailsNext old.plan × (new.starved ≡ old.starved) × (new.calls ≡ old.calls ++ Failed call ∷ []))
+      ((FailsNext old.schedule × (new.starved ≡ old.starved) × (new.calls ≡ old.calls ++ Failed call ∷ []))
       ⊎ ((new.starved ≡ raised old.starved) × (new.calls ≡ old.calls)))
   pub fed : OnOk result (new.starved ≡ old.starved)
 
@@ -75,4 +75,4 @@ pub record Answers {T E : Type 0} (call : Call) (result : Result T E) (old new :
   pub rose : OnErr result (Rose old.faults new.faults)
   pub image : KeepsOpen call old.is_open new.is_open
   pub draft : new.is_drafting ≡ drafting_after call (is_ok result) old.is_drafting
-  pub plan : IsTrue old.is_planned → KeepsPlan call result old new
+  pub schedule : IsTrue old.is_scheduled → KeepsSchedule call result old new

@@ -39,8 +39,8 @@ idle_keeps : (e : Ending) → drafting_left e ≡ false → (w : WorldState) →
 idle_keeps e whole w none = record {
   draft = none ∙ sym whole;
   source = keeps_self w.source;
-  site = record { tells = refl; start = λ tells. refl; planned = refl; later = omega arith };
-  clock = record { planned = refl; plan = refl };
+  site = record { tells = refl; start = λ tells. refl; scheduled = refl; later = omega arith };
+  clock = record { scheduled = refl; schedule = refl };
 }
 
 pub rescue_made : IsWellMade rescue_program

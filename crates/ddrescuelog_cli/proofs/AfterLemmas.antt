@@ -34,7 +34,7 @@ use Rattle.ddrescuelog_cli.proofs.FoundLemmas.{answers_have}
 -- ---- nothing happened to an object
 
 pub feed_keeps : (f : FeedState) → FeedKeeps f f
-feed_keeps f = record { tells = refl; planned = refl; later = omega arith }
+feed_keeps f = record { tells = refl; scheduled = refl; later = omega arith }
 
 -- ---- files
 
@@ -134,7 +134,7 @@ after_reads e old mid new stays kept b = record {
   keeps = record {
     tells = b.keeps.tells ∙ stays.keeps.tells;
     start = λ tells. b.keeps.start (subst IsTrue (sym stays.keeps.tells) tells) ∙ stays.keeps.start tells;
-    planned = b.keeps.planned ∙ stays.keeps.planned;
+    scheduled = b.keeps.scheduled ∙ stays.keeps.scheduled;
     later = omega (arith, stays.keeps.later, b.keeps.later);
   };
   counts = b.counts ∙ ap (site_count e) kept;

@@ -117,4 +117,4 @@ log_keeps_promises = keeps_promises log_program log_made
 pub files_beside : (t : Told LogEnding) (between : WorldState) → Says log_program t between
     → t.after.site ≡ between.site
 files_beside t between (Nothing why same) = ap (λ (w : WorldState). w.site) same
-files_beside t between (Message loud may same put plan) = ap (λ (w : WorldState). w.site) same
+files_beside t between (Message loud may same put schedule) = ap (λ (w : WorldState). w.site) same

@@ -12,7 +12,7 @@ use Rattle.ddrescuelog_cli.specs.Creating.{TakesFeedPiece, TookBytes, StopsTakin
 keeps_both : (a b c : FeedState) → Keeps a b → Keeps b c → Keeps a c
 keeps_both a b c k l = record {
   tells = l.tells ∙ k.tells;
-  planned = l.planned ∙ k.planned;
+  scheduled = l.scheduled ∙ k.scheduled;
   later = omega (arith, k.later, l.later);
 }
 

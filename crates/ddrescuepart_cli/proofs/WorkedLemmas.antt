@@ -7,7 +7,7 @@ use Rattle.mapfile_text.specs.declared.heading.Program.TheVariants.{Ddrescuelog}
 use Rattle.mapfile_text.specs.Printed.{printed}
 use Rattle.faulty_source.specs.Journal.{Reading, IsFrom}
 use Rattle.faulty_source.specs.SourceState.{SourceState}
-use Rattle.faulty_source.specs.SourceChanges.{AnswersOpen, PlansOpen, Stays}
+use Rattle.faulty_source.specs.SourceChanges.{AnswersOpen, OpensBySchedule, Stays}
 use Rattle.faulty_source.proofs.Keeping.{keeps_more, keeps_self}
 use Rattle.rescue_console.specs.declared.console.Channel.TheVariants.{Out}
 use Rattle.rescue_console.specs.ConsoleState.{ConsoleState, Puts, PutsPart}
@@ -59,14 +59,14 @@ starved_worked c words s p = record {
 
 -- the input couldn't be opened
 pub unopened_worked : {E : Type 0} (c : Command) (words : List (List ℕ)) (e : E) (s s' : SourceState) (p : ConsoleState)
-    → AnswersOpen c.infile (Err e) s s' → (IsTrue s.is_planned → PlansOpen c.infile (Err e) s s')
+    → AnswersOpen c.infile (Err e) s s' → (IsTrue s.is_scheduled → OpensBySchedule c.infile (Err e) s s')
     → PartWorked c words SourceFault (handed s p) (handed s' p)
-unopened_worked c words e s s' p a plan = record {
+unopened_worked c words e s s' p a schedule = record {
   done = record {
     outside = length s.bytes;
     did = record { opens = Unopened c.infile ∷ []; gain = record { calls = []; reads = []; times = [] } };
     agrees = record {
-      opens = (a.opens, a.input, λ planned. (plan planned).answers.0 refl);
+      opens = (a.opens, a.input, λ scheduled. (schedule scheduled).answers.0 refl);
       length_is = λ tells. refl;
       reads = λ tells. a.journal tells ∙ sym (append-nil s.journal);
       right = λ tells. All-nil (IsFrom s.bytes);

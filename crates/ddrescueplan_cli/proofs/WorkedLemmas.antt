@@ -48,12 +48,12 @@ starved_first c test p = record {
   };
   puts = record {
     stays = record {
-      keeps = record { tells = refl; planned = refl; out = omega arith; err = omega arith };
+      keeps = record { tells = refl; scheduled = refl; out = omega arith; err = omega arith };
       other = refl;
     };
     whole = λ tells. sym (append-nil p.out.text);
     kept = refl;
-    fed = λ planned. refl;
+    fed = λ scheduled. refl;
   };
 }
 

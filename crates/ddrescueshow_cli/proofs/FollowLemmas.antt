@@ -30,11 +30,12 @@ use Rattle.ddrescueshow_cli.specs.FollowSteps.{Comes, Ends, Fills, Finishes, Fit
 pub put_whole : {T E : Type 0} (text : List ℕ) (v : T) (a b : ConsoleState) → Answers {T = T} {E = E} Out text (Ok v) a b
     → SpeaksOn (out_pieces (text ∷ [])) true true a b
 put_whole text v a b put =
-    inl (b, record { puts = put.puts; one = λ planned. (put.plan planned).plan }, (refl, refl))
+    inl (b, record { puts = put.puts; one = λ scheduled. (put.schedule scheduled).schedule }, (refl, refl))
 
 pub put_broken : {T E : Type 0} (text : List ℕ) (e : E) (a b : ConsoleState) → Answers {T = T} {E = E} Out text (Err e) a b
     → SpeaksOn (out_pieces (text ∷ [])) true false a b
-put_broken text e a b put = inr (refl, record { puts = put.fails; one = λ planned. (put.plan planned).plan })
+put_broken text e a b put =
+    inr (refl, record { puts = put.fails; one = λ scheduled. (put.schedule scheduled).schedule })
 
 unsaid : (qs : List SpokenPiece) (a : ConsoleState) → SpeaksOn qs false false a a
 unsaid [] a = (refl, refl)

@@ -67,7 +67,7 @@ work_stands c found e d (inr (inr (fits, w))) =
 said_stands : (terminal : Bool) (t : Told ShowEnding) (between : WorldState) → Says (show_program terminal) t between
     → t.after.site ≡ between.site
 said_stands terminal t between (Nothing why is) = ap (λ (w : WorldState). w.site) is
-said_stands terminal t between (Message loud quiet is puts plan) = ap (λ (w : WorldState). w.site) is
+said_stands terminal t between (Message loud quiet is puts schedule) = ap (λ (w : WorldState). w.site) is
 
 pub all_files_stand : FilesStand
 all_files_stand terminal t c d asks tells name =

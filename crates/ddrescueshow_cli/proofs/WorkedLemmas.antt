@@ -34,7 +34,7 @@ stays_more s t u a b = record {
   keeps = record {
     tells = b.keeps.tells ∙ a.keeps.tells;
     start = λ tells. b.keeps.start (subst IsTrue (sym a.keeps.tells) tells) ∙ a.keeps.start tells;
-    planned = b.keeps.planned ∙ a.keeps.planned;
+    scheduled = b.keeps.scheduled ∙ a.keeps.scheduled;
     later = omega (arith, a.keeps.later, b.keeps.later);
   };
   image = b.image ∙ a.image;

@@ -74,12 +74,12 @@ pub put_line : {T E : Type 0} (tally : Tally) (piece : List ℕ) (x : T) (p q : 
     → ConsoleAnswers {E = E} Out piece (Ok x) p q → piece ≡ line_of_tally tally
     → Reports tally false (answer_of_tally tally) p q
 put_line tally piece x p q a is =
-    inl (refl, (rw (← is) a.puts, λ planned. (a.plan planned).plan))
+    inl (refl, (rw (← is) a.puts, λ scheduled. (a.schedule scheduled).schedule))
 
 pub unput_line : {T E : Type 0} (tally : Tally) (piece : List ℕ) (x : E) (p q : ConsoleState)
     → ConsoleAnswers {T = T} Out piece (Err x) p q → piece ≡ line_of_tally tally → Reports tally false ConsoleFault p q
 unput_line tally piece x p q a is =
-    inr (refl, (refl, rw (← is) a.fails, λ planned. (a.plan planned).plan))
+    inr (refl, (refl, rw (← is) a.fails, λ scheduled. (a.schedule scheduled).schedule))
 
 module _ (tally : Tally) (quiet : Bool) (e : VerifyEnding) (p q : ConsoleState) where
   pub reports_answer : Reports tally quiet e p q → IsAnswer quiet tally e

@@ -7,7 +7,7 @@ use Rattle.mapfile_text.specs.HeadingLines.{HeadingLines}
 use Rattle.mapfile_text.specs.Printed.{printed}
 use Rattle.faulty_source.specs.Journal.{Reading, IsFrom}
 use Rattle.faulty_source.specs.SourceState.{SourceState}
-use Rattle.faulty_source.specs.SourceChanges.{Keeps as SourceKeeps, Stays as SourceStays, AnswersOpen, PlansOpen}
+use Rattle.faulty_source.specs.SourceChanges.{Keeps as SourceKeeps, Stays as SourceStays, AnswersOpen, OpensBySchedule}
 use Rattle.crash_site.specs.Files.{File, bytes_of, file_named}
 use Rattle.crash_site.specs.Folder.{Folder, opened, after}
 use Rattle.crash_site.specs.Calls.{Call, Entry, Done as Returned, image_open}
@@ -51,11 +51,11 @@ pub record HasInput (infile : List ℕ) (end : ℕ) (s0 s1 : SourceState) : Type
   pub all : IsTrue s0.tells → end ≡ length s0.bytes
 
 pub not_opened : {E : Type 0} (infile : List ℕ) (r : Result ℕ E) (s0 s1 : SourceState) → ((n : ℕ) → r ≡ Ok n → ⊥)
-    → AnswersOpen infile r s0 s1 → (IsTrue s0.is_planned → PlansOpen infile r s0 s1)
+    → AnswersOpen infile r s0 s1 → (IsTrue s0.is_scheduled → OpensBySchedule infile r s0 s1)
     → AreOpens (Unopened infile ∷ []) s0 s1
-not_opened infile (Ok n) s0 s1 never call plan = absurd (never n refl)
-not_opened infile (Err e) s0 s1 never call plan =
-    (call.opens, call.input, λ planned. (plan planned).answers.0 refl)
+not_opened infile (Ok n) s0 s1 never call schedule = absurd (never n refl)
+not_opened infile (Err e) s0 s1 never call schedule =
+    (call.opens, call.input, λ scheduled. (schedule scheduled).answers.0 refl)
 
 pub input_fails : (c : Command) (l : List ℕ) (s0 s1 : SourceState) (d : SiteState)
     → (IsTrue s0.tells → s1.journal ≡ s0.journal) → AreOpens (Unopened c.infile ∷ []) s0 s1

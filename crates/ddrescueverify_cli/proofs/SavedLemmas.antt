@@ -21,7 +21,7 @@ use Rattle.ddrescueverify_cli.specs.Stops.{IsVerifiedMap}
 same_site : (t : Told VerifyEnding) (between : WorldState) → Says verify_program t between
     → t.after.site ≡ between.site
 same_site t between (Nothing why same) = ap (λ (w : WorldState). w.site) same
-same_site t between (Message loud may rest put plan) = ap (λ (w : WorldState). w.site) rest
+same_site t between (Message loud may rest put schedule) = ap (λ (w : WorldState). w.site) rest
 
 pub saved_is : SavedIsVerified
 saved_is t c d asks tells saved =

@@ -1,7 +1,7 @@
 -- The line on a comparison, on standard output, and what is answered once the map is saved.
 use Rattle.std.specs.Prelude.{◌≡◌, ◌⊎◌, ℕ, Bool, true, false, IsTrue, List, ◌++◌, codes}
 use Rattle.std.specs.Fmt.{decimal}
-use Rattle.fault_count.specs.Plan.{with_call}
+use Rattle.fault_count.specs.Schedule.{with_call}
 use Rattle.mapfile_text.specs.Printed.{with_newline}
 use Rattle.rescue_console.specs.declared.console.Channel.TheVariants.{Out}
 use Rattle.rescue_console.specs.ConsoleState.{ConsoleState, Puts, PutsPart}
@@ -17,9 +17,9 @@ line_of_tally t =
     with_newline (codes "compared " ++ decimal t.compared ++ codes " B, differing " ++ decimal t.differing
     ++ codes " B, unread " ++ decimal t.unread ++ codes " B")
 
--- the line was one put, by the plan of a console that has one
+-- the line was one put, by the schedule of a console that has one
 abbrev pub IsOnePut : (old new : ConsoleState) → Type 0
-IsOnePut old new = IsTrue old.is_planned → new.plan ≡ with_call old.plan
+IsOnePut old new = IsTrue old.is_scheduled → new.schedule ≡ with_call old.schedule
 
 -- The line is put, in one put, unless nothing is to be put.
 abbrev pub PutsLine : (quiet : Bool) → (line : List ℕ) → (old new : ConsoleState) → Type 0

@@ -1,7 +1,7 @@
 //! How often calls of an outside object, as a disk or a folder, have failed.
 #![tactic(auto)]
 
-pub mod plan;
+pub mod schedule;
 
 ghost use Rattle.std.specs.Prelude.{◌≡◌, ◌≤◌, ℕ};
 ghost use Rattle.fault_count.specs.Counts.{raised};

@@ -30,7 +30,7 @@ all_gain_more (x ∷ xs) (y ∷ ys) (z ∷ zs) f g = (gains_more x y z f.0 g.0, 
 pub keeps_self : (s : SourceState) → Keeps s s
 keeps_self s = record {
   tells = refl;
-  planned = refl;
+  scheduled = refl;
   bytes = λ tells. refl;
   end = λ tells. refl;
   opens = omega arith;
@@ -43,7 +43,7 @@ keeps_self s = record {
 pub keeps_more : (a b c : SourceState) → Keeps a b → Keeps b c → Keeps a c
 keeps_more a b c f g = record {
   tells = g.tells ∙ f.tells;
-  planned = g.planned ∙ f.planned;
+  scheduled = g.scheduled ∙ f.scheduled;
   bytes = λ tells. g.bytes (rw f.tells tells) ∙ f.bytes tells;
   end = λ tells. g.end (rw f.tells tells) ∙ f.end tells;
   opens = omega (arith, f.opens, g.opens);

@@ -1,20 +1,20 @@
 -- What a call does to the state of a source.
 use Rattle.std.specs.Prelude.{◌≡◌, ◌⊎◌, ◌↔◌, ℕ, ◌+◌, ◌<◌, ◌≤◌, IsTrue, List, [], ◌∷◌, ◌++◌, length, take, slice_range, true, Result, is_ok, IfOk, OnOk, OnErr, IsErr}
 use Rattle.fault_count.specs.Counts.{Rose, raised}
-use Rattle.fault_count.specs.Plan.{FailsNext}
+use Rattle.fault_count.specs.Schedule.{FailsNext}
 use Rattle.faulty_source.specs.declared.source.Got.{Got}
 use Rattle.faulty_source.specs.Got.{count_of, is_end}
 use Rattle.faulty_source.specs.Memory.{ReadGives, bad_after}
 use Rattle.faulty_source.specs.Journal.{Reading}
 use Rattle.faulty_source.specs.JournalGains.{AllGain}
-use Rattle.faulty_source.specs.SourcePlan.{CountsCall, OpenFails}
+use Rattle.faulty_source.specs.SourceSchedule.{CountsCall, OpenFails}
 use Rattle.faulty_source.specs.SourceState.{SourceState}
 
 -- what no call changes: whether a source tells, its bytes and its end, and which sources are below it; no count ever
 -- falls, and no journal below loses a read
 pub record Keeps (old new : SourceState) : Type 0 where
   pub tells : new.tells ≡ old.tells
-  pub planned : new.is_planned ≡ old.is_planned
+  pub scheduled : new.is_scheduled ≡ old.is_scheduled
   pub bytes : IsTrue old.tells → new.bytes ≡ old.bytes
   pub end : IsTrue old.tells → new.ends_at ≡ old.ends_at
   pub opens : old.opens ≤ new.opens
@@ -66,17 +66,17 @@ pub record AnswersRead {E : Type 0} (pos asked : ℕ) (buf : List ℕ) (result :
   pub kept : OnOk result (new.losses ≡ old.losses)
   pub lost : OnErr result (Loses old new)
 
--- what an open does by its plan
-pub record PlansOpen {E : Type 0} (name : List ℕ) (result : Result ℕ E) (old new : SourceState) : Type 0 where
-  pub answers : IsErr result ↔ OpenFails old.plan name
-  pub counts : CountsCall old.plan new.plan
-  pub bad : new.plan.bad ≡ old.plan.bad
+-- what an open does by its schedule
+pub record OpensBySchedule {E : Type 0} (name : List ℕ) (result : Result ℕ E) (old new : SourceState) : Type 0 where
+  pub answers : IsErr result ↔ OpenFails old.schedule name
+  pub counts : CountsCall old.schedule new.schedule
+  pub bad : new.schedule.bad ≡ old.schedule.bad
 
--- by its plan a read is lost where its number is one of those that fail, and where the journal is full; else it gives
+-- by its schedule a read is lost if its number is one of those that fail, or if the journal is full; else it gives
 -- the bytes up to the first position at which reads fail, or to the end
-pub record PlansRead {E : Type 0} (pos asked : ℕ) (result : Result Got E) (old new : SourceState) : Type 0 where
-  pub answers : IsErr result ↔ (FailsNext old.plan.calls ⊎ (old.plan.room ≤ length old.journal))
-  pub counts : CountsCall old.plan new.plan
-  pub gives : IfOk result (λ got. ReadGives old.ends_at old.plan.bad pos asked got)
-  pub bad : IfOk result (λ got. new.plan.bad ≡ bad_after old.plan.bad pos asked got)
-  pub unmet : OnErr result (new.plan.bad ≡ old.plan.bad)
+pub record ReadsBySchedule {E : Type 0} (pos asked : ℕ) (result : Result Got E) (old new : SourceState) : Type 0 where
+  pub answers : IsErr result ↔ (FailsNext old.schedule.calls ⊎ (old.schedule.room ≤ length old.journal))
+  pub counts : CountsCall old.schedule new.schedule
+  pub gives : IfOk result (λ got. ReadGives old.ends_at old.schedule.bad pos asked got)
+  pub bad : IfOk result (λ got. new.schedule.bad ≡ bad_after old.schedule.bad pos asked got)
+  pub unmet : OnErr result (new.schedule.bad ≡ old.schedule.bad)

@@ -13,32 +13,32 @@ use Rattle.memory_console.specs.declared.memory.MemoryFeed.{MemoryFeed}
 abbrev pub state_of_clock : MemoryClock → ClockState
 state_of_clock c = record {
   tells = nat_lt c.made (2 ^ 64 - 1);
-  readings = map (reading_at c.plan.items) (range_with_len 0 c.made);
-  is_planned = true;
-  plan = c.plan.items;
+  readings = map (reading_at c.schedule.items) (range_with_len 0 c.made);
+  is_scheduled = true;
+  schedule = c.schedule.items;
 }
 
 -- a channel in memory tells its text, and how often a put there failed
 abbrev pub state_of_channel : MemoryChannel → ChannelState
 state_of_channel c = record { text = c.text.items; faults = c.faults }
 
--- a console in memory tells its two channels, the plan by which it fails, and how many puts found no memory
+-- a console in memory tells its two channels, the schedule by which it fails, and how many puts found no memory
 abbrev pub state_of_console : MemoryConsole → ConsoleState
 state_of_console c = record {
   tells = true;
   out = state_of_channel c.out;
   err = state_of_channel c.err;
-  is_planned = true;
-  plan = c.plan;
+  is_scheduled = true;
+  schedule = c.schedule;
   starved = c.starving;
 }
 
--- a feed in memory tells what is left of its bytes, its count of faults, and the plan by which it fails
+-- a feed in memory tells what is left of its bytes, its count of faults, and the schedule by which it fails
 abbrev pub state_of_feed : MemoryFeed → FeedState
 state_of_feed f = record {
   tells = true;
   left = drop f.taken f.bytes.items;
   faults = f.faults;
-  is_planned = true;
-  plan = f.plan;
+  is_scheduled = true;
+  schedule = f.schedule;
 }

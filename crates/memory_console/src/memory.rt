@@ -1,22 +1,22 @@
 //! Clock, console and feed in memory, which tell all and fail on request.
 ghost use Rattle.std.specs.Prelude.{◌≡◌, ◌⊎◌, ◌≤◌, min, true, IsTrue, if◌then◌else◌, [], ◌++◌, length, take, drop, is_ok, OnOk, OnErr, IsErr};
 ghost use Rattle.fault_count.specs.Counts.{raised, HasCause};
-ghost use Rattle.fault_count.specs.Plan.{no_plan, with_failing};
+ghost use Rattle.fault_count.specs.Schedule.{no_schedule, with_failing};
 ghost use Rattle.rescue_console.specs.ClockState.{reading_at};
 ghost use Rattle.rescue_console.specs.ConsoleState.{channel_of};
 
 use block_list::tiles::NoMemory;
 use fault_count::FaultCount;
-use fault_count::plan::FaultPlan;
+use fault_count::schedule::FaultSchedule;
 use rescue_console::clock::Clock;
 use rescue_console::console::{Channel, Console, ConsoleFault};
 use rescue_console::feed::{Feed, FeedFault};
 use std::alloc::Global;
 
-/// A clock that reads by a plan, and repeats the plan's last reading. An empty plan reads 0.
+/// A clock that reads by a schedule, and repeats the schedule's last reading. An empty schedule reads 0.
 #[derive(Drop)]
 pub struct MemoryClock {
-    plan: Vec<u64>,
+    schedule: Vec<u64>,
     made: u64,
 }
 
@@ -28,23 +28,23 @@ impl MemoryClock {
         ensures { state_of_clock result ≡ record {
           tells = true;
           readings = [];
-          is_planned = true;
-          plan = readings.items;
+          is_scheduled = true;
+          schedule = readings.items;
         } }
     {
         MemoryClock {
-            plan: readings,
+            schedule: readings,
             made: 0,
         }
     }
 
     /// The next reading.
     fn next_reading(&self) -> u64
-        ensures { result ≡ reading_at self.now.plan.items self.now.made }
+        ensures { result ≡ reading_at self.now.schedule.items self.now.made }
     {
-        let last = self.plan.len().saturating_sub(1);
+        let last = self.schedule.len().saturating_sub(1);
         let next = self.made.min(last as u64) as usize;
-        self.plan.get(next).copied().unwrap_or(0)
+        self.schedule.get(next).copied().unwrap_or(0)
     }
 }
 
@@ -112,7 +112,7 @@ impl MemoryChannel {
 pub struct MemoryConsole {
     out: MemoryChannel,
     err: MemoryChannel,
-    plan: FaultPlan,
+    schedule: FaultSchedule,
     starving: FaultCount,
 }
 
@@ -125,15 +125,15 @@ impl MemoryConsole {
           tells = true;
           out = record { text = []; faults = 0 };
           err = record { text = []; faults = 0 };
-          is_planned = true;
-          plan = no_plan;
+          is_scheduled = true;
+          schedule = no_schedule;
           starved = 0;
         } }
     {
         MemoryConsole {
             out: MemoryChannel::new(alloc),
             err: MemoryChannel::new(alloc),
-            plan: FaultPlan::new(alloc),
+            schedule: FaultSchedule::new(alloc),
             starving: FaultCount::new(),
         }
     }
@@ -141,10 +141,10 @@ impl MemoryConsole {
     /// Has the put with this number fail, counted from 1 over the puts on both channels.
     pub fn fail_call(&mut self, number: u64) -> Result<(), NoMemory>
         ensures added { OnOk result (state_of_console self.new ≡ record (state_of_console self.old)
-            { plan = with_failing number (state_of_console self.old).plan }) }
+            { schedule = with_failing number (state_of_console self.old).schedule }) }
         ensures kept { OnErr result (state_of_console self.new ≡ state_of_console self.old) }
     {
-        self.plan.fail_call(number).map_err(|_| NoMemory)
+        self.schedule.fail_call(number).map_err(|_| NoMemory)
     }
 
     /// What is on a channel.
@@ -171,7 +171,7 @@ impl Console for MemoryConsole {
     ghost state = { state_of_console };
 
     fn put(&mut self, channel: Channel, piece: &[u8]) -> Result<(), ConsoleFault> {
-        let fails = self.plan.count_call();
+        let fails = self.schedule.count_call();
         match channel {
             Channel::Out => self.out.put(piece, fails, &mut self.starving),
             Channel::Err => self.err.put(piece, fails, &mut self.starving),
@@ -195,7 +195,7 @@ fn copy_front(bytes: &[u8], buf: &mut [u8]) -> usize
 pub struct MemoryFeed {
     bytes: Vec<u8>,
     taken: usize,
-    plan: FaultPlan,
+    schedule: FaultSchedule,
     faults: FaultCount,
     ghost within: { taken ≤ length bytes.items },
 }
@@ -209,14 +209,14 @@ impl MemoryFeed {
           tells = true;
           left = bytes.items;
           faults = 0;
-          is_planned = true;
-          plan = no_plan;
+          is_scheduled = true;
+          schedule = no_schedule;
         } }
     {
         MemoryFeed {
             bytes,
             taken: 0,
-            plan: FaultPlan::new(alloc),
+            schedule: FaultSchedule::new(alloc),
             faults: FaultCount::new(),
         }
     }
@@ -224,10 +224,10 @@ impl MemoryFeed {
     /// Has the take with this number fail, counted from 1 over all takes.
     pub fn fail_call(&mut self, number: u64) -> Result<(), NoMemory>
         ensures added { OnOk result (state_of_feed self.new ≡ record (state_of_feed self.old)
-            { plan = with_failing number (state_of_feed self.old).plan }) }
+            { schedule = with_failing number (state_of_feed self.old).schedule }) }
         ensures kept { OnErr result (state_of_feed self.new ≡ state_of_feed self.old) }
     {
-        self.plan.fail_call(number).map_err(|_| NoMemory)
+        self.schedule.fail_call(number).map_err(|_| NoMemory)
     }
 
     /// The bytes that weren't taken yet.
@@ -244,7 +244,7 @@ impl Feed for MemoryFeed {
     ghost state = { state_of_feed };
 
     fn take(&mut self, buf: &mut [u8]) -> Result<usize, FeedFault> {
-        if self.plan.count_call() {
+        if self.schedule.count_call() {
             self.faults.raise();
             return Err(FeedFault);
         }

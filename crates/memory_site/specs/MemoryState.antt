@@ -22,7 +22,7 @@ state_of s = record {
   is_open = is_some (open_image_name s);
   is_drafting = is_some (begun_draft s);
   faults = s.log.faults;
-  is_planned = true;
-  plan = s.log.plan;
+  is_scheduled = true;
+  schedule = s.log.schedule;
   starved = s.log.starving;
 }

@@ -1,6 +1,6 @@
 //! An output and mapfiles in memory, which tell all and fail on request.
 ghost use Rattle.fault_count.specs.Counts.{raised, HasCause};
-ghost use Rattle.fault_count.specs.Plan.{no_plan, with_failing};
+ghost use Rattle.fault_count.specs.Schedule.{no_schedule, with_failing};
 ghost use Rattle.std.specs.Prelude.{not, ◌≡◌, ◌⊎◌, ℕ, ◌+◌, ◌<◌, ◌≤◌, ◌^◌, true, false, IsTrue, List, [], ◌∷◌, ◌++◌, length, take, slice_index_or, Some, None, is_some, IfOk, OnOk, OnErr, IsErr, MatchOption};
 ghost use Rattle.crash_site.specs.Files.{File, put};
 ghost use Rattle.crash_site.specs.FileAnswers.{kind_of, is_absent, IsRead, IsWithin, IsImageRead};
@@ -104,7 +104,7 @@ impl MemorySite {
     /// Has the call with this number fail, counted from 1 over all calls.
     pub fn fail_call(&mut self, number: u64) -> Result<(), NoMemory>
         ensures added { OnOk result (state_of self.new ≡ record (state_of self.old)
-            { plan = with_failing number (state_of self.old).plan }) }
+            { schedule = with_failing number (state_of self.old).schedule }) }
         ensures kept { OnErr result (state_of self.new ≡ state_of self.old) }
     {
         self.log.fail_call(number).map_err(|_| NoMemory)

@@ -16,8 +16,8 @@ state_of s = record {
   opens = s.opens;
   faults = s.faults;
   losses = s.losses;
-  is_planned = true;
-  plan = record { calls = s.plan; room = s.room; bad = s.bad.items };
+  is_scheduled = true;
+  schedule = record { calls = s.schedule; room = s.room; bad = s.bad.items };
   below = [];
   journals_below = [];
 }

@@ -1,13 +1,13 @@
 //! An input in memory, which tells all and fails on request.
 ghost use Rattle.std.specs.Prelude.{◌≡◌, ◌↔◌, ℕ, ◌+◌, ◌-◌, ◌<◌, ◌≤◌, ◌^◌, true, false, IsTrue, if◌then◌else◌, [], ◌∷◌, ◌++◌, length, map, take, slice_range, Contains, All, vec_capacity, IfOk, OnOk, OnErr};
-ghost use Rattle.fault_count.specs.Plan.{no_plan, with_failing};
+ghost use Rattle.fault_count.specs.Schedule.{no_schedule, with_failing};
 ghost use Rattle.faulty_source.specs.Got.{count_of, is_end};
 ghost use Rattle.faulty_source.specs.ReadEntries.{entry_of, reading_of};
 ghost use Rattle.faulty_source.specs.Memory.{name_limit, is_bad, met, ReadGives, bad_after, AreSeparate};
 
 use block_list::tiles::NoMemory;
 use fault_count::FaultCount;
-use fault_count::plan::FaultPlan;
+use fault_count::schedule::FaultSchedule;
 use faulty_source::bad_range::BadRange;
 use faulty_source::journal::ReadEntry;
 use faulty_source::source::{Got, Source, SourceFault, SourceLost};
@@ -94,7 +94,7 @@ pub struct MemorySource {
     entries: Vec<ReadEntry>,
     name: Vec<u8>,
     open: bool,
-    plan: FaultPlan,
+    schedule: FaultSchedule,
     opens: FaultCount,
     faults: FaultCount,
     losses: FaultCount,
@@ -126,8 +126,8 @@ impl MemorySource {
           opens = 0;
           faults = 0;
           losses = 0;
-          is_planned = true;
-          plan = record { calls = no_plan; room = room; bad = bad.items };
+          is_scheduled = true;
+          schedule = record { calls = no_schedule; room = room; bad = bad.items };
           below = [];
           journals_below = [];
         }) }
@@ -147,7 +147,7 @@ impl MemorySource {
             entries,
             name,
             open: false,
-            plan: FaultPlan::new(alloc),
+            schedule: FaultSchedule::new(alloc),
             opens: FaultCount::new(),
             faults: FaultCount::new(),
             losses: FaultCount::new(),
@@ -164,11 +164,13 @@ impl MemorySource {
 
     /// Makes the call with this number fail, counted from 1 over all calls of both kinds.
     pub fn fail_call(&mut self, number: u64) -> Result<(), NoMemory>
-        ensures added { OnOk result (state_of self.new ≡ record (state_of self.old)
-            { plan = record (state_of self.old).plan { calls = with_failing number (state_of self.old).plan.calls } }) }
+        ensures added { OnOk result (state_of self.new ≡ record (state_of self.old) {
+          schedule = record (state_of self.old).schedule
+              { calls = with_failing number (state_of self.old).schedule.calls };
+        }) }
         ensures kept { OnErr result (state_of self.new ≡ state_of self.old) }
     {
-        self.plan.fail_call(number).map_err(|_| NoMemory)
+        self.schedule.fail_call(number).map_err(|_| NoMemory)
     }
 
     /// The reads that were answered, in order.
@@ -187,7 +189,7 @@ impl Source for MemorySource {
     fn open_input(&mut self, name: &str) -> Result<u64, SourceFault> {
         self.open = false;
         self.opens.raise();
-        if self.plan.count_call() || name == "missing" || name.len() > NAME_LIMIT {
+        if self.schedule.count_call() || name == "missing" || name.len() > NAME_LIMIT {
             self.faults.raise();
             return Err(SourceFault);
         }
@@ -200,7 +202,7 @@ impl Source for MemorySource {
     }
 
     fn read_at(&mut self, pos: u64, buf: &mut [u8]) -> Result<Got, SourceLost> {
-        if self.plan.count_call() || self.entries.len() >= self.room {
+        if self.schedule.count_call() || self.entries.len() >= self.room {
             self.losses.raise();
             return Err(SourceLost);
         }

@@ -96,7 +96,7 @@ read_answers len test reference es name opened opens faults losses pos asked buf
       stays = record {
         keeps = record {
           tells = refl;
-          planned = refl;
+          scheduled = refl;
           bytes = λ tells. refl;
           end = λ tells. refl;
           opens = omega arith;

@@ -77,7 +77,7 @@ begins_as piece piece' before before' now same after b =
 
 stays_self : (s : ConsoleState) → StaysBeside Out s s
 stays_self s = record {
-  keeps = record { tells = refl; planned = refl; out = omega arith; err = omega arith };
+  keeps = record { tells = refl; scheduled = refl; out = omega arith; err = omega arith };
   other = refl;
 }
 
@@ -85,7 +85,7 @@ stays_more : (a b c : ConsoleState) → StaysBeside Out a b → StaysBeside Out 
 stays_more a b c f g = record {
   keeps = record {
     tells = g.keeps.tells ∙ f.keeps.tells;
-    planned = g.keeps.planned ∙ f.keeps.planned;
+    scheduled = g.keeps.scheduled ∙ f.keeps.scheduled;
     out = omega (arith, f.keeps.out, g.keeps.out);
     err = omega (arith, f.keeps.err, g.keeps.err);
   };
@@ -104,7 +104,7 @@ printed_nothing s = record {
     stays = stays_self s;
     whole = λ tells. sym (append-nil s.out.text);
     kept = refl;
-    fed = λ planned. refl;
+    fed = λ scheduled. refl;
   };
   broken = λ broken. absurd (cc broken);
 }
@@ -118,7 +118,7 @@ printed_one s s' e p = record {
 
 -- or its put failed;
 pub printed_part : (s s' : ConsoleState) (e : ReadEntry) → PutsPart Out (line_of_entry e) s s'
-    → (IsTrue s.is_planned → s'.out.text ≡ s.out.text) → HasPrinted s s' (e ∷ []) (Some Console)
+    → (IsTrue s.is_scheduled → s'.out.text ≡ s.out.text) → HasPrinted s s' (e ∷ []) (Some Console)
 printed_part s s' e p unput =
     let after : s.out.text ++ lines_of_entries (but_last (e ∷ [])) ≡ s.out.text =
     ap (λ (es : List ReadEntry). s.out.text ++ lines_of_entries es) (but_last_is [] e) ∙ append-nil s.out.text in
@@ -133,7 +133,7 @@ printed_part s s' e p unput =
             begins_as (line_of_entry e) (lines_of_entries (last_of (e ∷ []))) s.out.text
             (s.out.text ++ lines_of_entries (but_last (e ∷ []))) s'.out.text (sym piece) (sym after)
             (begins_part s.out.text g.part g.left (line_of_entry e) s'.out.text g.split g.is);
-        unput = λ planned tells. unput planned ∙ sym after;
+        unput = λ scheduled tells. unput scheduled ∙ sym after;
         rose = p.rose;
       };
     }
@@ -144,8 +144,8 @@ module _ (start now now' : ConsoleState) (es : List ReadEntry) (e : ReadEntry) (
   tells_now : IsTrue start.tells → IsTrue now.tells
   tells_now = still start.tells now.tells (h.whole refl).stays.keeps.tells
 
-  planned_now : IsTrue start.is_planned → IsTrue now.is_planned
-  planned_now = still start.is_planned now.is_planned (h.whole refl).stays.keeps.planned
+  scheduled_now : IsTrue start.is_scheduled → IsTrue now.is_scheduled
+  scheduled_now = still start.is_scheduled now.is_scheduled (h.whole refl).stays.keeps.scheduled
 
   all_more : Puts Out (lines_of_entries (e ∷ [])) now now' → Puts Out (lines_of_entries (es ++ e ∷ [])) start now'
   all_more p =
@@ -157,7 +157,7 @@ module _ (start now now' : ConsoleState) (es : List ReadEntry) (e : ReadEntry) (
             ∙ append_assoc start.out.text (lines_of_entries es) (lines_of_entries (e ∷ []))
             ∙ ap (λ (t : List ℕ). start.out.text ++ t) (sym (lines_more es e));
         kept = p.kept ∙ w.kept;
-        fed = λ planned. p.fed (planned_now planned) ∙ w.fed planned;
+        fed = λ scheduled. p.fed (scheduled_now scheduled) ∙ w.fed scheduled;
       }
 
   after_all : IsTrue start.tells → now.out.text ++ lines_of_entries (but_last (e ∷ []))
@@ -178,7 +178,7 @@ module _ (start now now' : ConsoleState) (es : List ReadEntry) (e : ReadEntry) (
             (now.out.text ++ lines_of_entries (but_last (e ∷ []))) (start.out.text ++ lines_of_entries (but_last (es ++ e ∷ [])))
             now'.out.text (ap lines_of_entries (last_is [] e ∙ sym (last_is es e))) (after_all tells)
             (b.text (tells_now tells));
-        unput = λ planned tells. b.unput (planned_now planned) (tells_now tells) ∙ after_all tells;
+        unput = λ scheduled tells. b.unput (scheduled_now scheduled) (tells_now tells) ∙ after_all tells;
         rose = b.rose ∙ ap raised w.kept;
       }
 
@@ -208,7 +208,7 @@ puts_broken start now es before last are b =
           goes_on (line_of_entry last) (start.out.text ++ lines_of_entries before) now.out.text
           (begins_as (lines_of_entries (last_of es)) (line_of_entry last) (start.out.text ++ lines_of_entries (but_last es))
           (start.out.text ++ lines_of_entries before) now.out.text piece after (b.text tells));
-      unput = λ planned tells. b.unput planned tells ∙ after;
+      unput = λ scheduled tells. b.unput scheduled tells ∙ after;
       rose = b.rose;
     }
 

@@ -1,7 +1,7 @@
 -- What a source of zeros answers, of which as much is given as a test map has finished.
 use Rattle.std.specs.Prelude.{◌≡◌, ℕ, ◌-◌, min, Bool, true, false, ◌&&◌, nat_eq, nat_lt, List, [], ◌∷◌, map, replicate, if◌then◌else◌}
 use Rattle.block_list.specs.declared.status.Status.{Status}
-use Rattle.fault_count.specs.Plan.{no_plan}
+use Rattle.fault_count.specs.Schedule.{no_schedule}
 use Rattle.faulty_source.specs.declared.journal.ReadEntry.{ReadEntry}
 use Rattle.faulty_source.specs.declared.source.Got.{Got}
 use Rattle.faulty_source.specs.declared.source.Got.TheVariants.{Read, End}
@@ -51,8 +51,8 @@ plan_source_state length statuses reference entries name opened opens faults los
   opens = opens;
   faults = faults;
   losses = losses;
-  is_planned = false;
-  plan = record { calls = no_plan; room = 0; bad = [] };
-  below = record { reference = reference; test_map = statuses; is_planned = false } ∷ [];
+  is_scheduled = false;
+  schedule = record { calls = no_schedule; room = 0; bad = [] };
+  below = record { reference = reference; test_map = statuses; is_scheduled = false } ∷ [];
   journals_below = [];
 }

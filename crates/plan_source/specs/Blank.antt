@@ -1,6 +1,6 @@
 -- What a site tells that takes whatever is written, and keeps nothing.
 use Rattle.std.specs.Prelude.{Bool, false, [], None}
-use Rattle.fault_count.specs.Plan.{no_plan}
+use Rattle.fault_count.specs.Schedule.{no_schedule}
 use Rattle.crash_site.specs.SiteState.{SiteState}
 
 -- whether an image is open, and whether a draft is begun; no call fails
@@ -12,7 +12,7 @@ blank_state opened drafting = record {
   is_open = opened;
   is_drafting = drafting;
   faults = 0;
-  is_planned = false;
-  plan = no_plan;
+  is_scheduled = false;
+  schedule = no_schedule;
   starved = 0;
 }

@@ -1,7 +1,7 @@
 -- What a console got of a journal's lines.
 use Rattle.std.specs.Prelude.{◌≡◌, ℕ, ◌-◌, ◌<◌, Bool, true, false, IsTrue, List, [], ◌++◌, length, take, drop, Option, Some, None}
 use Rattle.fault_count.specs.Counts.{Rose}
-use Rattle.fault_count.specs.Plan.{no_plan}
+use Rattle.fault_count.specs.Schedule.{no_schedule}
 use Rattle.faulty_source.specs.declared.journal.ReadEntry.{ReadEntry}
 use Rattle.rescue_console.specs.declared.console.Channel.TheVariants.{Out}
 use Rattle.rescue_console.specs.ConsoleState.{ConsoleState, TextGoesOn, Puts, StaysBeside}
@@ -15,8 +15,8 @@ unknown = record {
   tells = false;
   out = record { text = []; faults = 0 };
   err = record { text = []; faults = 0 };
-  is_planned = false;
-  plan = no_plan;
+  is_scheduled = false;
+  schedule = no_schedule;
   starved = 0;
 }
 
@@ -45,13 +45,13 @@ abbrev pub but_last : List ReadEntry → List ReadEntry
 but_last entries = take (length entries - 1) entries
 
 -- the lines of a journal were put, in order, but the last one's put failed: a beginning of it stands, and nothing of it
--- where it failed by a plan
+-- where it failed by a schedule
 pub record BreaksLast (entries : List ReadEntry) (start now : ConsoleState) : Type 0 where
   pub some : 0 < length entries
   pub stays : StaysBeside Out start now
   pub text : IsTrue start.tells → BeginsAfter (lines_of_entries (last_of entries))
       (start.out.text ++ lines_of_entries (but_last entries)) now.out.text
-  pub unput : IsTrue start.is_planned → IsTrue start.tells
+  pub unput : IsTrue start.is_scheduled → IsTrue start.tells
       → now.out.text ≡ start.out.text ++ lines_of_entries (but_last entries)
   pub rose : Rose start.out.faults now.out.faults
 
@@ -62,9 +62,9 @@ pub record HasPrinted (start now : ConsoleState) (entries : List ReadEntry) (los
   pub broken : is_line_lost lost ≡ true → BreaksLast entries start now
 
 -- a text was put on standard output, and a beginning of a piece after it; and then a put failed, of which nothing is
--- there if it failed by a plan
+-- there if it failed by a schedule
 pub record PutsAfter (text piece : List ℕ) (old new : ConsoleState) : Type 0 where
   pub stays : StaysBeside Out old new
   pub part : IsTrue old.tells → TextGoesOn piece (old.out.text ++ text) new.out.text
-  pub unput : IsTrue old.is_planned → IsTrue old.tells → new.out.text ≡ old.out.text ++ text
+  pub unput : IsTrue old.is_scheduled → IsTrue old.tells → new.out.text ≡ old.out.text ++ text
   pub rose : Rose old.out.faults new.out.faults

@@ -39,8 +39,8 @@ changed_beside c old mid now changed beside = record {
 said_beside : (silent quiet : Bool) (message : List ℕ) (old new : ConsoleState) → SaysAs silent quiet message old new
     → new.out ≡ old.out
 said_beside silent quiet message old new (Silence why same) = ap (λ (c : ConsoleState). c.out) same
-said_beside silent quiet message old new (Speech loud off (inl put) plan) = put.stays.other
-said_beside silent quiet message old new (Speech loud off (inr part) plan) = part.stays.other
+said_beside silent quiet message old new (Speech loud off (inl put) schedule) = put.stays.other
+said_beside silent quiet message old new (Speech loud off (inr part) schedule) = part.stays.other
 
 module _ {C E O : Type 0} (p : Program C E O) where
   module _ (words : List (List ℕ)) (e : E) (quiet : Bool) (old mid : WorldState) (now : ConsoleState)
@@ -49,7 +49,7 @@ module _ {C E O : Type 0} (p : Program C E O) where
         → Says p (told words e old (with_console mid now)) mid
     says (Silence (inl silent) same) = Nothing (inl silent) (ap (λ (c : ConsoleState). with_console mid c) same)
     says (Silence (inr on) same) = Nothing (inr (d.silent on)) (ap (λ (c : ConsoleState). with_console mid c) same)
-    says (Speech loud off put plan) = Message loud (d.loud off) refl put plan
+    says (Speech loud off put schedule) = Message loud (d.loud off) refl put schedule
 
     -- what is done, and then said, is what was promised
     pub said : SaysAs (is_silent_of p e) quiet (message_by p e) mid.console now
@@ -186,13 +186,13 @@ module _ {C E O : Type 0} (p : Program C E O) where
       split = refl;
       is = ap (λ (w : WorldState). w.console.err.text) same ∙ sym (append-nil between.console.err.text);
     }
-    one_message t between (Message loud may rest (inl put) plan) tells = record {
+    one_message t between (Message loud may rest (inl put) schedule) tells = record {
       part = message_by p t.answer;
       left = [];
       split = append-nil (message_by p t.answer);
       is = put.whole tells;
     }
-    one_message t between (Message loud may rest (inr part) plan) tells = part.part tells
+    one_message t between (Message loud may rest (inr part) schedule) tells = part.part tells
 
     says_one : SaysOneMessage p
     says_one t d tells = one_message t d.between d.says tells

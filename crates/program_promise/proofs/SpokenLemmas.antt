@@ -26,12 +26,12 @@ message_said true false message old new (Silence why same) = record { heard' = f
 message_said false true message old new (Silence (inl silent) same) = absurd (cc)
 message_said false true message old new (Silence (inr off) same) = absurd (cc)
 message_said false false message old new (Silence why same) = record { heard' = false; says = (refl, same) }
-message_said true heard message old new (Speech loud off put plan) = absurd (cc)
-message_said false false message old new (Speech loud off put plan) = absurd (cc)
-message_said false true message old new (Speech loud off (inl put) plan) =
-    record { heard' = true; says = inl (new, record { puts = put; one = plan }, (refl, refl)) }
-message_said false true message old new (Speech loud off (inr part) plan) =
-    record { heard' = false; says = inr (refl, record { puts = part; one = plan }) }
+message_said true heard message old new (Speech loud off put schedule) = absurd (cc)
+message_said false false message old new (Speech loud off put schedule) = absurd (cc)
+message_said false true message old new (Speech loud off (inl put) schedule) =
+    record { heard' = true; says = inl (new, record { puts = put; one = schedule }, (refl, refl)) }
+message_said false true message old new (Speech loud off (inr part) schedule) =
+    record { heard' = false; says = inr (refl, record { puts = part; one = schedule }) }
 
 -- who isn't heard says nothing
 unheard : (ps : List SpokenPiece) (heard : Bool) (old new : ConsoleState) → SpeaksOn ps false heard old new → new ≡ old

@@ -1,7 +1,7 @@
 -- What a program promises of a call. What an object tells is its own: the forms in memory tell all, those for real
 -- files and streams their counts and what is open.
 use Rattle.std.specs.Prelude.{◌≡◌, ◌⊎◌, ⊤, ℕ, Bool, true, false, IsTrue, List}
-use Rattle.fault_count.specs.Plan.{with_call}
+use Rattle.fault_count.specs.Schedule.{with_call}
 use Rattle.option_words.specs.Grammar.{AskFor, AreRefusedBy, AskSilence}
 use Rattle.rescue_console.specs.declared.console.Channel.TheVariants.{Err}
 use Rattle.rescue_console.specs.ConsoleState.{Puts, PutsPart}
@@ -72,7 +72,8 @@ module _ {C E O : Type 0} (p : Program C E O) where
         → t.after ≡ with_console between t.after.console
         → Puts Err (message_by p t.answer) between.console t.after.console
         ⊎ PutsPart Err (message_by p t.answer) between.console t.after.console
-        → (IsTrue between.console.is_planned → t.after.console.plan ≡ with_call between.console.plan) → Says t between
+        → (IsTrue between.console.is_scheduled → t.after.console.schedule ≡ with_call between.console.schedule)
+        → Says t between
 
   -- What a program promises of a call, by all that is told of it:
   pub record Promise (t : Told E) : Type 0 where

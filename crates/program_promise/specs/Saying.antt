@@ -1,6 +1,6 @@
 -- How a message is put on standard error when some work is done, unless nothing is to be said.
 use Rattle.std.specs.Prelude.{◌≡◌, ◌⊎◌, ℕ, Bool, true, false, IsTrue, List}
-use Rattle.fault_count.specs.Plan.{with_call}
+use Rattle.fault_count.specs.Schedule.{with_call}
 use Rattle.rescue_console.specs.declared.console.Channel.TheVariants.{Err}
 use Rattle.rescue_console.specs.ConsoleState.{ConsoleState, Puts, PutsPart}
 
@@ -8,4 +8,4 @@ use Rattle.rescue_console.specs.ConsoleState.{ConsoleState, Puts, PutsPart}
 pub data SaysAs (silent quiet : Bool) (message : List ℕ) (old new : ConsoleState) : Type 0 where
   Silence : (silent ≡ true) ⊎ (quiet ≡ true) → new ≡ old → SaysAs silent quiet message old new
   Speech : silent ≡ false → quiet ≡ false → Puts Err message old new ⊎ PutsPart Err message old new
-      → (IsTrue old.is_planned → new.plan ≡ with_call old.plan) → SaysAs silent quiet message old new
+      → (IsTrue old.is_scheduled → new.schedule ≡ with_call old.schedule) → SaysAs silent quiet message old new

@@ -1,6 +1,6 @@
 -- All that the objects tell which a program may be handed, at one time, and what is told of a call.
 use Rattle.std.specs.Prelude.{ℕ, false, List, [], None}
-use Rattle.fault_count.specs.Plan.{no_plan}
+use Rattle.fault_count.specs.Schedule.{no_schedule}
 use Rattle.faulty_source.specs.SourceState.{SourceState}
 use Rattle.crash_site.specs.SiteState.{SiteState}
 use Rattle.rescue_console.specs.ClockState.{ClockState}
@@ -28,8 +28,8 @@ no_source = record {
   opens = 0;
   faults = 0;
   losses = 0;
-  is_planned = false;
-  plan = record { calls = no_plan; room = 0; bad = [] };
+  is_scheduled = false;
+  schedule = record { calls = no_schedule; room = 0; bad = [] };
   below = [];
   journals_below = [];
 }
@@ -43,18 +43,18 @@ no_site = record {
   is_open = false;
   is_drafting = false;
   faults = 0;
-  is_planned = false;
-  plan = no_plan;
+  is_scheduled = false;
+  schedule = no_schedule;
   starved = 0;
 }
 
 -- a clock for a program that isn't handed one
 abbrev pub no_clock : ClockState
-no_clock = record { tells = false; readings = []; is_planned = false; plan = [] }
+no_clock = record { tells = false; readings = []; is_scheduled = false; schedule = [] }
 
 -- a feed for a program that isn't handed one
 abbrev pub no_feed : FeedState
-no_feed = record { tells = false; left = []; faults = 0; is_planned = false; plan = no_plan }
+no_feed = record { tells = false; left = []; faults = 0; is_scheduled = false; schedule = no_schedule }
 
 -- this world with another console
 abbrev pub with_console : WorldState → ConsoleState → WorldState

@@ -8,7 +8,7 @@ use Rattle.rescue_console.specs.ConsoleState.{ConsoleState, channel_of, Keeps, S
 keeps_join : (a b c : ConsoleState) → Keeps a b → Keeps b c → Keeps a c
 keeps_join a b c k l = record {
   tells = l.tells ∙ k.tells;
-  planned = l.planned ∙ k.planned;
+  scheduled = l.scheduled ∙ k.scheduled;
   out = omega (arith, k.out, l.out);
   err = omega (arith, k.err, l.err);
 }
@@ -19,7 +19,7 @@ beside_join at a b c k l = record { keeps = keeps_join a b c k.keeps l.keeps; ot
 pub puts_none : (at : Channel) (a : ConsoleState) → Puts at [] a a
 puts_none at a = record {
   stays = record {
-    keeps = record { tells = refl; planned = refl; out = omega arith; err = omega arith };
+    keeps = record { tells = refl; scheduled = refl; out = omega arith; err = omega arith };
     other = refl;
   };
   whole = λ t. sym (append-nil (channel_of at a).text);
@@ -34,7 +34,7 @@ puts_both at s t a b c p q = record {
   whole = λ tells. q.whole (subst IsTrue (sym p.stays.keeps.tells) tells) ∙ ap (λ x. x ++ t) (p.whole tells)
       ∙ append_assoc (channel_of at a).text s t;
   kept = q.kept ∙ p.kept;
-  fed = λ planned. q.fed (subst IsTrue (sym p.stays.keeps.planned) planned) ∙ p.fed planned;
+  fed = λ scheduled. q.fed (subst IsTrue (sym p.stays.keeps.scheduled) scheduled) ∙ p.fed scheduled;
 }
 
 -- a beginning of a text that goes on is one of a longer text

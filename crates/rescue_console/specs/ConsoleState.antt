@@ -1,7 +1,7 @@
 -- What a console tells of itself, and what a put does to that.
 use Rattle.std.specs.Prelude.{◌≡◌, ◌⊎◌, ℕ, ◌≤◌, Bool, IsTrue, List, ◌++◌, Result, OnOk, OnErr, IsErr}
 use Rattle.fault_count.specs.Counts.{Rose, raised}
-use Rattle.fault_count.specs.Plan.{Plan, with_call, FailsNext}
+use Rattle.fault_count.specs.Schedule.{Schedule, with_call, FailsNext}
 use Rattle.rescue_console.specs.declared.console.Channel.{Channel}
 use Rattle.rescue_console.specs.declared.console.Channel.TheVariants.{Out, Err}
 
@@ -10,14 +10,14 @@ pub record ChannelState : Type 0 where
   pub text : List ℕ
   pub faults : ℕ
 
--- whether a console tells its texts, and its two channels; and whether it fails by a plan, this, and how many puts
+-- whether a console tells its texts, and its two channels; and whether it fails by a schedule, this, and how many puts
 -- found no memory
 pub record ConsoleState : Type 0 where
   pub tells : Bool
   pub out : ChannelState
   pub err : ChannelState
-  pub is_planned : Bool
-  pub plan : Plan
+  pub is_scheduled : Bool
+  pub schedule : Schedule
   pub starved : ℕ
 
 -- what a console has on this channel
@@ -33,7 +33,7 @@ other_of Err s = s.out
 -- what no put changes: whether a console tells, and its kind; and no count ever falls
 pub record Keeps (old new : ConsoleState) : Type 0 where
   pub tells : new.tells ≡ old.tells
-  pub planned : new.is_planned ≡ old.is_planned
+  pub scheduled : new.is_scheduled ≡ old.is_scheduled
   pub out : old.out.faults ≤ new.out.faults
   pub err : old.err.faults ≤ new.err.faults
 
@@ -54,7 +54,7 @@ pub record Puts (channel : Channel) (text : List ℕ) (old new : ConsoleState) :
   pub stays : StaysBeside channel old new
   pub whole : IsTrue old.tells → (channel_of channel new).text ≡ (channel_of channel old).text ++ text
   pub kept : (channel_of channel new).faults ≡ (channel_of channel old).faults
-  pub fed : IsTrue old.is_planned → new.starved ≡ old.starved
+  pub fed : IsTrue old.is_scheduled → new.starved ≡ old.starved
 
 -- a beginning of a text was put on a channel, and then a put failed
 pub record PutsPart (channel : Channel) (text : List ℕ) (old new : ConsoleState) : Type 0 where
@@ -62,13 +62,13 @@ pub record PutsPart (channel : Channel) (text : List ℕ) (old new : ConsoleStat
   pub part : IsTrue old.tells → TextGoesOn text (channel_of channel old).text (channel_of channel new).text
   pub rose : Rose (channel_of channel old).faults (channel_of channel new).faults
 
--- by its plan a put fails where its number is one of those that fail, or where it finds no memory, which is counted; of
+-- by its schedule a put fails if its number is one of those that fail, or if it finds no memory, which is counted; of
 -- one that fails nothing is put
-pub record PlansPut {T E : Type 0} (channel : Channel) (result : Result T E)
+pub record PutsBySchedule {T E : Type 0} (channel : Channel) (result : Result T E)
     (old new : ConsoleState) : Type 0 where
-  pub plan : new.plan ≡ with_call old.plan
-  pub fails : FailsNext old.plan → IsErr result
-  pub why : OnErr result ((FailsNext old.plan × (new.starved ≡ old.starved)) ⊎ (new.starved ≡ raised old.starved))
+  pub schedule : new.schedule ≡ with_call old.schedule
+  pub fails : FailsNext old.schedule → IsErr result
+  pub why : OnErr result ((FailsNext old.schedule × (new.starved ≡ old.starved)) ⊎ (new.starved ≡ raised old.starved))
   pub unput : OnErr result ((channel_of channel new).text ≡ (channel_of channel old).text)
 
 -- what a put does, by its outcome
@@ -77,4 +77,4 @@ pub record Answers {T E : Type 0} (channel : Channel) (piece : List ℕ) (result
   pub stays : StaysBeside channel old new
   pub puts : OnOk result (Puts channel piece old new)
   pub fails : OnErr result (PutsPart channel piece old new)
-  pub plan : IsTrue old.is_planned → PlansPut channel result old new
+  pub schedule : IsTrue old.is_scheduled → PutsBySchedule channel result old new

@@ -1,6 +1,6 @@
 -- What is put on a console, piece by piece, up to the first put that fails.
 use Rattle.std.specs.Prelude.{◌≡◌, ◌⊎◌, ℕ, Bool, true, false, IsTrue, List, [], ◌∷◌, ◌++◌, map}
-use Rattle.fault_count.specs.Plan.{with_call}
+use Rattle.fault_count.specs.Schedule.{with_call}
 use Rattle.rescue_console.specs.declared.console.Channel.{Channel}
 use Rattle.rescue_console.specs.declared.console.Channel.TheVariants.{Out, Err}
 use Rattle.rescue_console.specs.ConsoleState.{ConsoleState, channel_of, Puts, PutsPart}
@@ -17,12 +17,12 @@ out_pieces texts = map (λ t. record { channel = Out; text = t }) texts
 -- a piece was put whole, by one put
 pub record PutsWhole (p : SpokenPiece) (old new : ConsoleState) : Type 0 where
   pub puts : Puts p.channel p.text old new
-  pub one : IsTrue old.is_planned → new.plan ≡ with_call old.plan
+  pub one : IsTrue old.is_scheduled → new.schedule ≡ with_call old.schedule
 
 -- a beginning of a piece was put, by one put that failed
 pub record PutsBroken (p : SpokenPiece) (old new : ConsoleState) : Type 0 where
   pub puts : PutsPart p.channel p.text old new
-  pub one : IsTrue old.is_planned → new.plan ≡ with_call old.plan
+  pub one : IsTrue old.is_scheduled → new.schedule ≡ with_call old.schedule
 
 -- Pieces are put in order, each by one put. One that fails is the last: after it nothing is put, on either channel.
 abbrev pub Speaks : List SpokenPiece → (old new : ConsoleState) → Type 0

@@ -146,8 +146,8 @@ impl Clock for SystemClock {
     ghost state = { λ _. record {
       tells = false;
       readings = [];
-      is_planned = false;
-      plan = [];
+      is_scheduled = false;
+      schedule = [];
     } };
 
     fn now_ms(&mut self) -> u64 {
@@ -259,14 +259,14 @@ impl StdConsole {
 }
 
 impl Console for StdConsole {
-    ghost use Rattle.fault_count.specs.Plan.{no_plan};
+    ghost use Rattle.fault_count.specs.Schedule.{no_schedule};
 
     ghost state = { λ s. record {
       tells = false;
       out = record { text = []; faults = s.out.faults };
       err = record { text = []; faults = s.err.faults };
-      is_planned = false;
-      plan = no_plan;
+      is_scheduled = false;
+      schedule = no_schedule;
       starved = 0;
     } };
 
@@ -328,14 +328,14 @@ fn read_some<R: Read>(reader: &mut R, buf: &mut [u8]) -> io::Result<usize>
 }
 
 impl Feed for StdFeed {
-    ghost use Rattle.fault_count.specs.Plan.{no_plan};
+    ghost use Rattle.fault_count.specs.Schedule.{no_schedule};
 
     ghost state = { λ s. record {
       tells = false;
       left = [];
       faults = s.faults;
-      is_planned = false;
-      plan = no_plan;
+      is_scheduled = false;
+      schedule = no_schedule;
     } };
 
     fn take(&mut self, buf: &mut [u8]) -> Result<usize, FeedFault> {

@@ -12,10 +12,10 @@ use Rattle.rescue_console.specs.Speaking.{SpokenPiece, SpeaksOn, out_pieces}
 use Rattle.rescue_console.proofs.SpeakingLemmas.{speeches_join}
 
 pub clock_self : (a : ClockState) → ClockKeeps a a
-clock_self a = record { planned = refl; plan = refl }
+clock_self a = record { scheduled = refl; schedule = refl }
 
 pub clock_keeps : (a b c : ClockState) → ClockKeeps a b → ClockKeeps b c → ClockKeeps a c
-clock_keeps a b c f g = record { planned = g.planned ∙ f.planned; plan = g.plan ∙ f.plan }
+clock_keeps a b c f g = record { scheduled = g.scheduled ∙ f.scheduled; schedule = g.schedule ∙ f.schedule }
 
 pub timed_none : (a : ClockState) → ReadsClock [] a a
 timed_none a = record { tells = λ now. now; told = λ now. sym (append-nil a.readings) }

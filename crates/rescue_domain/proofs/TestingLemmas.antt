@@ -82,13 +82,13 @@ keeps_seen : (reference : ℕ) (statuses : List Status) (old new : SourceState) 
     → Keeps (state_seen reference statuses old) (state_seen reference statuses new)
 keeps_seen reference statuses old new keeps gains = record {
   tells = keeps.tells;
-  planned = refl;
+  scheduled = refl;
   bytes = keeps.bytes;
   end = keeps.end;
   opens = keeps.opens;
   faults = keeps.faults;
   losses = keeps.losses;
-  below = cc (keeps.planned, keeps.below);
+  below = cc (keeps.scheduled, keeps.below);
   journals_below = λ tells. (gains tells, keeps.journals_below tells);
 }
 
@@ -180,8 +180,8 @@ module _ (reference reference' : ℕ) (statuses statuses' : List Status) (old ne
   keeps = subst (λ (s : SourceState). Keeps s (state_seen reference' statuses' new)) made kept
 
   same_below : ◌≡◌ {A = Below}
-      (record { reference = reference'; test_map = statuses'; is_planned = new.is_planned })
-      (record { reference = reference; test_map = statuses; is_planned = old.is_planned })
+      (record { reference = reference'; test_map = statuses'; is_scheduled = new.is_scheduled })
+      (record { reference = reference; test_map = statuses; is_scheduled = old.is_scheduled })
   same_below = cc keeps.below
 
   same_map : statuses' ≡ statuses
@@ -204,7 +204,7 @@ module _ (reference reference' : ℕ) (statuses statuses' : List Status) (old ne
   pub keeps_below : Keeps old new
   keeps_below = record {
     tells = keeps.tells;
-    planned = ap (λ (b : Below). b.is_planned) same_below;
+    scheduled = ap (λ (b : Below). b.is_scheduled) same_below;
     bytes = keeps.bytes;
     end = keeps.end;
     opens = keeps.opens;

@@ -31,11 +31,11 @@ pub record GainsSeen (statuses : List Status) (reads old new : List Reading) : T
   pub seen : map (seen statuses) gains.reads ≡ reads
 
 -- What a source tells in test mode: what the one that it reads does, but its journal has the reads as they are seen.
--- That one's plan isn't its own, since a failure past the first position that isn't finished is met all the same.
+-- That one's schedule isn't its own, since a failure past the first position that isn't finished is met all the same.
 abbrev pub state_seen : (reference : ℕ) (statuses : List Status) → SourceState → SourceState
 state_seen reference statuses s = record s {
   journal = map (seen statuses) s.journal;
-  is_planned = false;
-  below = record { reference = reference; test_map = statuses; is_planned = s.is_planned } ∷ s.below;
+  is_scheduled = false;
+  below = record { reference = reference; test_map = statuses; is_scheduled = s.is_scheduled } ∷ s.below;
   journals_below = s.journal ∷ s.journals_below;
 }

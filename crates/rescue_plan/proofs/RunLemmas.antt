@@ -265,8 +265,8 @@ is_after len len' test test' reference reference' entries name opened opens faul
     let st : Stays first new = subst (λ (s : SourceState). Stays s new) was stays in
     let journal : IsTrue first.tells → map reading_of entries ≡ first.journal ++ reads =
     subst (λ (s : SourceState). IsTrue s.tells → map reading_of entries ≡ s.journal ++ reads) was read in
-    let same : ◌≡◌ {A = Below} (record { reference = reference'; test_map = test'; is_planned = false })
-    (record { reference = reference; test_map = test; is_planned = false }) = cc st.keeps.below in
+    let same : ◌≡◌ {A = Below} (record { reference = reference'; test_map = test'; is_scheduled = false })
+    (record { reference = reference; test_map = test; is_scheduled = false }) = cc st.keeps.below in
     record {
       length_is = sym (length-replicate len' 0) ∙ ap length (st.keeps.bytes (search rules)) ∙ length-replicate len 0;
       test_is = ap (λ (b : Below). b.test_map) same;

@@ -1,6 +1,6 @@
 -- What the input of a sample tells of itself.
 use Rattle.std.specs.Prelude.{true, false, [], map}
-use Rattle.fault_count.specs.Plan.{no_plan}
+use Rattle.fault_count.specs.Schedule.{no_schedule}
 use Rattle.faulty_source.specs.SourceState.{SourceState}
 use Rattle.faulty_source.specs.ReadEntries.{reading_of}
 use Rattle.rescue_sample.specs.Sample.{sample_bytes, sample_size}
@@ -18,8 +18,8 @@ state_of s = record {
   opens = s.opens;
   faults = s.faults;
   losses = s.losses;
-  is_planned = false;
-  plan = record { calls = no_plan; room = 0; bad = [] };
+  is_scheduled = false;
+  schedule = record { calls = no_schedule; room = 0; bad = [] };
   below = [];
   journals_below = [];
 }

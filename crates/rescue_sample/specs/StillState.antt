@@ -8,6 +8,6 @@ abbrev pub state_of : StillClock → ClockState
 state_of c = record {
   tells = nat_lt c.made (2 ^ 64 - 1);
   readings = replicate c.made 0;
-  is_planned = false;
-  plan = [];
+  is_scheduled = false;
+  schedule = [];
 }

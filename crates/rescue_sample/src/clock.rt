@@ -14,7 +14,7 @@ impl StillClock {
 
     /// A clock that wasn't read yet.
     pub fn new() -> StillClock
-        ensures { state_of result ≡ record { tells = true; readings = []; is_planned = false; plan = [] } }
+        ensures { state_of result ≡ record { tells = true; readings = []; is_scheduled = false; schedule = [] } }
     {
         StillClock { made: 0 }
     }

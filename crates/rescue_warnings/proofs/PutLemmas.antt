@@ -38,7 +38,7 @@ pub one_more : {T E : Type 0} (program : List ℕ) (names : Names) (advices : Li
     → Answers {T = T} {E = E} ErrorChannel text (Ok v) now next → ArePutTo program names advices (i + 1) old next
 one_more program names advices i d text v old now next within is before put end said =
     before end (first_said program names advices i d now end within
-    (inl (next, record { puts = rw is at put.puts; one = λ planned. (put.plan planned).plan }, said)))
+    (inl (next, record { puts = rw is at put.puts; one = λ scheduled. (put.schedule scheduled).schedule }, said)))
 
 -- The next line is put in part, and nothing after it.
 pub broke : {T E : Type 0} (program : List ℕ) (names : Names) (advices : List Advice) (i : ℕ) (d : Advice)
@@ -48,4 +48,4 @@ pub broke : {T E : Type 0} (program : List ℕ) (names : Names) (advices : List 
     → Speaks (warning_pieces program names advices) old next
 broke program names advices i d text e old now next within is before put =
     before next (first_said program names advices i d now next within
-    (inr (record { puts = rw is at put.fails; one = λ planned. (put.plan planned).plan })))
+    (inr (record { puts = rw is at put.fails; one = λ scheduled. (put.schedule scheduled).schedule })))

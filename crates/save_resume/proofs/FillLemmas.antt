@@ -22,13 +22,13 @@ pub record PartlyFilled (text left : List ℕ) (old new : SiteState) : Type 0 wh
   pub drafting : new.is_drafting ≡ true
 
 pub keeps_self : (s : SiteState) → Keeps s s
-keeps_self s = record { tells = refl; start = λ t. refl; planned = refl; later = omega arith }
+keeps_self s = record { tells = refl; start = λ t. refl; scheduled = refl; later = omega arith }
 
 pub keeps_more : (a b c : SiteState) → Keeps a b → Keeps b c → Keeps a c
 keeps_more a b c f g = record {
   tells = g.tells ∙ f.tells;
   start = λ t. g.start (subst (λ (x : Bool). IsTrue x) (sym f.tells) t) ∙ f.start t;
-  planned = g.planned ∙ f.planned;
+  scheduled = g.scheduled ∙ f.scheduled;
   later = omega (arith, f.later, g.later);
 }
 
@@ -110,7 +110,7 @@ filled_after text left old new f t b = ends_filled f.went old.calls new.calls b 
 
 pub site_stays : (s : SiteState) → Stays s s
 site_stays s = record {
-  keeps = record { tells = refl; start = λ tells. refl; planned = refl; later = omega arith };
+  keeps = record { tells = refl; start = λ tells. refl; scheduled = refl; later = omega arith };
   image = refl;
   draft = refl;
 }

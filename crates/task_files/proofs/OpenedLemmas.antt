@@ -6,7 +6,7 @@ use Rattle.std.proofs.lemmas.List.Elements.{All-nil}
 use Rattle.std.proofs.lemmas.Slice.Eq.{bytes_eq-Decides}
 use Rattle.block_list.specs.declared.status.Status.{Status}
 use Rattle.faulty_source.specs.SourceState.{SourceState}
-use Rattle.faulty_source.specs.SourceChanges.{Stays as SourceStays, AnswersOpen, PlansOpen}
+use Rattle.faulty_source.specs.SourceChanges.{Stays as SourceStays, AnswersOpen, OpensBySchedule}
 use Rattle.crash_site.specs.Files.{File, file_named}
 use Rattle.crash_site.specs.Folder.{Folder, opened, after}
 use Rattle.crash_site.specs.Calls.{Entry, Done as Returned, image_open}
@@ -61,10 +61,10 @@ pub record HasInput (infile : List ℕ) (end : ℕ) (s0 s1 : SourceState) : Type
 
 -- an open that didn't go well failed
 pub not_opened : {E : Type 0} (infile : List ℕ) (r : Result ℕ E) (s0 s1 : SourceState) → ((n : ℕ) → r ≡ Ok n → ⊥)
-    → AnswersOpen infile r s0 s1 → (IsTrue s0.is_planned → PlansOpen infile r s0 s1) → IsNotOpen infile s0 s1
-not_opened infile (Ok n) s0 s1 never call plan = absurd (never n refl)
-not_opened infile (Err e) s0 s1 never call plan =
-    (call.opens, call.input, λ planned. (plan planned).answers.0 refl)
+    → AnswersOpen infile r s0 s1 → (IsTrue s0.is_scheduled → OpensBySchedule infile r s0 s1) → IsNotOpen infile s0 s1
+not_opened infile (Ok n) s0 s1 never call schedule = absurd (never n refl)
+not_opened infile (Err e) s0 s1 never call schedule =
+    (call.opens, call.input, λ scheduled. (schedule scheduled).answers.0 refl)
 
 -- no read is seen where there is none
 pub none_seen : (test : Option (List Status)) → seen_through test [] ≡ []

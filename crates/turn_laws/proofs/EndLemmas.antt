@@ -4,7 +4,7 @@ use Rattle.std.proofs.Math.Bool.{and-false}
 use Rattle.std.specs.List.{flat_map}
 use Rattle.std.proofs.lemmas.Grind.{flat_map-append}
 use Rattle.std.proofs.lemmas.List.{map-append}
-use Rattle.fault_count.specs.Plan.{no_plan}
+use Rattle.fault_count.specs.Schedule.{no_schedule}
 use Rattle.crash_site.specs.Calls.{Call, Entry, Done, image_sync}
 use Rattle.crash_site.specs.Disk.{Disk, only, at_rest, disk_after}
 use Rattle.crash_site.specs.Folder.{Folder}
@@ -62,8 +62,8 @@ made_over start calls = record {
   is_open = true;
   is_drafting = false;
   faults = 0;
-  is_planned = false;
-  plan = no_plan;
+  is_scheduled = false;
+  schedule = no_schedule;
   starved = 0;
 }
 
@@ -76,7 +76,7 @@ saved_by s p start calls =
     saved_where_ok s.names (text_of s.line p) (Ok true) (made_over start calls)
     (made_over start (calls ++ map Done made))
     (record {
-      keeps = record { tells = refl; start = λ tells. refl; planned = refl; later = omega arith };
+      keeps = record { tells = refl; start = λ tells. refl; scheduled = refl; later = omega arith };
       made = record { made = λ tells. refl; faults = refl };
       broke = tt;
       named = tt;

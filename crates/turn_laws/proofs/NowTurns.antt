@@ -137,7 +137,7 @@ turn_apart s request r o setting asks within tells = record {
   asks = asks;
   within = within;
   tells = tells;
-  keeps = record { tells = refl; start = λ tells. refl; planned = refl; later = omega arith };
+  keeps = record { tells = refl; start = λ tells. refl; scheduled = refl; later = omega arith };
 }
 
 -- a turn that stopped, from a state alike

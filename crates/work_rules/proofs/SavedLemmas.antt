@@ -1,6 +1,6 @@
 -- What a stop finds of a mapfile that is saved, by the record of the calls.
 use Rattle.std.proofs.Common.{◌≡◌, ◌≢◌, ◌⊎◌, ℕ, ◌≤◌, Bool, true, false, List, [], ◌++◌, map, length, Option, Result, Ok, Err, refl, ap, inl, inr, subst, arith, append-nil}
-use Rattle.fault_count.specs.Plan.{no_plan}
+use Rattle.fault_count.specs.Schedule.{no_schedule}
 use Rattle.crash_site.specs.declared.site.SiteCall.{SiteCall}
 use Rattle.crash_site.specs.Files.{File}
 use Rattle.crash_site.specs.Calls.{Entry, Done as Returned}
@@ -25,8 +25,8 @@ site_at start calls drafting faults = record {
   is_open = false;
   is_drafting = drafting;
   faults = faults;
-  is_planned = false;
-  plan = no_plan;
+  is_scheduled = false;
+  schedule = no_schedule;
   starved = 0;
 }
 
@@ -38,7 +38,7 @@ made_saves : (names : MapNames) (text : List ℕ) (start : Folder) (old new : Li
     → new ≡ old ++ map Returned (save_calls names text)
     → SavesBy names text (Ok tt) (site_at start old false 0) (site_at start new false 0)
 made_saves names text start old new grew = record {
-  keeps = record { tells = refl; start = λ t. refl; planned = refl; later = omega arith };
+  keeps = record { tells = refl; start = λ t. refl; scheduled = refl; later = omega arith };
   made = record { made = λ t. grew; faults = refl };
   broke = tt;
   named = tt;
@@ -52,7 +52,7 @@ broke_saves : (names : MapNames) (text : List ℕ) (start : Folder) (at : SiteCa
     → SavesBy names text (Err (record { call = at })) (site_at start old false 0)
     (site_at start new (drafting_after_fault at false) 1)
 broke_saves names text start at old new broke = record {
-  keeps = record { tells = refl; start = λ t. refl; planned = refl; later = omega arith };
+  keeps = record { tells = refl; start = λ t. refl; scheduled = refl; later = omega arith };
   made = tt;
   broke = record { broke = λ t. broke; rose = refl };
   named = broke_named at (save_calls names text) old new broke;

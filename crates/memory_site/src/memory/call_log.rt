@@ -1,7 +1,7 @@
 //! The calls that were made, and which of them failed.
 ghost use Rattle.std.specs.Prelude.{◌≡◌, ◌⊎◌, ℕ, ◌+◌, ◌<◌, ◌≤◌, ◌↔◌, true, false, IsTrue, List, [], ◌∷◌, ◌++◌, Some, None, Ok, IfOk, OnOk, OnErr, IsErr, Contains};
 ghost use Rattle.fault_count.specs.Counts.{raised, HasCause};
-ghost use Rattle.fault_count.specs.Plan.{no_plan, with_call, with_failing, FailsNext};
+ghost use Rattle.fault_count.specs.Schedule.{no_schedule, with_call, with_failing, FailsNext};
 ghost use Rattle.crash_site.specs.Calls.{Entry, Done, Failed};
 ghost use Rattle.crash_site.specs.CallsMade.{Lost, unanswered, call_name};
 ghost use Rattle.memory_site.specs.CallLog.{call_of, entries_of};
@@ -9,7 +9,7 @@ ghost use Rattle.memory_site.specs.CallLog.{call_of, entries_of};
 use crash_site::fault::fault;
 use crash_site::site::{MapRead, SiteCall, SiteFault};
 use fault_count::FaultCount;
-use fault_count::plan::FaultPlan;
+use fault_count::schedule::FaultSchedule;
 use std::alloc::{AllocError, Global};
 
 /// A call, with a copy of what it was handed; a read has what it answers as well.
@@ -60,7 +60,7 @@ pub(crate) struct LoggedCall {
 #[derive(Drop)]
 pub(crate) struct CallLog {
     pub(crate) listed: Vec<LoggedCall>,
-    pub(crate) plan: FaultPlan,
+    pub(crate) schedule: FaultSchedule,
     pub(crate) faults: FaultCount,
     pub(crate) starving: FaultCount,
 }
@@ -68,32 +68,32 @@ pub(crate) struct CallLog {
 impl CallLog {
     pub(crate) fn new(alloc: Global) -> CallLog
         ensures entries { entries_of result ≡ [] }
-        ensures plan { result.plan ≡ no_plan }
+        ensures schedule { result.schedule ≡ no_schedule }
         ensures faults { result.faults ≡ 0 }
         ensures starving { result.starving ≡ 0 }
     {
         CallLog {
             listed: Vec::new(alloc),
-            plan: FaultPlan::new(alloc),
+            schedule: FaultSchedule::new(alloc),
             faults: FaultCount::new(),
             starving: FaultCount::new(),
         }
     }
 
     pub(crate) fn fail_call(&mut self, number: u64) -> Result<(), AllocError>
-        ensures plan { OnOk result (self.new.plan ≡ with_failing number self.old.plan) }
-        ensures same { OnErr result (self.new.plan ≡ self.old.plan) }
+        ensures schedule { OnOk result (self.new.schedule ≡ with_failing number self.old.schedule) }
+        ensures same { OnErr result (self.new.schedule ≡ self.old.schedule) }
         ensures entries { entries_of self.new ≡ entries_of self.old }
         ensures faults { self.new.faults ≡ self.old.faults }
         ensures starving { self.new.starving ≡ self.old.starving }
     {
-        self.plan.fail_call(number)
+        self.schedule.fail_call(number)
     }
 
     /// Forgets the calls, and keeps their number.
     pub(crate) fn forget(&mut self)
         ensures entries { entries_of self.new ≡ [] }
-        ensures plan { self.new.plan ≡ self.old.plan }
+        ensures schedule { self.new.schedule ≡ self.old.schedule }
         ensures faults { self.new.faults ≡ self.old.faults }
         ensures starving { self.new.starving ≡ self.old.starving }
     {
@@ -102,7 +102,7 @@ impl CallLog {
 
     /// Counts want of memory.
     fn starve(&mut self) -> SiteFault
-        ensures plan { self.new.plan ≡ self.old.plan }
+        ensures schedule { self.new.schedule ≡ self.old.schedule }
         ensures entries { entries_of self.new ≡ entries_of self.old }
         ensures faults { self.new.faults ≡ raised self.old.faults }
         ensures later { self.old.faults ≤ self.new.faults }
@@ -114,13 +114,13 @@ impl CallLog {
 
     /// Counts a call that found no memory for its entry.
     pub(crate) fn miss(&mut self) -> SiteFault
-        ensures plan { self.new.plan ≡ with_call self.old.plan }
+        ensures schedule { self.new.schedule ≡ with_call self.old.schedule }
         ensures entries { entries_of self.new ≡ entries_of self.old }
         ensures faults { self.new.faults ≡ raised self.old.faults }
         ensures later { self.old.faults ≤ self.new.faults }
         ensures starving { self.new.starving ≡ raised self.old.starving }
     {
-        self.plan.count_call();
+        self.schedule.count_call();
         self.starve()
     }
 
@@ -129,15 +129,15 @@ impl CallLog {
         ensures done { OnOk result (entries_of self.new ≡ entries_of self.old ++ Done (call_of act) ∷ []) }
         ensures lost { OnErr result (Lost (unanswered (call_of act)) (entries_of self.old) (entries_of self.new)) }
         ensures cause { HasCause self.old.faults self.new.faults result }
-        ensures plan { self.new.plan ≡ with_call self.old.plan }
-        ensures fails { FailsNext self.old.plan → IsErr result }
-        ensures told { OnErr result ((FailsNext self.old.plan
+        ensures schedule { self.new.schedule ≡ with_call self.old.schedule }
+        ensures fails { FailsNext self.old.schedule → IsErr result }
+        ensures told { OnErr result ((FailsNext self.old.schedule
             × (self.new.starving ≡ self.old.starving)
             × (entries_of self.new ≡ entries_of self.old ++ Failed (unanswered (call_of act)) ∷ []))
             ⊎ ((self.new.starving ≡ raised self.old.starving) × (entries_of self.new ≡ entries_of self.old))) }
         ensures fed { OnOk result (self.new.starving ≡ self.old.starving) }
     {
-        let failed = self.plan.count_call();
+        let failed = self.schedule.count_call();
         if self.listed.push(LoggedCall { act, failed }).is_err() {
             return Err(self.starve());
         }
@@ -155,7 +155,7 @@ impl CallLog {
             ≡ es ++ e ∷ [] → entries_of self.new ≡ es) }
         ensures error { OnErr result (IsErr outcome) }
         ensures cause { HasCause self.old.faults self.new.faults result }
-        ensures plan { self.new.plan ≡ self.old.plan }
+        ensures schedule { self.new.schedule ≡ self.old.schedule }
         ensures why { OnErr result (self.new.starving ≡ raised self.old.starving) }
         ensures fed { OnOk result (self.new.starving ≡ self.old.starving) }
     {

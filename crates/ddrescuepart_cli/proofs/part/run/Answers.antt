@@ -12,7 +12,7 @@ returns-in_default-make_room g c = starved_worked (told_by c.args.command.now) c
 pub returns-in_default-open_input : goal.returns-in_default-open_input
 returns-in_default-open_input g c =
     unopened_worked (told_by c.args.command.now) c.args.words.now c.in_default-open_input.field-0 _ _ _
-    c.in_default-open_input.ensures.call c.in_default-open_input.ensures.plan
+    c.in_default-open_input.ensures.call c.in_default-open_input.ensures.schedule
 
 pub returns-in-Err : goal.returns-in-Err
 returns-in-Err g c =

@@ -7,7 +7,7 @@ use Rattle.ddrescueverify_cli.proofs.verify.verify.Goals as goal
 
 pub returns-in_default-clause-went : goal.returns-in_default-clause-went
 returns-in_default-clause-went g c = input_fails _ _ _ _ _ c.open_input.ensures.call.journal
-    (not_opened _ c.open_input.result _ _ c.in_default.not-Ok c.open_input.ensures.call c.open_input.ensures.plan)
+    (not_opened _ c.open_input.result _ _ c.in_default.not-Ok c.open_input.ensures.call c.open_input.ensures.schedule)
 
 pub returns-in_err-open_output-clause-went : goal.returns-in_err-open_output-clause-went
 returns-in_err-open_output-clause-went g c =

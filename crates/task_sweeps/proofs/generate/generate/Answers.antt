@@ -39,7 +39,7 @@ returns-in_default-clause-worked g c =
     (g.D.Site.state c.read_named.new.site) c.in_ok-domain_map.ensures.told c.in_ok-domain_map.ensures.site
     (g.S.Source.state c.open_input.new.self) (g.K.Clock.state c.args.clock.now)
     (g.C.Console.state c.args.console.now) c.open_input.ensures.call.journal
-    (not_opened _ c.open_input.result _ _ c.in_default.not-Ok c.open_input.ensures.call c.open_input.ensures.plan)
+    (not_opened _ c.open_input.result _ _ c.in_default.not-Ok c.open_input.ensures.call c.open_input.ensures.schedule)
 
 pub returns-in_err-open_output-clause-worked : goal.returns-in_err-open_output-clause-worked
 returns-in_err-open_output-clause-worked g c =

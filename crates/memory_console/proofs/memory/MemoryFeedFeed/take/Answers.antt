@@ -13,5 +13,5 @@ returns-clause-call c =
       kept = search rules;
       rose = search rules;
       stays = search rules;
-      plan = λ _. record { plan = search rules; fails = search rules; takes = count };
+      schedule = λ _. record { schedule = search rules; fails = search rules; takes = count };
     }

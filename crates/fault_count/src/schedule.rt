@@ -1,31 +1,31 @@
 //! Which calls of a form in memory are to fail.
 ghost use Rattle.std.specs.Prelude.{◌≡◌, ◌↔◌, IsTrue, OnOk, OnErr};
-ghost use Rattle.fault_count.specs.Plan.{no_plan, with_call, with_failing, FailsNext};
+ghost use Rattle.fault_count.specs.Schedule.{no_schedule, with_call, with_failing, FailsNext};
 
 use std::alloc::{AllocError, Global};
 use std::marker::Model;
 
 /// Which calls of an object in memory are to fail, and how many were made.
 #[derive(Drop)]
-pub struct FaultPlan {
+pub struct FaultSchedule {
     failing: Vec<u64>,
     made: u64,
 }
 
-impl Model for FaultPlan {
-    ghost use Rattle.fault_count.specs.Plan.{Plan};
+impl Model for FaultSchedule {
+    ghost use Rattle.fault_count.specs.Schedule.{Schedule};
 
-    ghost Value = { Plan };
+    ghost Value = { Schedule };
 
-    ghost view = { λ p. record { failing = p.failing.items; made = p.made } };
+    ghost view = { λ s. record { failing = s.failing.items; made = s.made } };
 }
 
-impl FaultPlan {
+impl FaultSchedule {
     /// No call is to fail, and none was made.
-    pub fn new(alloc: Global) -> FaultPlan
-        ensures { result ≡ no_plan }
+    pub fn new(alloc: Global) -> FaultSchedule
+        ensures { result ≡ no_schedule }
     {
-        FaultPlan {
+        FaultSchedule {
             failing: Vec::new(alloc),
             made: 0,
         }
