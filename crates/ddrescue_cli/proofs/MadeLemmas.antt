@@ -95,10 +95,10 @@ named_still c e w (inl (first, second, same, is)) =
 named_still c e w (inr is) = starved_still e w is
 
 -- where two files have one name, or memory ran out after the words
-pub plan_said : (words : List (List ℕ)) (task : Task) (c : Command) (e : Ending) (quiet : Bool) (w : WorldState)
+pub unchecked_said : (words : List (List ℕ)) (task : Task) (c : Command) (e : Ending) (quiet : Bool) (w : WorldState)
     → IsAsked words task → files_of_task task ≡ Some c → is_quiet task ≡ quiet → NamesRefused c e ⊎ (e ≡ NoMemory)
     → w.site.is_drafting ≡ false → TaskSaid words e (not quiet) w w
-plan_said words task c e quiet w a over same refused none =
+unchecked_said words task c e quiet w a over same refused none =
     let idle : IsStill e w = named_still c e w refused in
     subst (λ (q : Bool). TaskSaid words e (not q) w w) same
     (task_said words task e (not (is_quiet task)) w w a (record {

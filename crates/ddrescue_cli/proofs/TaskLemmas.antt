@@ -32,9 +32,9 @@ use Rattle.task_files.specs.declared.ending.Ending.TheVariants.{Usage, SiteFault
 use Rattle.task_files.specs.Names.{first_same, AreNamedApart, program_name}
 use Rattle.task_files.specs.Asked.{names_by}
 use Rattle.task_files.specs.Answers.{Causes, NameOneFileTwice, drafting_left, failure_after, files_of_task, row_of}
-use Rattle.task_files.specs.Steps.{IsPlanned}
+use Rattle.task_files.specs.Steps.{IsChecked}
 use Rattle.ddrescue_cli.specs.Aims.{IsNamedFor, task_for, WorkedFor}
-use Rattle.ddrescue_cli.specs.Jobs.{IsJobFor, IsPlanFor}
+use Rattle.ddrescue_cli.specs.Jobs.{IsJobFor, IsCheckedFor}
 use Rattle.ddrescue_cli.specs.ToldParts.{across}
 use Rattle.ddrescue_cli.specs.Words.{same_of}
 use Rattle.ddrescue_cli.specs.Ddrescue.{TaskSaid, rescue_program}
@@ -70,12 +70,12 @@ named_for ToGenerate c h = h.named
 
 -- ---- what it needs before it opens a file
 
--- a plan that was made for a command that the words ask for
-pub plan_made : (words : List (List ℕ)) (aim : Aim) (plan : CheckedCommand) (c : Command) → IsAsked words (task_for aim c)
-    → told_by plan.command ≡ c → plan.names ≡ names_by c → plan.heading ≡ heading_at (command_line program_name words) 0 0
-    → first_same c.infile c.outfile (names_by c) ≡ None → plan.heard ≡ not c.options.quiet → IsPlanFor words aim plan
-plan_made words aim plan c asked is names heading different heard =
-    let same : c ≡ told_by plan.command = sym is in
+-- a checked command that was made for a command that the words ask for
+pub is_checked_for : (words : List (List ℕ)) (aim : Aim) (checked : CheckedCommand) (c : Command) → IsAsked words (task_for aim c)
+    → told_by checked.command ≡ c → checked.names ≡ names_by c → checked.heading ≡ heading_at (command_line program_name words) 0 0
+    → first_same c.infile c.outfile (names_by c) ≡ None → checked.heard ≡ not c.options.quiet → IsCheckedFor words aim checked
+is_checked_for words aim checked c asked is names heading different heard =
+    let same : c ≡ told_by checked.command = sym is in
     record {
       asked = subst (λ (x : Command). IsAsked words (task_for aim x)) same asked;
       different = subst (λ (x : Command). first_same x.infile x.outfile (names_by x) ≡ None) same different;
@@ -85,17 +85,17 @@ plan_made words aim plan c asked is names heading different heard =
     }
 
 -- what the words ask for, by the code's own job
-pub files_job : (words : List (List ℕ)) (job : Job) (plan : CheckedCommand) (aim : Aim) → job ≡ Files plan aim
-    → IsJobFor words job → IsPlanFor words aim plan
-files_job words job plan aim is for_words = subst (IsJobFor words) is for_words
+pub files_job : (words : List (List ℕ)) (job : Job) (checked : CheckedCommand) (aim : Aim) → job ≡ Files checked aim
+    → IsJobFor words job → IsCheckedFor words aim checked
+files_job words job checked aim is for_words = subst (IsJobFor words) is for_words
 
 pub sample_job : (words : List (List ℕ)) (job : Job) (kib : ℕ) (quiet : Bool) → job ≡ SampleJob kib quiet
     → IsJobFor words job → IsAsked words (Sample kib quiet)
 sample_job words job kib quiet is for_words = subst (IsJobFor words) is for_words
 
-pub planned_for : (words : List (List ℕ)) (aim : Aim) (plan : CheckedCommand) → IsPlanFor words aim plan → IsPlanned plan
-planned_for words aim plan h =
-    let c : Command = told_by plan.command in
+pub is_checked : (words : List (List ℕ)) (aim : Aim) (checked : CheckedCommand) → IsCheckedFor words aim checked → IsChecked checked
+is_checked words aim checked h =
+    let c : Command = told_by checked.command in
     record {
       names = h.names;
       apart = subst (λ (n : Option MapNames). AreNamedApart c.outfile n) (sym h.names)
@@ -105,22 +105,22 @@ planned_for words aim plan h =
       limits = limits_for aim c h.asked.limits;
     }
 
-pub named_by_plan : (words : List (List ℕ)) (aim : Aim) (plan : CheckedCommand) → IsPlanFor words aim plan
-    → IsNamedFor aim (told_by plan.command)
-named_by_plan words aim plan h = named_for aim (told_by plan.command) h.asked.limits
+pub named_by_checked : (words : List (List ℕ)) (aim : Aim) (checked : CheckedCommand) → IsCheckedFor words aim checked
+    → IsNamedFor aim (told_by checked.command)
+named_by_checked words aim checked h = named_for aim (told_by checked.command) h.asked.limits
 
 -- its words name no file twice
-pub never_twice : (words : List (List ℕ)) (aim : Aim) (plan : CheckedCommand) → IsPlanFor words aim plan
+pub never_twice : (words : List (List ℕ)) (aim : Aim) (checked : CheckedCommand) → IsCheckedFor words aim checked
     → (first second : Operand) → NameOneFileTwice words first second → ⊥
-never_twice words aim plan h first second twice =
-    let c : Command = told_by plan.command in
+never_twice words aim checked h first second twice =
+    let c : Command = told_by checked.command in
     named_apart words (task_for aim c) c h.asked (files_for aim c) h.different first second twice
 
 -- and ask for no sample
-pub never_sampled : (words : List (List ℕ)) (aim : Aim) (plan : CheckedCommand) → IsPlanFor words aim plan → (kib : ℕ)
+pub never_sampled : (words : List (List ℕ)) (aim : Aim) (checked : CheckedCommand) → IsCheckedFor words aim checked → (kib : ℕ)
     (quiet : Bool) → AskSample words kib quiet → ⊥
-never_sampled words aim plan h kib quiet asks =
-    let c : Command = told_by plan.command in
+never_sampled words aim checked h kib quiet asks =
+    let c : Command = told_by checked.command in
     let over : files_of_task (Sample kib quiet) ≡ Some c =
     ap files_of_task (h.asked.only.alone (Sample kib quiet) asks) ∙ files_for aim c in
     let never : None ≡ Some c = over in cc
@@ -192,14 +192,14 @@ said_for words ToGenerate c e heard old new a different w fed l =
     (generate_done c (command_line program_name words) e old new different (not c.options.quiet) heard a.limits w) l)
     w.says
 
--- by what was done by a plan that is for them
-pub plan_does : (words : List (List ℕ)) (aim : Aim) (plan : CheckedCommand) (e : Ending) (heard : Bool)
-    (old new : WorldState) → IsPlanFor words aim plan
-    → WorkedFor aim (told_by plan.command) plan.heading.line plan.heard heard e (across old new)
+-- by what was done by a checked command that is for them
+pub checked_does : (words : List (List ℕ)) (aim : Aim) (checked : CheckedCommand) (e : Ending) (heard : Bool)
+    (old new : WorldState) → IsCheckedFor words aim checked
+    → WorkedFor aim (told_by checked.command) checked.heading.line checked.heard heard e (across old new)
     → new.feed_ ≡ old.feed_ → Leaves e old new → TaskSaid words e heard old new
-plan_does words aim plan e heard old new h w fed l =
-    let c : Command = told_by plan.command in
-    let line : plan.heading.line ≡ command_line program_name words = ap (λ (x : HeadingLines). x.line) h.heading in
+checked_does words aim checked e heard old new h w fed l =
+    let c : Command = told_by checked.command in
+    let line : checked.heading.line ≡ command_line program_name words = ap (λ (x : HeadingLines). x.line) h.heading in
     said_for words aim c e heard old new h.asked h.different
     (subst (λ (x : Bool). WorkedFor aim c (command_line program_name words) x heard e (across old new)) h.heard
-    (subst (λ (x : List ℕ). WorkedFor aim c x plan.heard heard e (across old new)) line w)) fed l
+    (subst (λ (x : List ℕ). WorkedFor aim c x checked.heard heard e (across old new)) line w)) fed l

@@ -16,18 +16,18 @@ use Rattle.ddrescue_cli.specs.Aims.{task_for}
 use Rattle.ddrescue_cli.specs.Words.{same_of}
 use Rattle.ddrescue_cli.specs.Ddrescue.{TaskSaid}
 
--- A plan is what the words ask for, with this aim. Its files have different names, the names and the heading of its
--- mapfile are made, and it is heard unless the words ask for silence.
-pub record IsPlanFor (words : List (List ℕ)) (aim : Aim) (plan : CheckedCommand) : Type 0 where
-  pub asked : IsAsked words (task_for aim (told_by plan.command))
-  pub different : same_of (told_by plan.command) ≡ None
-  pub names : plan.names ≡ names_by (told_by plan.command)
-  pub heading : plan.heading ≡ heading_at (command_line program_name words) 0 0
-  pub heard : plan.heard ≡ not (told_by plan.command).options.quiet
+-- A checked command is what the words ask for, with this aim. Its files have different names, the names and the heading
+-- of its mapfile are made, and it is heard unless the words ask for silence.
+pub record IsCheckedFor (words : List (List ℕ)) (aim : Aim) (checked : CheckedCommand) : Type 0 where
+  pub asked : IsAsked words (task_for aim (told_by checked.command))
+  pub different : same_of (told_by checked.command) ≡ None
+  pub names : checked.names ≡ names_by (told_by checked.command)
+  pub heading : checked.heading ≡ heading_at (command_line program_name words) 0 0
+  pub heard : checked.heard ≡ not (told_by checked.command).options.quiet
 
 -- a job is what the words ask for
 abbrev pub IsJobFor : (words : List (List ℕ)) → Job → Type 0
-IsJobFor words (Files plan aim) = IsPlanFor words aim plan
+IsJobFor words (Files checked aim) = IsCheckedFor words aim checked
 IsJobFor words (Sample kib quiet) = IsAsked words (SampleTask kib quiet)
 
 -- A call may end so and do nothing, whatever it was handed, if no draft is begun.

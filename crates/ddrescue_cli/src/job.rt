@@ -16,9 +16,15 @@ use task_files::ending::{Ended, Ending};
 #[derive(Drop)]
 pub(crate) enum Job<'a> {
     /// The work on files that have different names.
-    Files { plan: CheckedCommand<'a>, aim: Aim },
+    Files {
+        checked: CheckedCommand<'a>,
+        aim: Aim,
+    },
     /// The rescue of a sample of this size in KiB, without a message if that is asked for.
-    Sample { kib: u64, quiet: bool },
+    Sample {
+        kib: u64,
+        quiet: bool,
+    },
 }
 
 /// The work on the files of a command. Two files of one name are refused.
@@ -34,7 +40,7 @@ fn check_files<'a>(
 {
     let heard = !command.options.quiet;
     match check_command(alloc, words, command) {
-        Ok(plan) => Ok(Job::Files { plan, aim }),
+        Ok(checked) => Ok(Job::Files { checked, aim }),
         Err(ending) => Err(Ended { ending, heard }),
     }
 }

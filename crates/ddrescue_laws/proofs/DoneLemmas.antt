@@ -364,7 +364,7 @@ asked_sensible t c d asks =
 begun_order : (s : Setting) (statuses : List Status) (state : Option MapState) (g : Gain)
     → IsInOrder s (begins s statuses state g)
 begun_order s statuses state g =
-    order_begins s (prepared s.domain s.again s.retrim statuses) (goes_on_from s.again state) (shown_at_first state)
+    order_begins s (prepared s.domain s.try_again s.retrim statuses) (goes_on_from s.try_again state) (shown_at_first state)
     (began_at g.times)
 
 -- all calls of a rescue without a mapfile that is done, after its reads of maps
@@ -418,7 +418,7 @@ finished_by t c d asks tells w =
       stands = w.run.stands;
       run = w.run.run;
       over = w.run.over;
-      well = run_ends_well s (prepared s.domain s.again s.retrim w.run.statuses) (goes_on_from s.again w.run.state)
+      well = run_ends_well s (prepared s.domain s.try_again s.retrim w.run.statuses) (goes_on_from s.try_again w.run.state)
           (shown_at_first w.run.state) (began_at (done_by d asks).times) (events_in (done_by d asks))
           (asked_sensible t c d asks) w.run.run w.run.over;
       mapfile = λ on. (left_with t c d asks tells w on).mapfile;

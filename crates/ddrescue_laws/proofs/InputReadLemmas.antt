@@ -164,10 +164,10 @@ run_so o test s s' mapfile e lines d ok none (opens, (statuses, state, stands, i
       refused = λ refused.
           let L : Ending → Type 0 = IsLate in
           absurd (run_refused end (subst L is late) (subst IsBeforeReads is refused));
-      few = run_asks_few o m Copying (first_pass (goes_on_from o.again state)) (events_in d.gain) ok
+      few = run_asks_few o m Copying (first_pass (goes_on_from o.try_again state)) (events_in d.gain) ok
           (order_over o statuses state time) refl runs.run;
       done = over;
-      well = λ done. run_ends_well o (prepared o.domain o.again o.retrim statuses) (goes_on_from o.again state)
+      well = λ done. run_ends_well o (prepared o.domain o.try_again o.retrim statuses) (goes_on_from o.try_again state)
           (shown_at_first state) time (events_in d.gain) ok runs.run (over done);
     }
 

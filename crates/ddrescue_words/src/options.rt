@@ -10,8 +10,8 @@ use crate::skips::{DEFAULT_SKIP, DEFAULT_SKIP_MAX, in_sectors, read_skips};
 use block_list::types::TypeSet;
 use option_words::given::letter_of;
 use option_words::option_row;
+use option_words::option_values::{OptionValues, SECTOR_SIZE};
 use option_words::row::Row;
-use option_words::settings::{SECTOR_SIZE, Settings};
 use option_words::table::OptionTable;
 use option_words::values::{is_name, number_by, size_by, within_range};
 use run_options::limits::{AreaLimit, Limits};
@@ -307,7 +307,7 @@ fn with_letter(options: Options, sector: u64, letter: char, value: Option<&str>)
     )
 }
 
-impl Settings for Options {
+impl OptionValues for Options {
     ghost rows = { option_rows };
 
     ghost start = { no_options };

@@ -12,8 +12,8 @@ use map_algebra::change::TypeChange;
 use map_algebra::combine::Op;
 use option_words::given::letter_of;
 use option_words::option_row;
+use option_words::option_values::{OptionValues, SECTOR_SIZE};
 use option_words::row::Row;
-use option_words::settings::{SECTOR_SIZE, Settings};
 use option_words::table::OptionTable;
 use option_words::values::{is_name, size_by};
 
@@ -186,7 +186,7 @@ fn with_letter(
     )
 }
 
-impl Settings for LogOptions {
+impl OptionValues for LogOptions {
     ghost rows = { option_rows };
 
     ghost start = { no_options };

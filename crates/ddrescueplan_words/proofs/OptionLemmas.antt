@@ -24,7 +24,7 @@ still_plain o o' a b c d e f p = record {
   rate = a ∙ p.rate;
   output = b ∙ p.output;
   limits = c ∙ p.limits;
-  again = d ∙ p.again;
+  try_again = d ∙ p.try_again;
   retrim = e ∙ p.retrim;
   complete = f ∙ p.complete;
 }
@@ -125,7 +125,7 @@ none_plain n = record {
   rate = refl;
   output = refl;
   limits = refl;
-  again = refl;
+  try_again = refl;
   retrim = refl;
   complete = refl;
 }

@@ -89,7 +89,7 @@ pub record ArePlain (o : Options) : Type 0 where
   pub rate : o.min_rate ≡ 0
   pub output : o.output_position ≡ None
   pub limits : o.limits ≡ no_limits
-  pub again : o.try_again ≡ false
+  pub try_again : o.try_again ≡ false
   pub retrim : o.retrim ≡ false
   pub complete : o.complete_only ≡ false
 

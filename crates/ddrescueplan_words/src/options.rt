@@ -5,8 +5,8 @@ ghost use Rattle.ddrescueplan_words.specs.Command.{AreOptions};
 
 use ddrescue_words::options::Options;
 use option_words::option_row;
+use option_words::option_values::OptionValues;
 use option_words::row::Row;
-use option_words::settings::Settings;
 use option_words::table::OptionTable;
 
 /// The letter of the one that gives the size of a cluster.
@@ -64,7 +64,7 @@ fn of_rescue(rescue: Option<Options>) -> Option<PlanOptions>
     }
 }
 
-impl Settings for PlanOptions {
+impl OptionValues for PlanOptions {
     ghost rows = { option_rows };
 
     ghost start = { no_options };

@@ -12,10 +12,10 @@ use Rattle.crash_site.specs.SiteState.{SiteState}
 use Rattle.rescue_verify.specs.declared.halt.Halt.{Halt}
 use Rattle.rescue_verify.specs.declared.halt.Halt.TheVariants.{NoMemory as NoRoom, SourceLost as InputLost, ImageFault}
 use Rattle.rescue_verify.specs.declared.tally.Tally.{Tally}
-use Rattle.rescue_verify.specs.Comparing.{ComparisonPlan, Compares, LossesRise as CountsCompared}
+use Rattle.rescue_verify.specs.Comparing.{Comparison, Compares, LossesRise as CountsCompared}
 use Rattle.ddrescueverify_words.specs.declared.options.VerifyOptions.{VerifyOptions}
 use Rattle.rescue_domain.proofs.PlaceLemmas.{whole_from, never_beyond}
-use Rattle.ddrescueverify_cli.specs.Asked.{IsBeyond, domain_asked, output_from, plan_of}
+use Rattle.ddrescueverify_cli.specs.Asked.{IsBeyond, domain_asked, output_from, comparison_of}
 use Rattle.ddrescueverify_cli.specs.Counting.{StopCause}
 use Rattle.ddrescueverify_cli.specs.Work.{answer_of_halt}
 
@@ -59,9 +59,9 @@ module _ (o : VerifyOptions) (end : ℕ) (statuses : List Status) (covered : ℕ
       → AreAllPlaced covered o.input_position to
   are_placed to placed x held = placed x (is_asked x held)
 
-  pub plan_is : (to : ℕ) → to ≡ output_from o
-      → record { compared = covered; sector = o.sector; from = o.input_position; to = to } ≡ plan_of o end statuses
-  plan_is to at =
+  pub comparison_is : (to : ℕ) → to ≡ output_from o
+      → record { compared = covered; sector = o.sector; from = o.input_position; to = to } ≡ comparison_of o end statuses
+  comparison_is to at =
       ap (λ (f : ℕ → Bool). record { compared = f; sector = o.sector; from = o.input_position; to = to }) (fun_ext is)
       ∙ ap (λ (t : ℕ). record {
         compared = compared_in (domain_asked o end) statuses;
@@ -74,9 +74,9 @@ module _ (o : VerifyOptions) (end : ℕ) (statuses : List Status) (covered : ℕ
       (source source' : SourceState) (site site' : SiteState)
       → Compares (record { compared = covered; sector = o.sector; from = o.input_position; to = to }) statuses now result
       (across source source' site site')
-      → Compares (plan_of o end statuses) statuses now result (across source source' site site')
+      → Compares (comparison_of o end statuses) statuses now result (across source source' site site')
   compares_as to at now result source source' site site' compares =
-      subst (λ (p : ComparisonPlan). Compares p statuses now result (across source source' site site')) (plan_is to at) compares
+      subst (λ (p : Comparison). Compares p statuses now result (across source source' site site')) (comparison_is to at) compares
 
 -- a comparison that stopped is answered by what was counted
 pub halt_cause : (halt : Halt) (source source' : SourceState) (site site' : SiteState)

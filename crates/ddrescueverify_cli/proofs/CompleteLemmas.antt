@@ -23,7 +23,7 @@ use Rattle.rescue_verify.specs.declared.halt.Halt.TheVariants.{NoMemory as NoRoo
 use Rattle.rescue_verify.specs.Pieces.{AskForPieces, end_of_reads}
 use Rattle.rescue_verify.specs.Looks.{Look, reads_of}
 use Rattle.rescue_verify.specs.Laws.{asks_for}
-use Rattle.rescue_verify.specs.Comparing.{ComparisonPlan, HaltsAt, tally_of}
+use Rattle.rescue_verify.specs.Comparing.{Comparison, HaltsAt, tally_of}
 use Rattle.rescue_verify.proofs.PieceLemmas.{asks_push, none_is_read_twice}
 use Rattle.ddrescueverify_words.specs.declared.options.VerifyOptions.{VerifyOptions}
 use Rattle.ddrescueverify_words.specs.Command.{Command}
@@ -32,7 +32,7 @@ use Rattle.ddrescueverify_cli.specs.declared.ending.Which.TheVariants.{RunMap}
 use Rattle.ddrescueverify_cli.specs.declared.ending.VerifyEnding.{VerifyEnding}
 use Rattle.ddrescueverify_cli.specs.declared.ending.VerifyEnding.TheVariants.{Usage, SameName, MapRefused, NoMemory}
 use Rattle.ddrescueverify_cli.specs.Answers.{row_of}
-use Rattle.ddrescueverify_cli.specs.Asked.{plan_of, text_of}
+use Rattle.ddrescueverify_cli.specs.Asked.{comparison_of, text_of}
 use Rattle.ddrescueverify_cli.specs.Ddrescueverify.{verify_program}
 use Rattle.ddrescueverify_cli.specs.Laws.{HasOneVerdict, IsComparedUnless, IsOfLooks, IsVerdict, NoneIsReadTwice, VerifyKeepsPromises}
 use Rattle.ddrescueverify_cli.specs.Outside.{Found, Outside}
@@ -136,13 +136,13 @@ module _ (x : ℕ) where
   none_once : (reads : List Reading) → reads ≡ [] → Once reads
   none_once reads is = subst Once (sym is) (omega arith)
 
-  idle_once : (p : ComparisonPlan) (looks : List Look) (more : List Reading)
+  idle_once : (p : Comparison) (looks : List Look) (more : List Reading)
       → AskForPieces p.compared p.sector 0 (reads_of looks) → more ≡ [] → Once (reads_of looks ++ more)
   idle_once p looks more asks none =
       subst Once (sym (ap (λ (m : List Reading). reads_of looks ++ m) none ∙ append-nil (reads_of looks)))
       (none_is_read_twice p.compared p.sector 0 (reads_of looks) x asks)
 
-  halted_once : (halt : Halt) (p : ComparisonPlan) (looks : List Look) (d : Deeds)
+  halted_once : (halt : Halt) (p : Comparison) (looks : List Look) (d : Deeds)
       → AskForPieces p.compared p.sector 0 (reads_of looks)
       → HaltsAt halt p (end_of_reads 0 (reads_of looks)) d.gain.reads d.gain.calls → Once (reads_of looks ++ d.gain.reads)
   halted_once NoRoom p looks d asks h = idle_once p looks d.gain.reads asks h.0
@@ -161,7 +161,7 @@ module _ (x : ℕ) where
   module _ (c : Command) (line : List ℕ) (found : Found) (end : ℕ) (looks : List Look) where
     run_once : (e : VerifyEnding) (d : Deeds) → Verifies c line found end looks e d → Once d.gain.reads
     run_once e d v =
-        let p : ComparisonPlan = plan_of c.options end v.statuses in
+        let p : Comparison = comparison_of c.options end v.statuses in
         let all : d.gain.reads ≡ reads_of looks ++ v.compares.rest.gain.reads =
         ap (λ (y : Deeds). y.gain.reads) v.compares.is in
         subst Once (sym all) (elim v.compares.ends [

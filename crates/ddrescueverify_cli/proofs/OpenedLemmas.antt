@@ -28,14 +28,14 @@ use Rattle.rescue_verify.specs.declared.tally.Tally.{Tally}
 use Rattle.rescue_verify.specs.Across.{across}
 use Rattle.rescue_verify.specs.Looks.{Look, reads_of, seen_in, look_calls}
 use Rattle.rescue_verify.specs.Verified.{judged_by}
-use Rattle.rescue_verify.specs.Comparing.{ComparisonPlan, tally_of, Compares}
+use Rattle.rescue_verify.specs.Comparing.{Comparison, tally_of, Compares}
 use Rattle.ddrescueverify_words.specs.declared.options.VerifyOptions.{VerifyOptions}
 use Rattle.ddrescueverify_words.specs.Command.{Command}
 use Rattle.work_rules.specs.Opens.{AreOpens}
 use Rattle.ddrescueverify_cli.specs.declared.ending.VerifyEnding.{VerifyEnding}
 use Rattle.ddrescueverify_cli.specs.declared.ending.VerifyEnding.TheVariants.{NoOutput, SourceFault}
 use Rattle.ddrescueverify_cli.specs.declared.open.LoadedMap.{LoadedMap}
-use Rattle.ddrescueverify_cli.specs.Asked.{IsBeyond, heading_of, plan_of, shown_for, text_of}
+use Rattle.ddrescueverify_cli.specs.Asked.{IsBeyond, heading_of, comparison_of, shown_for, text_of}
 use Rattle.ddrescueverify_cli.specs.Refusals.{OutputRefused, PlacesRefused}
 use Rattle.ddrescueverify_cli.specs.Outside.{Found, found_in, place_by}
 use Rattle.ddrescueverify_cli.specs.Work.{ComparesOver, EndsAfter, EndsSaved, Halts, IsAnswer, Completes, Verifies, after_looks, load_rows, opened_rows, output_rows, verify_faults}
@@ -418,7 +418,7 @@ tally_or tally (Ok x) = Ok tally
 tally_or tally (Err e) = Err e
 
 -- how it ended, by the save
-save_ends : (c : Command) (p : ComparisonPlan) (text : List ℕ) (looks : List Look) (tally : Tally) (e : VerifyEnding)
+save_ends : (c : Command) (p : Comparison) (text : List ℕ) (looks : List Look) (tally : Tally) (e : VerifyEnding)
     (calls rest : List Entry) → calls ≡ map Returned (save_calls (names_of c.mapfile) text) ++ rest → rest ≡ []
     → tally ≡ tally_of looks → IsAnswer c.options.quiet tally e
     → Works verify_faults (Make (save_calls (names_of c.mapfile) text) ∷ []) (EndsSaved c.options.quiet (tally_of looks)) e
@@ -438,12 +438,12 @@ did_save : (c : Command) (l : List ℕ) (end : ℕ) (found : Found) (statuses : 
     (looks : List Look) (result : Result (Unit {0}) VerifyEnding) (old new : SiteState)
     → Stands found.mapfile end statuses (Some shown) → (IsBeyond c.options end → ⊥)
     → (compares : (e : VerifyEnding) → (d : Deeds)
-    → EndsAfter c (plan_of c.options end statuses) (text_of l statuses shown looks) looks e d
+    → EndsAfter c (comparison_of c.options end statuses) (text_of l statuses shown looks) looks e d
     → ComparesOver c l end statuses shown looks e (after_looks (place_by c) looks d))
     → ((e : VerifyEnding) (calls : List Entry)
     → Works verify_faults (Make (save_calls (names_of c.mapfile) (text_of l statuses shown looks)) ∷ [])
     (EndsSaved c.options.quiet (tally_of looks)) e (only_calls calls)
-    → EndsAfter c (plan_of c.options end statuses) (text_of l statuses shown looks) looks e (only_calls calls))
+    → EndsAfter c (comparison_of c.options end statuses) (text_of l statuses shown looks) looks e (only_calls calls))
     → tally ≡ tally_of looks
     → (s : SavesText (names_of c.mapfile) (text_of l statuses shown looks) result old new)
     → GoesOn c l end (tally_or tally result) looks found (after_looks (place_by c) looks (only_calls s.calls))
@@ -455,7 +455,7 @@ did_save c l end found statuses shown tally looks (Ok x) old new stands near com
         (after_looks (place_by c) looks (only_calls s.calls)) t u
         (over_it c l end found e statuses looks shown (after_looks (place_by c) looks (only_calls s.calls)) stands near
         (compares e (only_calls s.calls) (saves e s.calls
-        (save_ends c (plan_of c.options end statuses) (text_of l statuses shown looks) looks tally e s.calls s.did.1.0
+        (save_ends c (comparison_of c.options end statuses) (text_of l statuses shown looks) looks tally e s.calls s.did.1.0
         s.did.1.1 s.did.1.2 counts answer)))),
   );
 }
@@ -473,7 +473,7 @@ pub compare_saves : (c : Command) (l : List ℕ) (n : MapNames) (h : HeadingLine
     (new : List Status) (tally : Tally) (result : Result (Unit {0}) VerifyEnding) (s0 s1 s2 : SourceState)
     (d0 d1 d2 d3 d4 : SiteState) → HasInput c.infile end s0 s1 → HasLoaded c n end (Ok loaded) d0 d1 d2
     → Keeps d1 d2 → SourceStays s1 s2 → SiteStays d2 d3 → (IsBeyond c.options end → ⊥) → h ≡ heading_of l
-    → Compares (plan_of c.options end loaded.tiles.statuses) loaded.tiles.statuses new (Ok tally) (across s1 s2 d2 d3)
+    → Compares (comparison_of c.options end loaded.tiles.statuses) loaded.tiles.statuses new (Ok tally) (across s1 s2 d2 d3)
     → SavesText n (printed h (shown_for loaded.state tally.differing) new) result d3 d4
     → WentOn c l (tally_or tally result) (across s0 s2 d0 d4)
 compare_saves c l n h end loaded new tally result s0 s1 s2 d0 d1 d2 d3 d4 input loads keeps stays site_stays near heads

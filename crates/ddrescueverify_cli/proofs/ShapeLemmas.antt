@@ -29,12 +29,12 @@ use Rattle.rescue_verify.specs.declared.halt.Halt.TheVariants.{NoMemory as NoRoo
 use Rattle.rescue_verify.specs.declared.tally.Tally.{Tally}
 use Rattle.rescue_verify.specs.Pieces.{NoneFrom, end_of_reads}
 use Rattle.rescue_verify.specs.Looks.{Look, reads_of, look_call, look_calls}
-use Rattle.rescue_verify.specs.Comparing.{ComparisonPlan, place_in, tally_of, HaltsAt}
+use Rattle.rescue_verify.specs.Comparing.{Comparison, place_in, tally_of, HaltsAt}
 use Rattle.ddrescueverify_words.specs.Command.{Command}
 use Rattle.ddrescueverify_cli.specs.declared.ending.VerifyEnding.{VerifyEnding}
 use Rattle.ddrescueverify_cli.specs.declared.ending.VerifyEnding.TheVariants.{NoOutput}
 use Rattle.ddrescueverify_cli.specs.Answers.{is_saved}
-use Rattle.ddrescueverify_cli.specs.Asked.{plan_of, text_of}
+use Rattle.ddrescueverify_cli.specs.Asked.{comparison_of, text_of}
 use Rattle.ddrescueverify_cli.specs.Refusals.{MapfileRefused, OutputRefused, PlacesRefused}
 use Rattle.ddrescueverify_cli.specs.Outside.{Found}
 use Rattle.ddrescueverify_cli.specs.Work.{EndsSaved, Halts, Completes as SavesAll, Verifies, answer_of_halt, verify_faults, verify_rows}
@@ -124,7 +124,7 @@ pub record IsNewText (c : Command) (line : List ℕ) (mapfile : Option File) (en
   pub statuses : List Status
   pub shown : MapState
   pub stands : StandsFor mapfile end statuses (Some shown)
-  pub all : NoneFrom (plan_of c.options end statuses).compared (end_of_reads 0 (reads_of looks))
+  pub all : NoneFrom (comparison_of c.options end statuses).compared (end_of_reads 0 (reads_of looks))
   pub is : text ≡ text_of line statuses shown looks
 
 unsaved_halt : (halt : Halt) → is_saved (answer_of_halt halt) ≡ false
@@ -133,7 +133,7 @@ unsaved_halt InputLost = refl
 unsaved_halt ImageFault = refl
 
 -- what a comparison that halted called after its looks
-halted_reads : (halt : Halt) (p : ComparisonPlan) (from : ℕ) (reads : List Reading) (calls : List Entry)
+halted_reads : (halt : Halt) (p : Comparison) (from : ℕ) (reads : List Reading) (calls : List Entry)
     → HaltsAt halt p from reads calls → AreReads calls
 halted_reads NoRoom p from reads calls h = same_reads calls [] h.1 tt
 halted_reads InputLost p from reads calls h = same_reads calls [] h.4 tt
@@ -176,7 +176,7 @@ module _ (c : Command) (line : List ℕ) (found : Found) (end : ℕ) (looks : Li
       → rest ≡ map Returned (barrier_calls (names_of c.mapfile)) ++ later
       → later ≡ map Returned load ++ d.gain.calls → Verifies c line found end looks e d → ShapeOf e calls
   comparing e d calls rest later load there maps grew is loaded v =
-      let place : ℕ → ℕ = place_in (plan_of c.options end v.statuses) in
+      let place : ℕ → ℕ = place_in (comparison_of c.options end v.statuses) in
       let mine : d.gain.calls ≡ map Returned (look_calls place looks) ++ v.compares.rest.gain.calls =
       ap (λ (x : Deeds). x.gain.calls) v.compares.is in
       let front : List Entry = map Returned load ++ map Returned (look_calls place looks) in
@@ -190,7 +190,7 @@ module _ (c : Command) (line : List ℕ) (found : Found) (end : ℕ) (looks : Li
             reading e calls rest later there (ap is_saved answer ∙ unsaved_halt halt) grew is
             (same_reads later (front ++ v.compares.rest.gain.calls) all
             (both_are front v.compares.rest.gain.calls reads
-            (halted_reads halt (plan_of c.options end v.statuses) _ v.compares.rest.gain.reads v.compares.rest.gain.calls
+            (halted_reads halt (comparison_of c.options end v.statuses) _ v.compares.rest.gain.reads v.compares.rest.gain.calls
             halts)))
         | SavesAll none works ↦
             let s = saved_rest c c.options.quiet (tally_of looks) (text_of line v.statuses v.shown looks) e v.compares.rest

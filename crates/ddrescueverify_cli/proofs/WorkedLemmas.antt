@@ -128,13 +128,13 @@ module _ (c : Command) (words : List (List ℕ)) (result : Result Tally VerifyEn
       }
 
   -- the same of what the code had of the command and of its line
-  pub planned_worked : (planned : Command) (line : List ℕ) → planned ≡ c → line ≡ line_by verify_program words
-      → same_of c ≡ None → Went planned line result e s s' d d' p q
+  pub checked_worked : (checked : Command) (line : List ℕ) → checked ≡ c → line ≡ line_by verify_program words
+      → same_of c ≡ None → Went checked line result e s s' d d' p q
       → VerifyWorked c words e (handed s d p) (handed s' d' q)
-  planned_worked planned line is line_is different w =
+  checked_worked checked line is line_is different w =
       went_worked different
       (subst (λ (x : Command). Went x (line_by verify_program words) result e s s' d d' p q) is
-      (subst (λ (l : List ℕ). Went planned l result e s s' d d' p q) line_is w))
+      (subst (λ (l : List ℕ). Went checked l result e s s' d d' p q) line_is w))
 
 -- ---- nothing was done
 

@@ -11,7 +11,7 @@ use Rattle.rescue_domain.specs.Places.{IsAnyBeyond}
 use Rattle.rescue_verify.specs.Pieces.{compared_in}
 use Rattle.rescue_verify.specs.Looks.{Look, differing_bytes}
 use Rattle.rescue_verify.specs.Verified.{judged_by}
-use Rattle.rescue_verify.specs.Comparing.{ComparisonPlan}
+use Rattle.rescue_verify.specs.Comparing.{Comparison}
 use Rattle.ddrescueverify_words.specs.declared.options.VerifyOptions.{VerifyOptions}
 
 -- where the comparison begins in the output
@@ -28,8 +28,8 @@ abbrev pub IsBeyond : VerifyOptions → (end : ℕ) → Type 0
 IsBeyond o end = IsAnyBeyond (domain_asked o end) o.input_position (output_from o)
 
 -- what is compared, where the mapfile stands for this map: what it calls finished of the positions asked for
-abbrev pub plan_of : VerifyOptions → (end : ℕ) → List Status → ComparisonPlan
-plan_of o end statuses = record {
+abbrev pub comparison_of : VerifyOptions → (end : ℕ) → List Status → Comparison
+comparison_of o end statuses = record {
   compared = compared_in (domain_asked o end) statuses;
   sector = o.sector;
   from = o.input_position;

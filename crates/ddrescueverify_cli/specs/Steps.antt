@@ -27,18 +27,18 @@ use Rattle.ddrescueverify_cli.specs.declared.ending.VerifyEnding.{VerifyEnding}
 use Rattle.ddrescueverify_cli.specs.declared.ending.VerifyEnding.TheVariants.{Usage, NoMap, NoOutput, MapRefused, SiteFault, NoMemory}
 use Rattle.ddrescueverify_cli.specs.declared.ending.Which.TheVariants.{RunMap}
 use Rattle.ddrescueverify_cli.specs.declared.open.LoadedMap.{LoadedMap}
-use Rattle.ddrescueverify_cli.specs.declared.plan.CheckedCommand.{CheckedCommand}
-use Rattle.ddrescueverify_cli.specs.Asked.{IsBeyond, heading_of, plan_of}
+use Rattle.ddrescueverify_cli.specs.declared.checked.CheckedCommand.{CheckedCommand}
+use Rattle.ddrescueverify_cli.specs.Asked.{IsBeyond, heading_of, comparison_of}
 use Rattle.program_promise.specs.Operands.{first_same}
 use Rattle.ddrescueverify_cli.specs.Outside.{Agrees, Outside}
 use Rattle.ddrescueverify_cli.specs.Work.{IsAnswer, Verifies, answer_of_halt, load_rows, opened_rows, output_rows, verify_faults}
 
 -- what a comparison needs before it opens a file
-pub record IsPlanned (plan : CheckedCommand) : Type 0 where
-  pub names : plan.names ≡ names_of (told_by plan.command).mapfile
-  pub apart : first_same (told_by plan.command).infile (told_by plan.command).outfile plan.names ≡ None
-  pub heading : plan.heading ≡ heading_of plan.heading.line
-  pub limits : AreInLimits plan.command.options
+pub record IsChecked (checked : CheckedCommand) : Type 0 where
+  pub names : checked.names ≡ names_of (told_by checked.command).mapfile
+  pub apart : first_same (told_by checked.command).infile (told_by checked.command).outfile checked.names ≡ None
+  pub heading : checked.heading ≡ heading_of checked.heading.line
+  pub limits : AreInLimits checked.command.options
 
 -- what the open of the output did
 abbrev pub OpensOutput : {T : Type 0} → (outfile : List ℕ) → Result T VerifyEnding → (old new : SiteState) → Type 0
@@ -76,7 +76,7 @@ pub data StopsComparing (o : VerifyOptions) (end : ℕ) (old new : List Status) 
   Starved : (IsBeyond o end → ⊥) → e ≡ NoMemory → a.source' ≡ a.source → a.site' ≡ a.site
       → StopsComparing o end old new e a
   Halted : (halt : Halt) → (IsBeyond o end → ⊥) → e ≡ answer_of_halt halt
-      → Compares (plan_of o end old) old new (Err halt) a → StopsComparing o end old new e a
+      → Compares (comparison_of o end old) old new (Err halt) a → StopsComparing o end old new e a
 
 -- the save of a text: there are its calls, which are the site's own where it tells
 pub record SavesText {T : Type 0} (names : MapNames) (text : List ℕ) (result : Result T VerifyEnding)

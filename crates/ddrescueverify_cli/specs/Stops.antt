@@ -16,7 +16,7 @@ use Rattle.rescue_verify.specs.Verified.{verified}
 use Rattle.ddrescueverify_words.specs.Command.{Command}
 use Rattle.ddrescueverify_cli.specs.declared.ending.VerifyEnding.{VerifyEnding}
 use Rattle.ddrescueverify_cli.specs.Answers.{is_saved}
-use Rattle.ddrescueverify_cli.specs.Asked.{heading_of, plan_of, shown_by}
+use Rattle.ddrescueverify_cli.specs.Asked.{heading_of, comparison_of, shown_by}
 use Rattle.ddrescueverify_cli.specs.Outside.{Outside, place_by}
 
 -- The new mapfile, whole: all pieces were compared, and it is the printed map of what the mapfile gave, verified by the
@@ -26,7 +26,7 @@ pub record IsVerifiedMap (c : Command) (line : List ℕ) (o : Outside) (site : S
   pub statuses : List Status
   pub shown : MapState
   pub stands : Stands (files_in site c.mapfile) o.end statuses (Some shown)
-  pub all : NoneFrom (plan_of c.options o.end statuses).compared (end_of_reads 0 (reads_of o.looks))
+  pub all : NoneFrom (comparison_of c.options o.end statuses).compared (end_of_reads 0 (reads_of o.looks))
   pub is : found ≡ Some (text_file (printed (heading_of line) (shown_by shown o.looks)
       (verified statuses (reads_of o.looks) (bytes_of (files_in site c.outfile)) (place_by c))))
 

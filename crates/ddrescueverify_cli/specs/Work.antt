@@ -16,11 +16,11 @@ use Rattle.rescue_verify.specs.declared.halt.Halt.TheVariants.{NoMemory as NoRoo
 use Rattle.rescue_verify.specs.declared.tally.Tally.{Tally}
 use Rattle.rescue_verify.specs.Pieces.{NoneFrom, AskForPieces, end_of_reads}
 use Rattle.rescue_verify.specs.Looks.{Look, reads_of, look_calls}
-use Rattle.rescue_verify.specs.Comparing.{ComparisonPlan, place_in, tally_of, HaltsAt}
+use Rattle.rescue_verify.specs.Comparing.{Comparison, place_in, tally_of, HaltsAt}
 use Rattle.ddrescueverify_words.specs.Command.{Command}
 use Rattle.ddrescueverify_cli.specs.declared.ending.VerifyEnding.{VerifyEnding}
 use Rattle.ddrescueverify_cli.specs.declared.ending.VerifyEnding.TheVariants.{Done, Differs, SourceFault, SourceLost, SiteFault, ConsoleFault, NoMemory}
-use Rattle.ddrescueverify_cli.specs.Asked.{plan_of, text_of}
+use Rattle.ddrescueverify_cli.specs.Asked.{comparison_of, text_of}
 use Rattle.ddrescueverify_cli.specs.Refusals.{NamesRefused, OutputRefused, MapfileRefused, PlacesRefused}
 use Rattle.ddrescueverify_cli.specs.Outside.{Found}
 
@@ -69,7 +69,7 @@ EndsSaved quiet t e d = IsAnswer quiet t e × IsIdle d
 
 -- The end of a comparison after the looks at its first pieces. It stopped before its last one, and saves nothing; or it
 -- came to the last, and made one save, and said how much it compared, unless it was asked to say nothing.
-pub data EndsAfter (c : Command) (p : ComparisonPlan) (text : List ℕ) (looks : List Look) (e : VerifyEnding) (d : Deeds)
+pub data EndsAfter (c : Command) (p : Comparison) (text : List ℕ) (looks : List Look) (e : VerifyEnding) (d : Deeds)
     : Type 0 where
   Halts : (halt : Halt) → e ≡ answer_of_halt halt → d.opens ≡ [] → d.gain.times ≡ []
       → HaltsAt halt p (end_of_reads 0 (reads_of looks)) d.gain.reads d.gain.calls → EndsAfter c p text looks e d
@@ -95,10 +95,10 @@ module _ (c : Command) (line : List ℕ) where
   -- of the image, and ends after them.
   pub record ComparesOver (end : ℕ) (statuses : List Status) (shown : MapState) (looks : List Look)
       (e : VerifyEnding) (d : Deeds) : Type 0 where
-    pub asks : AskForPieces (plan_of c.options end statuses).compared c.options.sector 0 (reads_of looks)
+    pub asks : AskForPieces (comparison_of c.options end statuses).compared c.options.sector 0 (reads_of looks)
     pub rest : Deeds
-    pub is : d ≡ after_looks (place_in (plan_of c.options end statuses)) looks rest
-    pub ends : EndsAfter c (plan_of c.options end statuses) (text_of line statuses shown looks) looks e rest
+    pub is : d ≡ after_looks (place_in (comparison_of c.options end statuses)) looks rest
+    pub ends : EndsAfter c (comparison_of c.options end statuses) (text_of line statuses shown looks) looks e rest
 
   -- The comparison over the map that the mapfile stands for, which ends at the input's end or past it.
   pub record Verifies (found : Found) (end : ℕ) (looks : List Look) (e : VerifyEnding) (d : Deeds) : Type 0 where

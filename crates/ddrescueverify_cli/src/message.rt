@@ -3,8 +3,8 @@ ghost use Rattle.std.specs.Prelude.{◌≡◌, ◌+◌, ◌≤◌, ◌++◌};
 ghost use Rattle.arrayvec.specs.ArrayVec.{array_vec_len};
 ghost use Rattle.ddrescueverify_cli.specs.Answers.{is_silent, map_error_text, message, text_of_ending, which_text};
 
+use crate::checked::PROGRAM;
 use crate::ending::{VerifyEnding, Which};
-use crate::plan::PROGRAM;
 use console_texts::faults::{add_map_error, add_site_fault, add_usage};
 use console_texts::message::{Message, add, begin, end};
 use mapfile_text::read::MapError;

@@ -8,17 +8,17 @@ ghost use Rattle.rescue_verify.specs.Comparing.{Compares};
 ghost use Rattle.ddrescueverify_words.specs.Command.{AreInLimits, AreRefused, told_by};
 ghost use Rattle.program_promise.specs.World.{told};
 ghost use Rattle.program_promise.specs.declared.operand.Operand.{Operand};
-ghost use Rattle.ddrescueverify_cli.specs.Asked.{IsBeyond, output_from, plan_of};
+ghost use Rattle.ddrescueverify_cli.specs.Asked.{IsBeyond, output_from, comparison_of};
 ghost use Rattle.ddrescueverify_cli.specs.Counting.{WorkCause, drafting_after};
 ghost use Rattle.ddrescueverify_cli.specs.Ddrescueverify.{Ddrescueverify, VerifyDone, VerifyWorked, handed};
 ghost use Rattle.ddrescueverify_cli.specs.Refusals.{NameOneFileTwice, same_of};
-ghost use Rattle.ddrescueverify_cli.specs.Steps.{IsPlanned, StopsComparing, WentOn};
+ghost use Rattle.ddrescueverify_cli.specs.Steps.{IsChecked, StopsComparing, WentOn};
 ghost use Rattle.ddrescueverify_cli.specs.Work.{answer_of_halt};
 
+use crate::checked::{CheckedCommand, check_command};
 use crate::ending::VerifyEnding;
 use crate::open::{LoadedMap, load, open_output};
 use crate::out::report;
-use crate::plan::{CheckedCommand, check_command};
 use crate::save::save_map;
 use crash_site::site::{Site, SiteCall};
 use ddrescueverify_words::command::{Command, read_command};
@@ -71,7 +71,7 @@ fn compare_loaded<S: Source, D: Site>(
     requires long { end ≤ length loaded.old.tiles.statuses }
     requires input { (S.state source.old).is_open ≡ true }
     requires image { (D.state site.old).is_open ≡ true }
-    ensures compares { IfOk result (λ tally. Compares (plan_of options.now end loaded.old.tiles.statuses)
+    ensures compares { IfOk result (λ tally. Compares (comparison_of options.now end loaded.old.tiles.statuses)
         loaded.old.tiles.statuses loaded.new.tiles.statuses (Ok tally) (across (S.state source.old) (S.state source.new)
         (D.state site.old) (D.state site.new))) }
     ensures stops { IfErr result (λ e. StopsComparing options.now end loaded.old.tiles.statuses
@@ -106,28 +106,28 @@ fn compare_loaded<S: Source, D: Site>(
 /// Opens the files, loads the mapfile, compares, and saves the map. Answers what was counted.
 fn verify<S: Source, D: Site>(
     alloc: Global,
-    plan: &CheckedCommand<'_>,
+    checked: &CheckedCommand<'_>,
     source: &mut S,
     site: &mut D,
 ) -> Result<Tally, VerifyEnding>
     requires no_draft { (D.state site.old).is_drafting ≡ false }
-    requires planned { IsPlanned plan.now }
-    ensures went { WentOn (told_by plan.now.command) plan.now.heading.line result (across (S.state source.old)
+    requires checked { IsChecked checked.now }
+    ensures went { WentOn (told_by checked.now.command) checked.now.heading.line result (across (S.state source.old)
         (S.state source.new) (D.state site.old) (D.state site.new)) }
     ensures cause { WorkCause result (S.state source.old) (S.state source.new) (D.state site.old) (D.state site.new) }
     ensures draft { (D.state site.new).is_drafting ≡ drafting_after result }
     ensures source { SourceKeeps (S.state source.old) (S.state source.new) }
     ensures site { SiteKeeps (D.state site.old) (D.state site.new) }
 {
-    let command = plan.command;
+    let command = checked.command;
     let Ok(end) = source.open_input(command.infile) else {
         return Err(VerifyEnding::SourceFault);
     };
     open_output(site, command.outfile)?;
-    let mut loaded = load(alloc, site, &plan.names, end)?;
+    let mut loaded = load(alloc, site, &checked.names, end)?;
     let tally = compare_loaded(alloc, &command.options, end, &mut loaded, source, site)?;
     let LoadedMap { tiles, state } = loaded;
-    save_map(site, &plan.names, &plan.heading, state, &tiles, tally)?;
+    save_map(site, &checked.names, &checked.heading, state, &tiles, tally)?;
     Ok(tally)
 }
 
@@ -148,11 +148,11 @@ fn run<S: Source, D: Site, P: Console>(
     ensures unopened { (first second : Operand) → same_of (told_by command.now) ≡ Some (first, second)
         → (source.new ≡ source.old) × (site.new ≡ site.old) }
 {
-    let plan = match check_command(alloc, words, *command) {
-        Ok(plan) => plan,
+    let checked = match check_command(alloc, words, *command) {
+        Ok(checked) => checked,
         Err(refusal) => return refusal,
     };
-    match verify(alloc, &plan, source, site) {
+    match verify(alloc, &checked, source, site) {
         Ok(tally) => report(tally, command.options.quiet, console),
         Err(refusal) => refusal,
     }

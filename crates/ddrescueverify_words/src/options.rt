@@ -6,8 +6,8 @@ ghost use Rattle.ddrescueverify_words.specs.Command.{AreOptions};
 
 use option_words::given::letter_of;
 use option_words::option_row;
+use option_words::option_values::{OptionValues, SECTOR_SIZE};
 use option_words::row::Row;
-use option_words::settings::{SECTOR_SIZE, Settings};
 use option_words::table::OptionTable;
 use option_words::values::size_by;
 
@@ -79,7 +79,7 @@ fn with_letter(
     )
 }
 
-impl Settings for VerifyOptions {
+impl OptionValues for VerifyOptions {
     ghost rows = { option_rows };
 
     ghost start = { no_options };

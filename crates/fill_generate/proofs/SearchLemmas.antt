@@ -149,8 +149,8 @@ found_is r pos limit most end h first there short is cut least few within stops 
     λ y on. (and_parts (covers r.domain y) (passes (takes_in r.mode) (slice_get r.sweep.map y)) on).0 in
     let own : covers r.domain pos ≡ true = in_domain pos first.holds in
     let final : covers r.domain (end - 1) ≡ true = in_domain (end - 1) (within (end - 1) (omega (arith, some)) (omega (arith, some))) in
-    let from : r.settings.from ≤ pos = h.suits.from pos own in
-    let placed : end - 1 - r.settings.from + r.settings.to < 2 ^ 63 - 1 = h.places.low (end - 1) final in
+    let from : r.settings.input_position ≤ pos = h.suits.from pos own in
+    let placed : end - 1 - r.settings.input_position + r.settings.output_position < 2 ^ 63 - 1 = h.places.low (end - 1) final in
     record {
       next = λ w of. subst (λ (q : ℕ). IsPiece (setting_of r) w r.sweep pos q) (sym back)
           (piece_is r.mode (setting_of r) w r.sweep pos end limit most of first is cut some few within stops);

@@ -38,7 +38,7 @@ deed_of w m e = record { calls = w.call e ∷ []; save = due_save w m e }
 -- empty, and has places in the output.
 pub record IsFound (r : SweepState) (p : Piece) : Type 0 where
   pub next : (w : Sweeper) → IsSweeperOf r.mode w → IsPiece (setting_of r) w r.sweep p.pos (p.pos + p.len)
-  pub from : r.settings.from ≤ p.pos
+  pub from : r.settings.input_position ≤ p.pos
   pub some : 0 < p.len
   pub few : p.len ≤ r.settings.cluster
   pub within : p.pos + p.len ≤ length r.sweep.map

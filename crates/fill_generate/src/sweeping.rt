@@ -147,7 +147,7 @@ impl<T: Tiles> Sweeping<T> {
         requires { IsFound self.now piece }
         ensures { result ≡ place (setting_of self.now) piece.pos }
     {
-        piece.pos - self.settings.from + self.settings.to
+        piece.pos - self.settings.input_position + self.settings.output_position
     }
 
     /// Looks up a piece in the output, after taking memory for its marks, and marks as finished what is held of it.

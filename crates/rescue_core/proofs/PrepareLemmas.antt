@@ -76,10 +76,10 @@ module _ (domain : ℕ → Bool) (f g h : Status → Status) (e : (s : Status) �
   }
 
 -- what is prepared, one status after the other
-pub prepared_parted : (again retrim : Bool) (s : Status)
-    → replaced BadSector (prepared_status again retrim BadSector)
-    (replaced NonScraped (prepared_status again retrim NonScraped)
-    (replaced NonTrimmed (prepared_status again retrim NonTrimmed) s)) ≡ prepared_status again retrim s
+pub prepared_parted : (try_again retrim : Bool) (s : Status)
+    → replaced BadSector (prepared_status try_again retrim BadSector)
+    (replaced NonScraped (prepared_status try_again retrim NonScraped)
+    (replaced NonTrimmed (prepared_status try_again retrim NonTrimmed) s)) ≡ prepared_status try_again retrim s
 prepared_parted false false NonTried = refl
 prepared_parted false false NonTrimmed = refl
 prepared_parted false false NonScraped = refl
@@ -101,15 +101,15 @@ prepared_parted true true NonScraped = refl
 prepared_parted true true BadSector = refl
 prepared_parted true true Finished = refl
 
-module _ (domain : ℕ → Bool) (again retrim : Bool) (trimmed scraped bad : Status)
-    (a : trimmed ≡ prepared_status again retrim NonTrimmed) (b : scraped ≡ prepared_status again retrim NonScraped)
-    (c : bad ≡ prepared_status again retrim BadSector) where
+module _ (domain : ℕ → Bool) (try_again retrim : Bool) (trimmed scraped bad : Status)
+    (a : trimmed ≡ prepared_status try_again retrim NonTrimmed) (b : scraped ≡ prepared_status try_again retrim NonScraped)
+    (c : bad ≡ prepared_status try_again retrim BadSector) where
   pub prepared_by_parts : (old first second new : List Status) → IsChanged domain (replaced NonTrimmed trimmed) old first
       → IsChanged domain (replaced NonScraped scraped) first second → IsChanged domain (replaced BadSector bad) second new
-      → IsChanged domain (prepared_status again retrim) old new
+      → IsChanged domain (prepared_status try_again retrim) old new
   prepared_by_parts old first second new f s n =
       changed_both domain (replaced NonTrimmed trimmed) (λ s. replaced BadSector bad (replaced NonScraped scraped s))
-      (prepared_status again retrim) (λ s. rw (a, b, c) (prepared_parted again retrim s)) old first new f
+      (prepared_status try_again retrim) (λ s. rw (a, b, c) (prepared_parted try_again retrim s)) old first new f
       (changed_both domain (replaced NonScraped scraped) (replaced BadSector bad)
       (λ s. replaced BadSector bad (replaced NonScraped scraped s)) (λ s. refl) first second new s n)
 

@@ -108,19 +108,19 @@ by_same false to s status is apart = is
 pub replaced_alone : (from to status : Status) → to ≢ status → (s : Status) → replaced from to s ≡ status → s ≡ status
 replaced_alone from to status apart s is = by_same (same s from) to s status is apart
 
-pub trimmed_unscraped : (again retrim : Bool) → prepared_status again retrim NonTrimmed ≢ NonScraped
+pub trimmed_unscraped : (try_again retrim : Bool) → prepared_status try_again retrim NonTrimmed ≢ NonScraped
 trimmed_unscraped false false = λ e. cc
 trimmed_unscraped false true = λ e. cc
 trimmed_unscraped true false = λ e. cc
 trimmed_unscraped true true = λ e. cc
 
-pub trimmed_good : (again retrim : Bool) → prepared_status again retrim NonTrimmed ≢ BadSector
+pub trimmed_good : (try_again retrim : Bool) → prepared_status try_again retrim NonTrimmed ≢ BadSector
 trimmed_good false false = λ e. cc
 trimmed_good false true = λ e. cc
 trimmed_good true false = λ e. cc
 trimmed_good true true = λ e. cc
 
-pub scraped_good : (again retrim : Bool) → prepared_status again retrim NonScraped ≢ BadSector
+pub scraped_good : (try_again retrim : Bool) → prepared_status try_again retrim NonScraped ≢ BadSector
 scraped_good false false = λ e. cc
 scraped_good false true = λ e. cc
 scraped_good true false = λ e. cc

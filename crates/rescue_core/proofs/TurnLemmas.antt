@@ -60,7 +60,7 @@ pub record Fits (r : RunState) (room pos len : ℕ) : Type 0 where
   pub most : room ≤ 16777216
   pub there : pos + len ≤ length r.machine.map
   pub short : pos + len < 2 ^ 63
-  pub place : pos - r.settings.from + r.settings.to + len < 2 ^ 63
+  pub place : pos - r.settings.input_position + r.settings.output_position + len < 2 ^ 63
   pub back : IsBackOf r.machine.progress.mode pos
   pub wanted : is_wanted (setting_in r) r.machine pos ≡ true
 

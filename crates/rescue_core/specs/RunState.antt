@@ -54,9 +54,9 @@ setting_with settings domain names line = record {
   line = line;
   end = 0;
   domain = covers domain;
-  from = settings.from;
-  to = settings.to;
-  again = false;
+  input_position = settings.input_position;
+  output_position = settings.output_position;
+  try_again = false;
   retrim = false;
   sector = settings.sector;
   cluster = settings.cluster;
@@ -80,18 +80,18 @@ pub record IsSound (settings : Settings) : Type 0 where
   pub cluster_max : settings.cluster ≤ 16777216
   pub skip : settings.skips.first ≤ settings.skips.most
   pub skip_max : settings.skips.most < 2 ^ 63
-  pub from : settings.from < 2 ^ 63
-  pub to : settings.to < 2 ^ 63
+  pub input_position : settings.input_position < 2 ^ 63
+  pub output_position : settings.output_position < 2 ^ 63
   pub retries : settings.passes.retries < 2 ^ 32
 
 -- a domain for a map of this many positions: it begins at an input's position or past it, and ends with the map
 pub record Suits (settings : Settings) (domain : ℕ → Bool) (top : ℕ) : Type 0 where
-  pub from : (x : ℕ) → domain x ≡ true → settings.from ≤ x
+  pub from : (x : ℕ) → domain x ≡ true → settings.input_position ≤ x
   pub to : (x : ℕ) → domain x ≡ true → x < top
 
 -- each position of the domain has a place in the output below 2^63 - 1
 pub record HasPlaces (settings : Settings) (domain : ℕ → Bool) : Type 0 where
-  pub low : (x : ℕ) → domain x ≡ true → x - settings.from + settings.to < 2 ^ 63 - 1
+  pub low : (x : ℕ) → domain x ≡ true → x - settings.input_position + settings.output_position < 2 ^ 63 - 1
 
 -- the machine's state, from its parts
 abbrev pub machine_at : Setting → List Status → Phase → Progress → Tally → Machine

@@ -46,7 +46,7 @@ pub(crate) fn gather<S: Source, D: Site, K: Clock>(
     requires fits { request.len ≤ length buf.old }
     requires cluster { length buf.old ≤ 16777216 }
     requires short { request.pos + request.len < 2 ^ 63 }
-    requires place { request.pos - settings.now.from + settings.now.to + request.len < 2 ^ 63 }
+    requires place { request.pos - settings.now.input_position + settings.now.output_position + request.len < 2 ^ 63 }
     requires input { (S.state source.old).is_open ≡ true }
     requires image { (D.state site.old).is_open ≡ true }
     ensures gathered { IfOk result (λ got. Gathers request settings.now got (S.state source.old) (S.state source.new)
@@ -70,7 +70,7 @@ pub(crate) fn gather<S: Source, D: Site, K: Clock>(
         before,
         after,
     } = timed;
-    let at = request.pos.saturating_sub(settings.from) + settings.to;
+    let at = request.pos.saturating_sub(settings.input_position) + settings.output_position;
     let Ok(kept) = land_kept(fetched, buf, site, at) else {
         return Err(Stop::Site(SiteCall::ImageWrite));
     };

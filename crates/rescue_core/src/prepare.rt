@@ -14,21 +14,21 @@ use block_list::tiles::{NoMemory, Tiles};
 use rescue_domain::domain::Domain;
 use rescue_domain::live::Live;
 
-/// Prepares a map for a run over a domain. `again` leaves to copy what was left to trim or to scrape; then `retrim`
+/// Prepares a map for a run over a domain. `try_again` leaves to copy what was left to trim or to scrape; then `retrim`
 /// leaves to trim what failed. All memory for more blocks is taken before the first change.
 pub fn prepare<T: Tiles>(
     tiles: &mut T,
     domain: &Domain,
-    again: bool,
+    try_again: bool,
     retrim: bool,
 ) -> Result<(), NoMemory>
     ensures prepared { OnOk result (T.statuses tiles.new
-        ≡ prepared (covers domain.now) again retrim (T.statuses tiles.old)) }
+        ≡ prepared (covers domain.now) try_again retrim (T.statuses tiles.old)) }
     ensures unchanged { OnErr result (T.statuses tiles.new ≡ T.statuses tiles.old) }
 {
-    let trimmed = prepared_to(again, retrim, Status::NonTrimmed);
-    let scraped = prepared_to(again, retrim, Status::NonScraped);
-    let bad = prepared_to(again, retrim, Status::BadSector);
+    let trimmed = prepared_to(try_again, retrim, Status::NonTrimmed);
+    let scraped = prepared_to(try_again, retrim, Status::NonScraped);
+    let bad = prepared_to(try_again, retrim, Status::BadSector);
     let room = room_after(tiles, domain, Status::NonTrimmed, trimmed, 0)?;
     let room = room_after(tiles, domain, Status::NonScraped, scraped, room)?;
     let room = room_after(tiles, domain, Status::BadSector, bad, room)?;
@@ -41,16 +41,16 @@ pub fn prepare<T: Tiles>(
 
 /// Preparation goes by position: what becomes of one doesn't depend on the others.
 pub fn preparation_goes_by_position()
-    ensures { (domain : ℕ → Bool) (again retrim : Bool) (map : List Status)
-        → IsChanged domain (prepared_status again retrim) map (prepared domain again retrim map) }
+    ensures { (domain : ℕ → Bool) (try_again retrim : Bool) (map : List Status)
+        → IsChanged domain (prepared_status try_again retrim) map (prepared domain try_again retrim map) }
 {}
 
 /// What becomes of a status in a domain.
-fn prepared_to(again: bool, retrim: bool, status: Status) -> Status
-    ensures { result ≡ prepared_status again retrim status }
+fn prepared_to(try_again: bool, retrim: bool, status: Status) -> Status
+    ensures { result ≡ prepared_status try_again retrim status }
 {
     match status {
-        Status::NonTrimmed | Status::NonScraped if again => Status::NonTried,
+        Status::NonTrimmed | Status::NonScraped if try_again => Status::NonTried,
         Status::NonScraped | Status::BadSector if retrim => Status::NonTrimmed,
         _ => status,
     }

@@ -12,8 +12,8 @@ pub struct Settings {
     /// How much copying asks for at most: a multiple of the sector, at most 16,777,216.
     pub cluster: u64,
     /// A position of the input, and where it is in the output.
-    pub from: u64,
-    pub to: u64,
+    pub input_position: u64,
+    pub output_position: u64,
     /// How far copying jumps after a failed or slow read, and which read is slow.
     pub skips: Skips,
     /// Which phases there are, and how their passes go.

@@ -176,7 +176,7 @@ done_over s m es spare calls (IsBroken before last call split none is broke) = a
 
 blank_size : (s : Setting) (n : ℕ) → length (plan_start s n).map ≡ n
 blank_size s n =
-    (change_is_made s.domain (prepared_status s.again s.retrim) (untried_map n)).size ∙ length-replicate n NonTried
+    (change_is_made s.domain (prepared_status s.try_again s.retrim) (untried_map n)).size ∙ length-replicate n NonTried
 
 -- What such a run put, by the journal that it kept and what the console got of it.
 module _ (c : Command) (limits : AreInLimits c) (r : RunState) (is : BeginsPlannedRun c r) (es : List Event)

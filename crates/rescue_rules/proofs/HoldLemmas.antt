@@ -58,7 +58,7 @@ output_here s image r y k at lt =
 
 -- a read of positions of the domain alone
 record OfDomain (s : Setting) (r : Reading) : Type 0 where
-  low : s.from ≤ r.pos
+  low : s.input_position ≤ r.pos
   each : (x : ℕ) → r.pos ≤ x → x < r.pos + kept s.sector r → s.domain x ≡ true
 
 move_of_domain : (s : Setting) (ok : IsSensible s) (m : Machine) (e : Event) → StepsBy s m e → OfDomain s e.reading
@@ -69,7 +69,7 @@ move_of_domain s ok m e b =
     }
 
 -- a position that it doesn't cover has its place outside
-place_apart : (s : Setting) (r : Reading) (x : ℕ) → OfDomain s r → s.from ≤ x → covers s.sector r x ≡ false
+place_apart : (s : Setting) (r : Reading) (x : ℕ) → OfDomain s r → s.input_position ≤ x → covers s.sector r x ≡ false
     → (place s x < place s r.pos) ⊎ (place s r.pos + kept s.sector r ≤ place s x)
 place_apart s r x d low off =
     ⊎_elim (λ (lt : x < r.pos). inl (omega (arith, d.low)))
@@ -94,7 +94,7 @@ other_apart s r y d apart =
 
 -- A map that holds goes on to hold when an event's read is written.
 held_covered : (s : Setting) (ok : IsSensible s) (front : List Reading) (image : List ℕ) (r : Reading) (x : ℕ)
-    → OfDomain s r → s.from ≤ x → covers s.sector r x ≡ true
+    → OfDomain s r → s.input_position ≤ x → covers s.sector r x ≡ true
     → slice_get (output_by s image r) (place s x) ≡ given s.sector (front ++ r ∷ []) x
 held_covered s ok front image r x d low covered =
     let c : Covered s.sector r x = covered_here s.sector r x covered in

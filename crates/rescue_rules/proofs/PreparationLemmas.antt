@@ -37,13 +37,13 @@ asked_spares : (change : Status → Status) → SparesFinished change → (asked
 asked_spares change h true = h
 asked_spares change h false = record { leaves = refl; makes_none = λ status is. is }
 
-prepared_spares : (again retrim : Bool) → SparesFinished (prepared_status again retrim)
-prepared_spares again retrim =
-    let first : SparesFinished (if_asked again tried_again) = asked_spares tried_again tried_spares again in
+prepared_spares : (try_again retrim : Bool) → SparesFinished (prepared_status try_again retrim)
+prepared_spares try_again retrim =
+    let first : SparesFinished (if_asked try_again tried_again) = asked_spares tried_again tried_spares try_again in
     let second : SparesFinished (if_asked retrim trimmed_again) = asked_spares trimmed_again trimmed_spares retrim in
     record {
       leaves = ap (λ (t : Status). if_asked retrim trimmed_again t) first.leaves ∙ second.leaves;
-      makes_none = λ status is. first.makes_none status (second.makes_none (if_asked again tried_again status) is);
+      makes_none = λ status is. first.makes_none status (second.makes_none (if_asked try_again tried_again status) is);
     }
 
 -- a position is finished after it exactly if it was
@@ -60,5 +60,5 @@ alike_from domain change h at (status ∷ map) zero =
 alike_from domain change h at (status ∷ map) (suc x) = alike_from domain change h (at + 1) map x
 
 pub prepares_no_finished : PreparesNoFinished
-prepares_no_finished domain again retrim map =
-    record { each = alike_from domain (prepared_status again retrim) (prepared_spares again retrim) 0 map }
+prepares_no_finished domain try_again retrim map =
+    record { each = alike_from domain (prepared_status try_again retrim) (prepared_spares try_again retrim) 0 map }

@@ -44,7 +44,7 @@ order_begins s map from shown time = order_lead s (machine_of s map from shown t
 pub order_over : (s : Setting) (statuses : List Status) (state : Option MapState) (time : ℕ)
     → IsInOrder s (machine_over s statuses state time)
 order_over s statuses state time =
-    order_begins s (prepared s.domain s.again s.retrim statuses) (goes_on_from s.again state) (shown_at_first state) time
+    order_begins s (prepared s.domain s.try_again s.retrim statuses) (goes_on_from s.try_again state) (shown_at_first state) time
 
 -- What stands in a state that goes on: all but the passes, the cursor, the mode and the skip.
 pub record Stays (m n : Machine) : Type 0 where

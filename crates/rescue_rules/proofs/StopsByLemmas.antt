@@ -184,7 +184,7 @@ pub record CutOf (s : Setting) (makes : Bool) (deeds : List Deed) (last : Snapsh
   pub cut : Cut (opening_by s makes ++ (reads_of s given at answer ++ all_calls s deeds last)) calls
 
 -- What is known of a run over a map and an output: it makes these calls and saves, and keeps up with what it promises.
-pub record Plan (promise : ℕ → List Status → List ℕ → Type 0) (free : ℕ → List Status → ℕ → Type 0) (makes : Bool)
+pub record SafeRun (promise : ℕ → List Status → List ℕ → Type 0) (free : ℕ → List Status → ℕ → Type 0) (makes : Bool)
     (s : Setting) (old : List ℕ) (began : List Status) (saves : List Snapshot) (calls : List Entry) : Type 0 where
   pub deeds : List Deed
   pub last : Snapshot
@@ -195,35 +195,35 @@ pub record Plan (promise : ℕ → List Status → List ℕ → Type 0) (free : 
   pub course : CutOf s makes deeds last calls
 
 -- so it is over any map, where none was read, or over the one that the mapfile stands for
-pub data OverMaps (plan : List Status → Option MapState → Type 0) (mapfile : Option File) (end : ℕ) : Type 0 where
-  AnyMap : ((began : List Status) (state : Option MapState) → plan began state) → OverMaps plan mapfile end
-  OneMap : (began : List Status) (state : Option MapState) → Stands mapfile end began state → plan began state
-      → OverMaps plan mapfile end
+pub data OverMaps (holds : List Status → Option MapState → Type 0) (mapfile : Option File) (end : ℕ) : Type 0 where
+  AnyMap : ((began : List Status) (state : Option MapState) → holds began state) → OverMaps holds mapfile end
+  OneMap : (began : List Status) (state : Option MapState) → Stands mapfile end began state → holds began state
+      → OverMaps holds mapfile end
 
--- one plan leads to another
+-- over maps, what holds leads to what follows from it
 pub along : (one two : List Status → Option MapState → Type 0) (mapfile : Option File) (end : ℕ)
     → ((began : List Status) (state : Option MapState) → one began state → two began state)
     → OverMaps one mapfile end → OverMaps two mapfile end
 along one two mapfile end to (AnyMap any) = AnyMap (λ began state. to began state (any began state))
 along one two mapfile end to (OneMap map at was p) = OneMap map at was (to map at p)
 
-pub plan_over : (plan : List Status → Option MapState → Type 0) (mapfile : Option File) (end : ℕ) (began : List Status)
-    (state : Option MapState) → OverMaps plan mapfile end → Stands mapfile end began state → plan began state
-plan_over plan mapfile end began state (AnyMap any) stands = any began state
-plan_over plan mapfile end began state (OneMap map at was p) stands =
+pub holds_over : (holds : List Status → Option MapState → Type 0) (mapfile : Option File) (end : ℕ) (began : List Status)
+    (state : Option MapState) → OverMaps holds mapfile end → Stands mapfile end began state → holds began state
+holds_over holds mapfile end began state (AnyMap any) stands = any began state
+holds_over holds mapfile end began state (OneMap map at was p) stands =
     let same = stands_for_one mapfile end map began at state was stands in
-    subst (λ (n : Option MapState). plan began n) same.1 (subst (λ (m : List Status). plan m at) same.0 p)
+    subst (λ (n : Option MapState). holds began n) same.1 (subst (λ (m : List Status). holds m at) same.0 p)
 
-some_plan : (plan : List Status → Option MapState → Type 0) (mapfile : Option File) (end : ℕ) → OverMaps plan mapfile end
-    → (began : List Status) × (state : Option MapState) × plan began state
-some_plan plan mapfile end (AnyMap any) = ([], None, any [] None)
-some_plan plan mapfile end (OneMap map at was p) = (map, at, p)
+holds_over_some : (holds : List Status → Option MapState → Type 0) (mapfile : Option File) (end : ℕ) → OverMaps holds mapfile end
+    → (began : List Status) × (state : Option MapState) × holds began state
+holds_over_some holds mapfile end (AnyMap any) = ([], None, any [] None)
+holds_over_some holds mapfile end (OneMap map at was p) = (map, at, p)
 
 -- one run, over one map
 module _ (promise : ℕ → List Status → List ℕ → Type 0) (free : ℕ → List Status → ℕ → Type 0) (makes : Bool) (b : Before)
     (s : Setting) (began : List Status) (saves : List Snapshot) (calls : List Entry) (three : AreThreeNames s)
     (opens : Opens makes (files_before b s.outfile))
-    (p : Plan promise free makes s (bytes_of (files_before b s.outfile)) began saves calls) where
+    (p : SafeRun promise free makes s (bytes_of (files_before b s.outfile)) began saves calls) where
   abbrev doing : Doing
   doing = record {
     s = s;
@@ -384,18 +384,18 @@ module _ (promise : ℕ → List Status → List ℕ → Type 0) (free : ℕ →
       others_could s makes p.deeds p.last p.course.given p.course.at p.course.answer b name calls k files other opens_disk
       of_run p.course.cut (left_by b calls k files left)
 
--- So does any run that has a plan, and saves what can be read again.
+-- So does any safe run that saves what can be read again.
 pub stops_by : (saves : List Status → Option MapState → List Snapshot)
     (promise : List Status → Option MapState → ℕ → List Status → List ℕ → Type 0)
     (free : List Status → Option MapState → ℕ → List Status → ℕ → Type 0) (makes : Bool) (b : Before) (s : Setting)
     (calls : List Entry) → AreThreeNames s → Opens makes (files_before b s.outfile)
-    → OverMaps (λ began state. Plan (promise began state) (free began state) makes s (bytes_of (files_before b s.outfile)) began
+    → OverMaps (λ began state. SafeRun (promise began state) (free began state) makes s (bytes_of (files_before b s.outfile)) began
     (saves began state) calls) (files_before b s.names.map) s.end
     → ((began : List Status) (state : Option MapState) → Stands (files_before b s.names.map) s.end began state
     → All (IsReadable s.end) (saves began state))
     → StopsBy saves promise makes b s calls
 stops_by saves promise free makes b s calls three opens way readable =
-    let (map, at, p) = some_plan (λ began state. Plan (promise began state) (free began state) makes s
+    let (map, at, p) = holds_over_some (λ began state. SafeRun (promise began state) (free began state) makes s
     (bytes_of (files_before b s.outfile)) began (saves began state) calls) (files_before b s.names.map) s.end way in
     record {
       before = λ k files le left none. could_be_before (promise map at) (free map at) makes b s map (saves map at) calls
@@ -408,7 +408,7 @@ stops_by saves promise free makes b s calls three opens way readable =
           three opens p k files left is none;
       kept = λ k files began state le left is stands.
           kept_by (promise began state) (free began state) makes b s began (saves began state) calls three opens
-          (plan_over (λ began state. Plan (promise began state) (free began state) makes s
+          (holds_over (λ began state. SafeRun (promise began state) (free began state) makes s
           (bytes_of (files_before b s.outfile)) began (saves began state) calls) (files_before b s.names.map) s.end began
           state way stands)
           state k files left is (readable began state stands) stands;

@@ -71,11 +71,12 @@ was_copying NowFinished = false
 
 -- Copying resumes from the state that a mapfile showed if that was copying, unless what failed is tried again; else it
 -- begins with its first pass.
-abbrev pub goes_on_from : (again : Bool) → Option MapState → Option MapState
-goes_on_from again None = None
-goes_on_from again (Some state) = if again then None else if was_copying state.current then Some state else None
+abbrev pub goes_on_from : (try_again : Bool) → Option MapState → Option MapState
+goes_on_from try_again None = None
+goes_on_from try_again (Some state) = if try_again then None else if was_copying state.current then Some state else None
 
 -- a run at this time over what is made of the map that a mapfile stands for, with the state that it shows
 abbrev pub machine_over : Setting → List Status → (state : Option MapState) → (time : ℕ) → Machine
 machine_over s statuses state time =
-    machine_of s (prepared s.domain s.again s.retrim statuses) (goes_on_from s.again state) (shown_at_first state) time
+    machine_of s (prepared s.domain s.try_again s.retrim statuses) (goes_on_from s.try_again state)
+    (shown_at_first state) time

@@ -13,7 +13,7 @@ use Rattle.rescue_rules.specs.Lines.{lines_of}
 -- a setting without them
 abbrev pub nameless : Setting → Setting
 nameless s =
-    record s { infile = []; outfile = []; forced = false; end = 0; again = false; retrim = false; verbose = false }
+    record s { infile = []; outfile = []; forced = false; end = 0; try_again = false; retrim = false; verbose = false }
 
 -- events are a run with them and without, by the same moves, with the same calls and saves
 pub record RunsAlike (s : Setting) (m : Machine) (events : List Event) : Type 0 where

@@ -21,8 +21,8 @@ abbrev pub if_asked : Bool → (Status → Status) → Status → Status
 if_asked asked change status = if asked then change status else status
 
 -- a status is first tried again, then trimmed again, where that is asked for
-abbrev pub prepared_status : (again retrim : Bool) → Status → Status
-prepared_status again retrim status = if_asked retrim trimmed_again (if_asked again tried_again status)
+abbrev pub prepared_status : (try_again retrim : Bool) → Status → Status
+prepared_status try_again retrim status = if_asked retrim trimmed_again (if_asked try_again tried_again status)
 
 -- the statuses from a position on, with those in a domain changed
 abbrev pub changed_from : (domain : ℕ → Bool) → (change : Status → Status) → ℕ → List Status → List Status
@@ -30,8 +30,8 @@ changed_from domain change x [] = []
 changed_from domain change x (status ∷ map) = if_asked (domain x) change status ∷ changed_from domain change (x + 1) map
 
 -- the map after preparation of a domain
-abbrev pub prepared : (domain : ℕ → Bool) → (again retrim : Bool) → List Status → List Status
-prepared domain again retrim map = changed_from domain (prepared_status again retrim) 0 map
+abbrev pub prepared : (domain : ℕ → Bool) → (try_again retrim : Bool) → List Status → List Status
+prepared domain try_again retrim map = changed_from domain (prepared_status try_again retrim) 0 map
 
 -- as many positions, and each of a domain has its status changed; the others have the one that they had
 pub record IsChanged (domain : ℕ → Bool) (change : Status → Status) (old new : List Status) : Type 0 where
@@ -45,5 +45,5 @@ pub record AreFinishedAlike (a b : List Status) : Type 0 where
 -- preparation makes nothing finished, and leaves what is
 abbrev pub PreparesNoFinished : Type 0
 PreparesNoFinished =
-    (domain : ℕ → Bool) (again retrim : Bool) (map : List Status)
-    → AreFinishedAlike map (prepared domain again retrim map)
+    (domain : ℕ → Bool) (try_again retrim : Bool) (map : List Status)
+    → AreFinishedAlike map (prepared domain try_again retrim map)

@@ -17,13 +17,13 @@ pub record Setting : Type 0 where
   pub names : MapNames
   -- the command line, as a mapfile shows it
   pub line : List ℕ
-  -- the input's length, the positions that are rescued, and where the one at `from` is in the output
+  -- the input's length, the positions that are rescued, and where the one at `input_position` is in the output
   pub end : ℕ
   pub domain : ℕ → Bool
-  pub from : ℕ
-  pub to : ℕ
+  pub input_position : ℕ
+  pub output_position : ℕ
   -- whether what a mapfile calls failed is tried again, and whether it is trimmed again
-  pub again : Bool
+  pub try_again : Bool
   pub retrim : Bool
   -- a read is cut at a multiple of the sector; copying asks for a cluster at most, the other phases for a sector
   pub sector : ℕ
@@ -39,14 +39,14 @@ pub record Setting : Type 0 where
 
 -- where a position is in the output
 abbrev pub place : Setting → ℕ → ℕ
-place s x = x - s.from + s.to
+place s x = x - s.input_position + s.output_position
 
--- a setting that words can ask for: a sector isn't empty, a cluster is some whole sectors, the domain begins at `from`
--- or past it, and the number of a pass can be printed
+-- a setting that words can ask for: a sector isn't empty, a cluster is some whole sectors, the domain begins at
+-- `input_position` or past it, and the number of a pass can be printed
 pub record IsSensible (s : Setting) : Type 0 where
   pub sector : 0 < s.sector
   pub sectors : ℕ
   pub some : 0 < sectors
   pub cluster : s.cluster ≡ sectors * s.sector
-  pub from : (x : ℕ) → s.domain x ≡ true → s.from ≤ x
+  pub from : (x : ℕ) → s.domain x ≡ true → s.input_position ≤ x
   pub retries : s.passes.retries < 2 ^ 32

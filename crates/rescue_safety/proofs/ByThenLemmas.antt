@@ -96,7 +96,7 @@ module _ (s : Setting) (ok : IsSensible s) (y : ℕ) where
       steps : StepsBy s (ready s m) e
       steps = run_steps s ok m e es order run
 
-      first : s.from ≤ r.pos
+      first : s.input_position ≤ r.pos
       first = ok.from r.pos (wanted_domain s (ready s m) r.pos (steps.wanted r.pos (omega arith) (omega (arith, steps.some))))
 
       -- if this read gave the place none, its write spares it
@@ -107,13 +107,13 @@ module _ (s : Setting) (ok : IsSensible s) (y : ℕ) where
 
       -- a read more that had begun
       split_begun : (k : ℕ) → NotBegun (add (is_kept s.sector 0 r) k) (r ∷ rs)
-          → NotBegun k rs × ((x : ℕ) → y + s.from ≡ x + s.to → own s.sector x r ≡ None)
+          → NotBegun k rs × ((x : ℕ) → y + s.input_position ≡ x + s.output_position → own s.sector x r ≡ None)
       split_begun k none = (
         λ x at. later_none (begun s.sector x k rs) (own s.sector x r) (sym (begun_step s.sector x k r rs) ∙ none x at),
         λ x at. earlier_none (begun s.sector x k rs) (own s.sector x r) (sym (begun_step s.sector x k r rs) ∙ none x at),
       )
 
-      own_only : ((x : ℕ) → y + s.from ≡ x + s.to → own s.sector x r ≡ None) → Ungiven s ok y (r ∷ [])
+      own_only : ((x : ℕ) → y + s.input_position ≡ x + s.output_position → own s.sector x r ≡ None) → Ungiven s ok y (r ∷ [])
       own_only none x at = none x at
 
       after_write : (due : Bool) (part : List Entry)

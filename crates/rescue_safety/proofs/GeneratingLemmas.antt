@@ -89,25 +89,25 @@ module _ (s : Setting) (files : List ℕ → Option File) (pieces : List Swept) 
     way_comes g (AfterMaps maps h reads grew timed ready (Begun opens load statuses state rest loaded stands all sweeps is)) =
         inr (At statuses state stands)
 
-    starts_of : (ok : IsSensible s) (m : Sweep) (es : List Swept) → IsSweep s (generator s) m es → StartFrom s.from es
-    starts_of ok m [] run = All-nil (λ (e : Swept). s.from ≤ e.pos)
+    starts_of : (ok : IsSensible s) (m : Sweep) (es : List Swept) → IsSweep s (generator s) m es → StartFrom s.input_position es
+    starts_of ok m [] run = All-nil (λ (e : Swept). s.input_position ≤ e.pos)
     starts_of ok m (e ∷ es) run =
-        All-cons (λ (e : Swept). s.from ≤ e.pos) e es
+        All-cons (λ (e : Swept). s.input_position ≤ e.pos) e es
         (ok.from e.pos (piece_within s (generator s) m e.pos (e.pos + e.len) run.0).some)
         (starts_of ok (after_piece (generator s) m e) es run.2)
 
-    none_starts : pieces ≡ [] → StartFrom s.from pieces
-    none_starts none = subst (StartFrom s.from) (sym none) (All-nil (λ (e : Swept). s.from ≤ e.pos))
+    none_starts : pieces ≡ [] → StartFrom s.input_position pieces
+    none_starts none = subst (StartFrom s.input_position) (sym none) (All-nil (λ (e : Swept). s.input_position ≤ e.pos))
 
     -- its pieces begin where positions are asked for
     pub way_starts : (g : Gain) → IsSensible s → (g.times ≡ [] → pieces ≡ [])
-        → SweepWay ⊤ s (generator s) files pieces end g → StartFrom s.from pieces
+        → SweepWay ⊤ s (generator s) files pieces end g → StartFrom s.input_position pieces
     way_starts g ok silent (InMaps maps reads cut still) = none_starts (silent still)
     way_starts g ok silent (AfterMaps maps h reads grew timed ready (Unbegun ends opens none)) =
         none_starts (silent (sym timed ∙ none))
     way_starts g ok silent
         (AfterMaps maps h reads grew timed ready (Begun opens load statuses state rest loaded stands all sweeps is)) =
-        subst (StartFrom s.from) is (starts_of ok _ sweeps.events sweeps.run)
+        subst (StartFrom s.input_position) is (starts_of ok _ sweeps.events sweeps.run)
 
     -- and where it read the output they are
     pub way_looks : (g : Gain) → (g.times ≡ [] → pieces ≡ []) → SweepWay ⊤ s (generator s) files pieces end g
@@ -193,10 +193,10 @@ module _ (b : Before) (s : Setting) (pieces : List Swept) (end : RunEnd) (on : s
 -- ---- what is owed at each stop
 
 abbrev pub own_target : Setting → Target
-own_target s = record { outfile = s.outfile; mapfile = s.names.map; from = s.from; to = s.to }
+own_target s = record { outfile = s.outfile; mapfile = s.names.map; from = s.input_position; to = s.output_position }
 
 module _ (b : Before) (s : Setting) (g : Gain) (pieces : List Swept) (end : RunEnd)
-    (comes : Comes s (files_before b) g.calls) (starts : StartFrom s.from pieces)
+    (comes : Comes s (files_before b) g.calls) (starts : StartFrom s.input_position pieces)
     (given : AreGiven s (bytes_of (files_before b s.outfile)) pieces) (stops : GenerateStops b s pieces end g)
     (apart : s.outfile ≢ s.names.map)
     (begins : (began : List Status) (was : Option MapState) → Stands (files_before b s.names.map) s.end began was
@@ -220,7 +220,7 @@ module _ (b : Before) (s : Setting) (g : Gain) (pieces : List Swept) (end : RunE
       (λ (at : StandsAt (files_before b s.names.map) s.end). at)
       comes
 
-  module _ (gave : List (ℕ × ℕ)) (old : ℕ → Bool) (image : List ℕ) (front : List Swept) (first : StartFrom s.from front)
+  module _ (gave : List (ℕ × ℕ)) (old : ℕ → Bool) (image : List ℕ) (front : List Swept) (first : StartFrom s.input_position front)
       (got : AreGiven s old_bytes front) (stand : (y : ℕ) → y < length old_bytes → slice_get image y ≡ slice_get old_bytes y) where
     -- a position that some piece gave a byte
     given_now : (x byte : ℕ) → last_given (pieces_given front) x ≡ Some byte
@@ -256,8 +256,8 @@ module _ (b : Before) (s : Setting) (g : Gain) (pieces : List Swept) (end : RunE
     abbrev front : List Swept
     front = take (seen_in (take (k + 1) g.calls)) pieces
 
-    front_starts : StartFrom s.from front
-    front_starts = first_pieces (λ (e : Swept). s.from ≤ e.pos) (seen_in (take (k + 1) g.calls)) pieces starts
+    front_starts : StartFrom s.input_position front
+    front_starts = first_pieces (λ (e : Swept). s.input_position ≤ e.pos) (seen_in (take (k + 1) g.calls)) pieces starts
 
     front_given : AreGiven s old_bytes front
     front_given =
@@ -366,7 +366,7 @@ module _ (t : Target) (l : Link) (apart : t.outfile ≢ t.mapfile) (q : IsGenera
   silent : g.times ≡ [] → p.outside.pieces ≡ []
   silent none = (p.leaves.silent none).1
 
-  starts : StartFrom s.from p.outside.pieces
+  starts : StartFrom s.input_position p.outside.pieces
   starts = way_starts s (files_of q.call.told) p.outside.pieces p.outside.swept on g ok silent way
 
   calls_are : q.call.calls ≡ g.calls
@@ -400,7 +400,7 @@ module _ (t : Target) (l : Link) (apart : t.outfile ≢ t.mapfile) (q : IsGenera
       (ap (λ (cs : List Entry). looks_in (take (q.step.moment + 1) cs)) calls_are
       ∙ part_looks s g.calls (q.step.moment + 1) p.outside.pieces (way_looks s (files_of q.call.told) p.outside.pieces p.outside.swept on g silent way))
       ∙ looked_pieces t s bytes got_by_then q.step.places
-      (first_pieces (λ (e : Swept). s.from ≤ e.pos) n p.outside.pieces starts)
+      (first_pieces (λ (e : Swept). s.input_position ≤ e.pos) n p.outside.pieces starts)
       (first_pieces (λ (e : Swept). e.got ≡ take e.len (drop (place s e.pos) bytes)) n p.outside.pieces given)
 
   gave_is : l.gave ≡ after_barrier (take q.step.moment g.calls) (pieces_given got_by_then)

@@ -72,10 +72,10 @@ StartFrom from es = All (λ e. from ≤ e.pos) es
 
 -- a byte that some piece gives
 record IsPlaced (s : Setting) (image : List ℕ) (x byte : ℕ) : Type 0 where
-  from : s.from ≤ x
+  from : s.input_position ≤ x
   holds : slice_get image (place s x) ≡ Some byte
 
-placed_here : (s : Setting) (image : List ℕ) (e : Swept) (x byte : ℕ) → s.from ≤ e.pos
+placed_here : (s : Setting) (image : List ℕ) (e : Swept) (x byte : ℕ) → s.input_position ≤ e.pos
     → e.got ≡ take e.len (drop (place s e.pos) image) → last_given (enumerate_from e.pos e.got) x ≡ Some byte
     → IsPlaced s image x byte
 placed_here s image e x byte starts given is =
@@ -99,17 +99,17 @@ either_given : (a b : Option ℕ) (byte : ℕ) → last_of_both a b ≡ Some byt
 either_given None b byte is = inr is
 either_given (Some v) b byte is = inl is
 
-pub given_placed : (s : Setting) (image : List ℕ) (es : List Swept) (x byte : ℕ) → StartFrom s.from es
+pub given_placed : (s : Setting) (image : List ℕ) (es : List Swept) (x byte : ℕ) → StartFrom s.input_position es
     → AreGiven s image es → last_given (pieces_given es) x ≡ Some byte
-    → (s.from ≤ x) × (slice_get image (place s x) ≡ Some byte)
+    → (s.input_position ≤ x) × (slice_get image (place s x) ≡ Some byte)
 given_placed s image [] x byte starts given is = absurd (cc)
 given_placed s image (e ∷ es) x byte starts given is =
     ⊎_elim
     (λ (later : last_given (pieces_given es) x ≡ Some byte).
-    given_placed s image es x byte (All-tail (λ (e : Swept). s.from ≤ e.pos) e es starts)
+    given_placed s image es x byte (All-tail (λ (e : Swept). s.input_position ≤ e.pos) e es starts)
     (All-tail (λ (e : Swept). e.got ≡ take e.len (drop (place s e.pos) image)) e es given) later)
     (λ (here : last_given (enumerate_from e.pos e.got) x ≡ Some byte).
-    let p : IsPlaced s image x byte = placed_here s image e x byte (All-head (λ (e : Swept). s.from ≤ e.pos) e es starts)
+    let p : IsPlaced s image x byte = placed_here s image e x byte (All-head (λ (e : Swept). s.input_position ≤ e.pos) e es starts)
     (All-head (λ (e : Swept). e.got ≡ take e.len (drop (place s e.pos) image)) e es given) here in
     (p.from, p.holds))
     (either_given (last_given (pieces_given es) x) (last_given (enumerate_from e.pos e.got) x) byte

@@ -249,11 +249,11 @@ module _ (s : Setting) where
 front_taken : (n : ℕ) (xs : List ℕ) → take (length (take n xs)) xs ≡ take n xs
 front_taken n xs = ap (λ (k : ℕ). take k xs) (length-take n xs) ∙ take_min n xs
 
-pub looked_pieces : (t : Target) (s : Setting) (image : List ℕ) (es : List Swept) → s.from + t.to ≡ t.from + s.to
-    → StartFrom s.from es → AreGiven s image es → look_pairs t image (map (piece_look s) es) ≡ pieces_given es
+pub looked_pieces : (t : Target) (s : Setting) (image : List ℕ) (es : List Swept) → s.input_position + t.to ≡ t.from + s.output_position
+    → StartFrom s.input_position es → AreGiven s image es → look_pairs t image (map (piece_look s) es) ≡ pieces_given es
 looked_pieces t s image [] places starts given = refl
 looked_pieces t s image (e ∷ es) places starts given =
-    let low : s.from ≤ e.pos = All-head (λ (e : Swept). s.from ≤ e.pos) e es starts in
+    let low : s.input_position ≤ e.pos = All-head (λ (e : Swept). s.input_position ≤ e.pos) e es starts in
     let got : e.got ≡ take e.len (drop (place s e.pos) image)
     = All-head (λ (e : Swept). e.got ≡ take e.len (drop (place s e.pos) image)) e es given in
     let at : place s e.pos + t.from - t.to ≡ e.pos = omega (arith, low, places) in
@@ -263,5 +263,5 @@ looked_pieces t s image (e ∷ es) places starts given =
     ap (λ (p : ℕ). enumerate_from p (take (length e.got) (drop (place s e.pos) image)) ++ look_pairs t image (map (piece_look s) es)) at
     ∙ ap (λ (l : List ℕ). enumerate_from e.pos l ++ look_pairs t image (map (piece_look s) es)) bytes
     ∙ ap (λ (l : List (ℕ × ℕ)). enumerate_from e.pos e.got ++ l)
-    (looked_pieces t s image es places (All-tail (λ (e : Swept). s.from ≤ e.pos) e es starts)
+    (looked_pieces t s image es places (All-tail (λ (e : Swept). s.input_position ≤ e.pos) e es starts)
     (All-tail (λ (e : Swept). e.got ≡ take e.len (drop (place s e.pos) image)) e es given))

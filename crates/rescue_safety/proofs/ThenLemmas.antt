@@ -155,7 +155,7 @@ module _ (s : Setting) (began : List Status) (state : Option MapState) (g : Gain
     was_none : (x : ℕ) → Has began Finished x → given s.sector (reads_of es) x ≡ None
     was_none x has =
         (finished_stands s m es x ok order run
-        (((prepares_no_finished s.domain s.again s.retrim began).each x).0 has)).0
+        (((prepares_no_finished s.domain s.try_again s.retrim began).each x).0 has)).0
 
     -- a position that a save finishes which had begun to be published
     then_given : (k number : ℕ) (old found : Option File) (statuses : List Status) (x : ℕ)

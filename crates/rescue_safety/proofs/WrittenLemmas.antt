@@ -164,7 +164,7 @@ saves_dry s (Some p) = save_dry s.names (text_of s.line p)
 
 -- ---- a run
 
-module _ (t : Target) (s : Setting) (ok : IsSensible s) (from : s.from ≡ t.from) (to : s.to ≡ t.to) where
+module _ (t : Target) (s : Setting) (ok : IsSensible s) (from : s.input_position ≡ t.from) (to : s.output_position ≡ t.to) where
   one_written : (none : Bool) (at at' : ℕ) (piece : List ℕ) → at ≡ at'
       → all_written (if none then [] else image_write at piece ∷ []) ≡ (if none then [] else (at', piece) ∷ [])
   one_written true at at' piece is = refl
@@ -177,7 +177,7 @@ module _ (t : Target) (s : Setting) (ok : IsSensible s) (from : s.from ≡ t.fro
       let n : Machine = (move_of s m e).after in
       let r : Reading = e.reading in
       let b : StepsBy s (ready s m) e = run_steps s ok m e es order run in
-      let first : s.from ≤ r.pos
+      let first : s.input_position ≤ r.pos
       = ok.from r.pos (wanted_domain s (ready s m) r.pos (b.wanted r.pos (omega arith) (omega (arith, b.some)))) in
       let at : place s r.pos ≡ r.pos + t.to - t.from = omega (arith, first, from, to) in
       let write : List Call = write_calls s r in

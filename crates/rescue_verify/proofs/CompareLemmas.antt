@@ -31,7 +31,7 @@ use Rattle.rescue_verify.proofs.PieceLemmas.{asks_push}
 use Rattle.rescue_verify.specs.Looks.{Look, reads_of, differs, seen_at, seen_in, look_call, look_calls}
 use Rattle.rescue_verify.specs.Looking.{HaltsLooking, SeesPiece}
 use Rattle.rescue_verify.specs.Verified.{judged, judged_by}
-use Rattle.rescue_verify.specs.Comparing.{CanTake, ComparisonPlan, IsNext, IsSound, IsTallyUpTo, LossesRise, place_in, tally_of, tally_with, TakesPiece, HaltsAt, HasLooked, Compares}
+use Rattle.rescue_verify.specs.Comparing.{CanTake, Comparison, IsNext, IsSound, IsTallyUpTo, LossesRise, place_in, tally_of, tally_with, TakesPiece, HaltsAt, HasLooked, Compares}
 
 -- ---- one more look
 
@@ -63,7 +63,7 @@ tally_push looks l =
 -- ---- looks so far
 
 -- looks at the first pieces, up to a position: what they count, and what they make of a map
-pub record UpTo (p : ComparisonPlan) (from : ℕ) (tally : Tally) (old new : List Status) (source source' : SourceState)
+pub record UpTo (p : Comparison) (from : ℕ) (tally : Tally) (old new : List Status) (source source' : SourceState)
     (site site' : SiteState) : Type 0 where
   pub looks : List Look
   pub looked : HasLooked p looks source source' site site'
@@ -71,7 +71,7 @@ pub record UpTo (p : ComparisonPlan) (from : ℕ) (tally : Tally) (old new : Lis
   pub counts : tally ≡ tally_of looks
   pub map_is : new ≡ judged_by old looks
 
-pub none_yet : (p : ComparisonPlan) (map : List Status) (source : SourceState) (site : SiteState)
+pub none_yet : (p : Comparison) (map : List Status) (source : SourceState) (site : SiteState)
     → UpTo p 0 (record { compared = 0; differing = 0; unread = 0 }) map map source source site site
 none_yet p map source site = record {
   looks = [];
@@ -99,7 +99,7 @@ pub record SameImage (site site' : SiteState) : Type 0 where
   pub tells : site'.tells ≡ site.tells
   pub image : IsTrue site.tells → image_in site' ≡ image_in site
 
-pub one_more : (p : ComparisonPlan) (from pos size : ℕ) (tally : Tally) (old new : List Status) (l : Look)
+pub one_more : (p : Comparison) (from pos size : ℕ) (tally : Tally) (old new : List Status) (l : Look)
     (source s1 s2 : SourceState) (site d1 d2 : SiteState) → UpTo p from tally old new source s1 site d1
     → SourceKeeps source s1 → SameImage site d1
     → IsPiece p.compared p.sector from pos (pos + size) → SeesPiece pos size (place_in p pos) l (across s1 s2 d1 d2)
@@ -164,7 +164,7 @@ looks_stand place (l ∷ looks) d =
     (call_stands (is_whole l.read) (place l.read.pos) l.read.asked (length l.there) d)
     ∙ looks_stand place looks d
 
-pub same_image : (p : ComparisonPlan) (from : ℕ) (tally : Tally) (old new : List Status) (source source' : SourceState)
+pub same_image : (p : Comparison) (from : ℕ) (tally : Tally) (old new : List Status) (source source' : SourceState)
     (site site' : SiteState) → UpTo p from tally old new source source' site site' → SiteStays site site'
     → SameImage site site'
 same_image p from tally old new source source' site site' u stays = record {
@@ -180,7 +180,7 @@ same_image p from tally old new source source' site site' u stays = record {
 }
 
 -- a piece that was taken is one more look
-pub takes_one : (p : ComparisonPlan) (from : ℕ) (piece : Piece) (tally tally' : Tally) (old new new' : List Status)
+pub takes_one : (p : Comparison) (from : ℕ) (piece : Piece) (tally tally' : Tally) (old new new' : List Status)
     (source s1 s2 : SourceState) (site d1 d2 : SiteState) → UpTo p from tally old new source s1 site d1
     → SourceStays source s1 → SiteStays site d1 → IsNext p from piece
     → TakesPiece piece tally tally' new new' (across s1 s2 d1 d2)
@@ -247,8 +247,8 @@ long_piece compared sector from pos end some piece =
     let same : end ≡ pos + (end - pos) = omega (arith, some) in
     subst (IsPiece compared sector from pos) same piece
 
--- the next piece of a sound plan can be taken
-pub can_take : (p : ComparisonPlan) (from : ℕ) (piece : Piece) (old now : List Status) → IsSound p
+-- the next piece of a sound comparison can be taken
+pub can_take : (p : Comparison) (from : ℕ) (piece : Piece) (old now : List Status) → IsSound p
     → ((x : ℕ) → IsIn p.compared x → x < length old) → length now ≡ length old → IsNext p from piece
     → CanTake piece now
 can_take p from piece old now sound within long next =
@@ -271,7 +271,7 @@ can_take p from piece old now sound within long next =
 -- ---- the end
 
 -- what a look that halted read and called
-record Halted (halt : Halt) (p : ComparisonPlan) (from : ℕ) (source source' : SourceState) (site site' : SiteState) : Type 0 where
+record Halted (halt : Halt) (p : Comparison) (from : ℕ) (source source' : SourceState) (site site' : SiteState) : Type 0 where
   reads : List Reading
   calls : List Entry
   halts : HaltsAt halt p from reads calls
@@ -291,7 +291,7 @@ halted_by_tells : (b : Bool) (X : Type 0) → (IsTrue b → X) → ((IsTrue b �
 halted_by_tells true X told untold = told refl
 halted_by_tells false X told untold = untold (λ t. absurd (cc))
 
-halted_looking : (halt : Halt) (p : ComparisonPlan) (from pos size : ℕ) (source source' : SourceState) (site site' : SiteState)
+halted_looking : (halt : Halt) (p : Comparison) (from pos size : ℕ) (source source' : SourceState) (site site' : SiteState)
     → IsPiece p.compared p.sector from pos (pos + size)
     → HaltsLooking halt pos size (place_in p pos) (across source source' site site') → Halted halt p from source source' site site'
 halted_looking NoMemory p from pos size source source' site site' piece h = record {
@@ -340,7 +340,7 @@ halted_looking ImageFault p from pos size source source' site site' piece h =
       record_ = λ tells. absurd (n tells);
     })
 
-pub came_to_halt : (halt : Halt) (p : ComparisonPlan) (from : ℕ) (piece : Piece) (tally : Tally)
+pub came_to_halt : (halt : Halt) (p : Comparison) (from : ℕ) (piece : Piece) (tally : Tally)
     (old new now : List Status) (source s1 s2 : SourceState) (site d1 d2 : SiteState)
     → UpTo p from tally old new source s1 site d1 → SourceKeeps source s1 → d1.tells ≡ site.tells → IsNext p from piece
     → HaltsLooking halt piece.from (piece.to - piece.from) piece.place (across s1 s2 d1 d2)
@@ -368,7 +368,7 @@ came_to_halt halt p from piece tally old new now source s1 s2 site d1 d2 u keeps
     }
 
 -- memory ran out before the first piece
-pub nothing_compared : (p : ComparisonPlan) (map : List Status) (source : SourceState) (site : SiteState)
+pub nothing_compared : (p : Comparison) (map : List Status) (source : SourceState) (site : SiteState)
     → Compares p map map (Err NoMemory) (across source source site site)
 nothing_compared p map source site = record {
   looks = [];

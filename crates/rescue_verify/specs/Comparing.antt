@@ -15,7 +15,7 @@ use Rattle.rescue_verify.specs.declared.compare.Buffers.{Buffers}
 use Rattle.rescue_verify.specs.declared.halt.Halt.{Halt}
 use Rattle.rescue_verify.specs.declared.halt.Halt.TheVariants.{NoMemory, SourceLost, ImageFault}
 use Rattle.rescue_verify.specs.declared.tally.Tally.{Tally}
-use Rattle.rescue_verify.specs.declared.piece.Comparison.{Comparison}
+use Rattle.rescue_verify.specs.declared.piece.Comparison.{Comparison as ComparisonCode}
 use Rattle.rescue_verify.specs.declared.piece.Piece.{Piece}
 use Rattle.rescue_verify.specs.Across.{Across}
 use Rattle.rescue_verify.specs.Pieces.{IsPiece, NoneFrom, AskForPieces, end_of_reads}
@@ -24,23 +24,23 @@ use Rattle.rescue_verify.specs.Looking.{CanLook, SeesPiece}
 use Rattle.rescue_verify.specs.Verified.{judged, judged_by}
 
 -- What is compared, in sectors of this size, and where a position is in the image: `from` is at `to`.
-pub record ComparisonPlan : Type 0 where
+pub record Comparison : Type 0 where
   pub compared : ℕ → Bool
   pub sector : ℕ
   pub from : ℕ
   pub to : ℕ
 
 -- the place in the image of a position of the input
-abbrev pub place_in : ComparisonPlan → ℕ → ℕ
+abbrev pub place_in : Comparison → ℕ → ℕ
 place_in p x = place_from p.from p.to x
 
 -- what is compared, as the code hands it on
-abbrev pub plan_by : Comparison → ComparisonPlan
-plan_by c = record { compared = covers c.compared.now; sector = c.sector; from = c.from; to = c.to }
+abbrev pub comparison_by : ComparisonCode → Comparison
+comparison_by c = record { compared = covers c.compared.now; sector = c.sector; from = c.from; to = c.to }
 
--- A plan can be carried out: a sector has between 1 byte and 1 MiB, and each position that is compared is at `from` or
--- after it, and ends below 2^63, in the image too.
-pub record IsSound (p : ComparisonPlan) : Type 0 where
+-- A comparison can be carried out: a sector has between 1 byte and 1 MiB, and each position that is compared is at
+-- `from` or after it, and ends below 2^63, in the image too.
+pub record IsSound (p : Comparison) : Type 0 where
   pub sector : 0 < p.sector
   pub small : p.sector ≤ 1048576
   pub short : (x : ℕ) → IsIn p.compared x → x + 1 < 2 ^ 63
@@ -65,8 +65,8 @@ tally_with t l = record {
 
 -- ---- a piece
 
--- a piece is the first one of a plan from a position on, and has its place in the image
-pub record IsNext (p : ComparisonPlan) (from : ℕ) (piece : Piece) : Type 0 where
+-- a piece is the first one of a comparison from a position on, and has its place in the image
+pub record IsNext (p : Comparison) (from : ℕ) (piece : Piece) : Type 0 where
   pub some : piece.from < piece.to
   pub few : piece.to ≤ piece.from + p.sector
   pub is_piece : IsPiece p.compared p.sector from piece.from piece.to
@@ -104,7 +104,7 @@ pub record TakesPiece (piece : Piece) (tally tally' : Tally) (old new : List Sta
 
 -- Why a comparison stopped before a piece, or within it, and what it read of input and files meanwhile. Room in the map
 -- ran out before the piece was read; its read was lost; or it was read whole, and the read of the image failed.
-abbrev pub HaltsAt : Halt → ComparisonPlan → (from : ℕ) → List Reading → List Entry → Type 0
+abbrev pub HaltsAt : Halt → Comparison → (from : ℕ) → List Reading → List Entry → Type 0
 HaltsAt NoMemory p from reads calls = (reads ≡ []) × (calls ≡ [])
 HaltsAt SourceLost p from reads calls =
     (pos end : ℕ) × IsPiece p.compared p.sector from pos end × (reads ≡ []) × (calls ≡ [])
@@ -113,7 +113,7 @@ HaltsAt ImageFault p from reads calls =
     × Lost (image_read (place_in p r.pos) r.asked None) [] calls
 
 -- A comparison came to the last piece, counted what it saw, and marked it in the map; or it stopped.
-abbrev pub EndsComparing : ComparisonPlan → (old new : List Status) → Result Tally Halt → List Look → List Reading
+abbrev pub EndsComparing : Comparison → (old new : List Status) → Result Tally Halt → List Look → List Reading
     → List Entry
     → Type 0
 EndsComparing p old new (Ok tally) looks reads calls =
@@ -130,7 +130,7 @@ LossesRise (Err ImageFault) source source' site site' = (source'.losses ≡ sour
 
 -- Looks at the first pieces, in order: they are reads of the input and calls on the files, if these tell; and what each
 -- of the two gave is what it has there.
-pub record HasLooked (p : ComparisonPlan) (looks : List Look) (source source' : SourceState) (site site' : SiteState)
+pub record HasLooked (p : Comparison) (looks : List Look) (source source' : SourceState) (site site' : SiteState)
     : Type 0 where
   pub asks : AskForPieces p.compared p.sector 0 (reads_of looks)
   pub journal : IsTrue source.tells → source'.journal ≡ source.journal ++ reads_of looks
@@ -140,7 +140,7 @@ pub record HasLooked (p : ComparisonPlan) (looks : List Look) (source source' : 
       → looks ≡ map (seen_in (bytes_of (image_in site)) (place_in p)) (reads_of looks)
 
 -- What a comparison did, by its outcome: looks at the first pieces, in order, and what came after them.
-pub record Compares (p : ComparisonPlan) (old new : List Status) (result : Result Tally Halt) (a : Across)
+pub record Compares (p : Comparison) (old new : List Status) (result : Result Tally Halt) (a : Across)
     : Type 0 where
   pub looks : List Look
   pub reads : List Reading

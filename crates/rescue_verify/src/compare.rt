@@ -5,7 +5,7 @@ ghost use Rattle.crash_site.specs.SiteChanges.{Stays as SiteStays};
 ghost use Rattle.rescue_domain.specs.Domain.{IsIn};
 ghost use Rattle.rescue_domain.specs.Parts.{covers};
 ghost use Rattle.rescue_verify.specs.Across.{across};
-ghost use Rattle.rescue_verify.specs.Comparing.{AreAsLong, CanTake, Compares, HaveRoom, IsSound, IsTallyUpTo, LossesRise, TakesPiece, plan_by};
+ghost use Rattle.rescue_verify.specs.Comparing.{AreAsLong, CanTake, Compares, HaveRoom, IsSound, IsTallyUpTo, LossesRise, TakesPiece, comparison_by};
 ghost use Rattle.rescue_verify.specs.Looking.{HaltsLooking};
 
 use crate::halt::Halt;
@@ -87,11 +87,11 @@ pub fn compare<S: Source, D: Site, T: Tiles>(
     source: &mut S,
     site: &mut D,
 ) -> Result<Tally, Halt>
-    requires sound { IsSound (plan_by comparison) }
+    requires sound { IsSound (comparison_by comparison) }
     requires within { (x : ℕ) → IsIn (covers comparison.compared.now) x → x < length (T.statuses tiles.old) }
     requires input { (S.state source.old).is_open ≡ true }
     requires image { (D.state site.old).is_open ≡ true }
-    ensures compares { Compares (plan_by comparison.entry) (T.statuses tiles.old) (T.statuses tiles.new) result
+    ensures compares { Compares (comparison_by comparison.entry) (T.statuses tiles.old) (T.statuses tiles.new) result
         (across (S.state source.old) (S.state source.new) (D.state site.old) (D.state site.new)) }
     ensures counts { LossesRise result (S.state source.old) (S.state source.new) (D.state site.old) (D.state site.new) }
     ensures source { SourceStays (S.state source.old) (S.state source.new) }

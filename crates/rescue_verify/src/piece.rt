@@ -4,7 +4,7 @@ ghost use Rattle.block_list.specs.Places.{IsRangeUp};
 ghost use Rattle.rescue_domain.specs.Domain.{IsIn};
 ghost use Rattle.rescue_domain.specs.Parts.{covers};
 ghost use Rattle.rescue_domain.specs.Places.{place_from};
-ghost use Rattle.rescue_verify.specs.Comparing.{IsNext, IsSound, plan_by};
+ghost use Rattle.rescue_verify.specs.Comparing.{IsNext, IsSound, comparison_by};
 ghost use Rattle.rescue_verify.specs.Pieces.{NoneFrom};
 
 use rescue_domain::domain::Domain;
@@ -32,8 +32,8 @@ pub(crate) struct Piece {
 impl Comparison<'_> {
     /// The first piece at or after a position.
     pub(crate) fn next_piece(self, from: u64) -> Option<Piece>
-        requires { IsSound (plan_by self) }
-        ensures next { IfSome result (λ p. IsNext (plan_by self.entry) from p) }
+        requires { IsSound (comparison_by self) }
+        ensures next { IfSome result (λ p. IsNext (comparison_by self.entry) from p) }
         ensures run { IfSome result (λ p. IsRangeUp (IsIn (covers self.entry.compared.now)) p.from p.run_end) }
         ensures none { IfNone result (NoneFrom (covers self.entry.compared.now) from) }
     {

@@ -26,7 +26,7 @@ use Rattle.rescue_rules.proofs.MapfileLemmas.{opening_by}
 use Rattle.rescue_rules.proofs.BeforeLemmas.{disk_before, left_by, could_before}
 use Rattle.rescue_rules.proofs.DeedStages.{all_calls}
 use Rattle.rescue_rules.proofs.OthersLemmas.{reads_of, found_could}
-use Rattle.rescue_rules.proofs.StopsByLemmas.{peel, barrier_after, Plan, found_keeps, output_stands, map_stands, unwritten_stands, could_be_before, others_stand}
+use Rattle.rescue_rules.proofs.StopsByLemmas.{peel, barrier_after, SafeRun, found_keeps, output_stands, map_stands, unwritten_stands, could_be_before, others_stand}
 use Rattle.rescue_rules.proofs.GoesLemmas.{broke_cut, front_cut}
 use Rattle.sweep_rules.specs.SweepOpens.{EndsEarly, InOpening, InLoad, OpensOrEnds, EndsEarlySafely}
 use Rattle.sweep_rules.proofs.EndLemmas.{opening_is}
@@ -101,9 +101,9 @@ Same began n map image = map ≡ began
 abbrev Nowhere : ℕ → List Status → ℕ → Type 0
 Nowhere n map y = ⊥
 
-early_plan : (s : Setting) (makes : Bool) (old : List ℕ) (began : List Status) (calls : List Entry) → Early s makes calls
-    → Plan (Same began) Nowhere makes s old began (unsaved began ∷ []) calls
-early_plan s makes old began calls e =
+early_is_safe : (s : Setting) (makes : Bool) (old : List ℕ) (began : List Status) (calls : List Entry) → Early s makes calls
+    → SafeRun (Same began) Nowhere makes s old began (unsaved began ∷ []) calls
+early_is_safe s makes old began calls e =
     let reads : List Call = reads_of s e.given e.at e.answer in
     let more : List Call = all_calls s [] (unsaved began) in
     record {
@@ -125,15 +125,15 @@ early_plan s makes old began calls e =
 -- where its output was opened
 module _ (b : Before) (s : Setting) (makes : Bool) (calls : List Entry) (three : AreThreeNames s)
     (opens : Opens makes (files_before b s.outfile)) (e : Early s makes calls) where
-  plan : (began : List Status)
-      → Plan (Same began) Nowhere makes s (bytes_of (files_before b s.outfile)) began (unsaved began ∷ []) calls
-  plan began = early_plan s makes (bytes_of (files_before b s.outfile)) began calls e
+  is_safe : (began : List Status)
+      → SafeRun (Same began) Nowhere makes s (bytes_of (files_before b s.outfile)) began (unsaved began ∷ []) calls
+  is_safe began = early_is_safe s makes (bytes_of (files_before b s.outfile)) began calls e
 
   opened_kept : (k : ℕ) (files : List ℕ → Option File) (began : List Status) (state : Option MapState)
       → LeftBy b calls k files → has_barrier (take k calls) ≡ true → Stands (files_before b s.names.map) s.end began state
       → IsKeptBy [] (Same began) b s calls began k files
   opened_kept k files began state left is stands =
-      let h = found_keeps (Same began) Nowhere makes b s began (unsaved began ∷ []) calls three opens (plan began) k files
+      let h = found_keeps (Same began) Nowhere makes b s began (unsaved began ∷ []) calls three opens (is_safe began) k files
       left is in
       let few : h.number ≤ 0 = omega (arith, h.no_newer, unpublished s makes calls (disk_before b) k e) in
       let none = no_number (files_before b s.names.map) began s.line (unsaved began ∷ []) h.number (files s.names.map)
@@ -153,18 +153,18 @@ module _ (b : Before) (s : Setting) (makes : Bool) (calls : List Entry) (three :
   opened_safely : StopsBy (λ began shown. []) (λ began shown number map image. map ≡ began) makes b s calls
   opened_safely = record {
     before = λ k files le left none. could_be_before (Same []) Nowhere makes b s [] (unsaved [] ∷ []) calls three opens
-        (plan []) k files left none;
+        (is_safe []) k files left none;
     output = λ k files le left is none. output_stands (Same []) Nowhere makes b s [] (unsaved [] ∷ []) calls three opens
-        (plan []) k files left is none;
+        (is_safe []) k files left is none;
     there = λ k files le left is. (found_keeps (Same []) Nowhere makes b s [] (unsaved [] ∷ []) calls three opens
-        (plan []) k files left is).there;
+        (is_safe []) k files left is).there;
     mapfile = λ k files le left is none. map_stands (Same []) Nowhere makes b s [] (unsaved [] ∷ []) calls three opens
-        (plan []) k files left is none;
+        (is_safe []) k files left is none;
     kept = λ k files began state le left is stands. opened_kept k files began state left is stands;
     unwritten = λ k files y le left is none within. unwritten_stands (Same []) Nowhere makes b s [] (unsaved [] ∷ []) calls
-        three opens (plan []) k files y left is none within;
+        three opens (is_safe []) k files y left is none within;
     others = λ k files name le left output mapfile draft. others_stand (Same []) Nowhere makes b s [] (unsaved [] ∷ []) calls
-        three opens (plan []) k files name left (record { output = output; map = mapfile; draft = draft });
+        three opens (is_safe []) k files name left (record { output = output; map = mapfile; draft = draft });
   }
 
 -- if it wasn't, there is no call after the open

@@ -25,7 +25,7 @@ use Rattle.rescue_rules.proofs.MapfileLemmas.{opening_by}
 use Rattle.rescue_rules.proofs.StandsLemmas.{stands_for_one, stands_small}
 use Rattle.rescue_rules.proofs.SnapshotLemmas.{IsReadable}
 use Rattle.rescue_rules.proofs.DeedStages.{last_calls, all_calls, doing_is}
-use Rattle.rescue_rules.proofs.StopsByLemmas.{CutOf, Plan, OneMap, stops_by}
+use Rattle.rescue_rules.proofs.StopsByLemmas.{CutOf, SafeRun, OneMap, stops_by}
 use Rattle.rescue_rules.proofs.GoesLemmas.{broke_cut, past_load}
 use Rattle.rescue_rules.proofs.StopsLemmas.{first_small}
 use Rattle.sweep_rules.specs.Sweep.{Sweeper, Sweep, Swept, IsPiece, after_piece, after_pieces, due_save, sweep_end, deeds_of}
@@ -173,14 +173,14 @@ module _ (b : Before) (s : Setting) (w : Sweeper) (g : Gain) (statuses : List St
       (begins_tame s w statuses state (began_at g.times) (first_small g.times times)
       (stands_small (files_before b s.names.map) s.end statuses state low o.stands))))
 
-  -- a sweep that has a plan stops safely
+  -- a sweep that is a safe run stops safely
   pub sweep_stops_by : (promise : List Status → Option MapState → ℕ → List Status → List ℕ → Type 0)
       (free : List Status → Option MapState → ℕ → List Status → ℕ → Type 0)
       → ((map : List Status) (e : Swept) → length (w.marks map e) ≡ length map) → AreThreeNames s → s.end < 2 ^ 63
       → AreTimes g.times → Opens w.makes (files_before b s.outfile)
-      → Plan (promise statuses state) (free statuses state) w.makes s (bytes_of (files_before b s.outfile)) statuses
+      → SafeRun (promise statuses state) (free statuses state) w.makes s (bytes_of (files_before b s.outfile)) statuses
       (sweep_saves w statuses state g o.sweeps.events o.end) g.calls
       → StopsBy (λ began shown. sweep_saves w began shown g o.sweeps.events o.end) promise w.makes b s g.calls
-  sweep_stops_by promise free sizes three low times opens plan =
+  sweep_stops_by promise free sizes three low times opens is_safe =
       stops_by (λ began shown. sweep_saves w began shown g o.sweeps.events o.end) promise free w.makes b s g.calls three
-      opens (OneMap statuses state o.stands plan) (saves_readable sizes low times)
+      opens (OneMap statuses state o.stands is_safe) (saves_readable sizes low times)

@@ -67,7 +67,7 @@ filled_outlasts s buffer (e ∷ es) was now loose few m free h =
 module _ (s : Setting) (types : TypeSet) (buffer : List ℕ) (ok : IsSensible s) (size : length buffer ≡ s.cluster) where
   -- a piece that lies below a cursor
   record IsBelow (cursor : ℕ) (e : Swept) : Type 0 where
-    low : s.from ≤ e.pos
+    low : s.input_position ≤ e.pos
     end : e.pos + e.len ≤ cursor
     few : e.len ≤ length buffer
 

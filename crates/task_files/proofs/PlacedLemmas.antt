@@ -33,8 +33,8 @@ settings_sound o limits = record {
   cluster_max = limits.cluster_max;
   skip = rounded_up o.sector o.skip o.skip_max limits.sector limits.skip;
   skip_max = limits.skip_max;
-  from = limits.input_position;
-  to = below_limit o.output_position o.input_position limits.input_position limits.output_position;
+  input_position = limits.input_position;
+  output_position = below_limit o.output_position o.input_position limits.input_position limits.output_position;
   retries = omega (arith, limits.retries);
 }
 

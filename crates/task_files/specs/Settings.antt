@@ -10,8 +10,8 @@ abbrev pub settings_by : Options → Settings
 settings_by o = record {
   sector = o.sector;
   cluster = cluster_of o;
-  from = o.input_position;
-  to = output_from o;
+  input_position = o.input_position;
+  output_position = output_from o;
   skips = skips_asked o;
   passes = o.passes;
   limits = o.limits;

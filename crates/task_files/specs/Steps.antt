@@ -56,13 +56,13 @@ heard_after heard (Err e) = heard
 
 -- what a rescue needs before it opens a file: the names of its mapfile and its draft, apart from the outfile's, files
 -- of different names, the heading of a map that wasn't saved yet, and options within their limits
-pub record IsPlanned (plan : CheckedCommand) : Type 0 where
-  pub names : plan.names ≡ names_by (told_by plan.command)
-  pub apart : AreNamedApart (told_by plan.command).outfile plan.names
-  pub different : first_same (told_by plan.command).infile (told_by plan.command).outfile
-      (names_by (told_by plan.command)) ≡ None
-  pub heading : plan.heading ≡ heading_at plan.heading.line 0 0
-  pub limits : AreInLimits plan.command.options
+pub record IsChecked (checked : CheckedCommand) : Type 0 where
+  pub names : checked.names ≡ names_by (told_by checked.command)
+  pub apart : AreNamedApart (told_by checked.command).outfile checked.names
+  pub different : first_same (told_by checked.command).infile (told_by checked.command).outfile
+      (names_by (told_by checked.command)) ≡ None
+  pub heading : checked.heading ≡ heading_at checked.heading.line 0 0
+  pub limits : AreInLimits checked.command.options
 
 -- a map that reaches an input's end and the state that a mapfile shows, if one does, within the limits
 pub record SuitsInput (end : ℕ) (map : List Status) (state : Option MapState) : Type 0 where

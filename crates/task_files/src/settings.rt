@@ -24,8 +24,8 @@ pub fn settings_for(options: &Options) -> Settings
     Settings {
         sector: options.sector,
         cluster: options.cluster(),
-        from: options.input_position,
-        to: output_from(options),
+        input_position: options.input_position,
+        output_position: output_from(options),
         skips: Skips {
             first: options.first_skip(),
             most: options.largest_skip(),

@@ -24,12 +24,12 @@ use task_files::maps::domain_of;
 use task_files::settings::{make_opening, settings_for};
 
 /// The state that copying resumes from, if a mapfile shows one.
-fn copying_from(again: bool, state: Option<MapState>) -> Option<MapState>
-    ensures { result ≡ goes_on_from again state }
+fn copying_from(try_again: bool, state: Option<MapState>) -> Option<MapState>
+    ensures { result ≡ goes_on_from try_again state }
 {
     let shown = state?;
     match shown.current {
-        Current::Copying if !again => Some(shown),
+        Current::Copying if !try_again => Some(shown),
         _ => None,
     }
 }

@@ -7,7 +7,7 @@ ghost use Rattle.block_list.specs.Tiled.{Tiled, statuses_in};
 ghost use Rattle.ddrescue_words.specs.Asking.{told_by};
 ghost use Rattle.task_files.specs.Asked.{setting_of};
 ghost use Rattle.task_files.specs.Answers.{Causes, drafting_left};
-ghost use Rattle.task_files.specs.Steps.{ending_of, heard_after, maps_read, DidRun, CanBegin, IsPlanned, DidAfterMaps, Worked};
+ghost use Rattle.task_files.specs.Steps.{ending_of, heard_after, maps_read, DidRun, CanBegin, IsChecked, DidAfterMaps, Worked};
 ghost use Rattle.task_rescue.specs.Running.{AreReady};
 ghost use Rattle.rescue_core.specs.Across.{across};
 
@@ -45,7 +45,7 @@ struct TestedFiles {
 /// Runs the rescue over the map that it goes on with. All memory is taken before the clock is read; the first line is
 /// put after that.
 fn run<S: Source, D: Site, K: Clock, C: Console>(
-    plan: CheckedCommand<'_>,
+    checked: CheckedCommand<'_>,
     loaded: LoadedFiles,
     source: &mut S,
     site: &mut D,
@@ -53,11 +53,11 @@ fn run<S: Source, D: Site, K: Clock, C: Console>(
     console: &mut C,
 ) -> Ended
     requires ready { AreReady (S.state source.old) (D.state site.old) }
-    requires planned { IsPlanned plan }
-    requires begins { CanBegin (told_by plan.command).options loaded.end loaded.map.tiles.statuses loaded.map.state }
-    ensures ran { (test : Option Tiled) → DidRun (setting_of (told_by plan.entry.command) plan.entry.heading.line
-        loaded.end (maps_read (told_by plan.entry.command).options loaded.domain_map test loaded.map)) None
-        loaded.map.tiles.statuses loaded.map.state plan.entry.heard result.heard result.ending (across
+    requires checked { IsChecked checked }
+    requires begins { CanBegin (told_by checked.command).options loaded.end loaded.map.tiles.statuses loaded.map.state }
+    ensures ran { (test : Option Tiled) → DidRun (setting_of (told_by checked.entry.command) checked.entry.heading.line
+        loaded.end (maps_read (told_by checked.entry.command).options loaded.domain_map test loaded.map)) None
+        loaded.map.tiles.statuses loaded.map.state checked.entry.heard result.heard result.ending (across
         (S.state source.old) (S.state source.new) (D.state site.old) (D.state site.new) (K.state clock.old)
         (K.state clock.new) (C.state console.old) (C.state console.new)) }
     ensures cause { Causes result.ending (S.state source.old) (S.state source.new) (D.state site.old)
@@ -73,7 +73,7 @@ fn run<S: Source, D: Site, K: Clock, C: Console>(
         heading,
         heard,
         alloc,
-    } = plan;
+    } = checked;
     let Ok(ready) = make_ready(alloc, command, loaded) else {
         let ending = Ending::NoMemory;
         return Ended { ending, heard };
@@ -90,7 +90,7 @@ fn run<S: Source, D: Site, K: Clock, C: Console>(
 
 /// Runs it in test mode if there is a test map: then the input gives what is finished in that map alone.
 fn run_tested<S: Source, D: Site, K: Clock, C: Console>(
-    plan: CheckedCommand<'_>,
+    checked: CheckedCommand<'_>,
     files: TestedFiles,
     source: &mut S,
     site: &mut D,
@@ -98,12 +98,12 @@ fn run_tested<S: Source, D: Site, K: Clock, C: Console>(
     console: &mut C,
 ) -> Ended
     requires ready { AreReady (S.state source.old) (D.state site.old) }
-    requires planned { IsPlanned plan }
-    requires begins { CanBegin (told_by plan.command).options files.loaded.end files.loaded.map.tiles.statuses
+    requires checked { IsChecked checked }
+    requires begins { CanBegin (told_by checked.command).options files.loaded.end files.loaded.map.tiles.statuses
         files.loaded.map.state }
-    ensures ran { DidRun (setting_of (told_by plan.entry.command) plan.entry.heading.line files.loaded.end
-        (maps_read (told_by plan.entry.command).options files.loaded.domain_map files.test_map files.loaded.map))
-        (statuses_in files.test_map) files.loaded.map.tiles.statuses files.loaded.map.state plan.entry.heard
+    ensures ran { DidRun (setting_of (told_by checked.entry.command) checked.entry.heading.line files.loaded.end
+        (maps_read (told_by checked.entry.command).options files.loaded.domain_map files.test_map files.loaded.map))
+        (statuses_in files.test_map) files.loaded.map.tiles.statuses files.loaded.map.state checked.entry.heard
         result.heard result.ending (across (S.state source.old) (S.state source.new) (D.state site.old)
         (D.state site.new) (K.state clock.old) (K.state clock.new) (C.state console.old) (C.state console.new)) }
     ensures cause { Causes result.ending (S.state source.old) (S.state source.new) (D.state site.old)
@@ -115,17 +115,17 @@ fn run_tested<S: Source, D: Site, K: Clock, C: Console>(
 {
     let TestedFiles { loaded, test_map } = files;
     match &test_map {
-        None => run(plan, loaded, source, site, clock, console),
+        None => run(checked, loaded, source, site, clock, console),
         Some(tiles) => {
             let mut tested = TestSource::new(source, tiles);
-            run(plan, loaded, &mut tested, site, clock, console)
+            run(checked, loaded, &mut tested, site, clock, console)
         }
     }
 }
 
 /// Opens the files, loads the mapfile if there is one, and runs the rescue.
 fn open_and_run<S: Source, D: Site, K: Clock, C: Console>(
-    plan: CheckedCommand<'_>,
+    checked: CheckedCommand<'_>,
     maps: NamedMaps,
     source: &mut S,
     site: &mut D,
@@ -133,11 +133,12 @@ fn open_and_run<S: Source, D: Site, K: Clock, C: Console>(
     console: &mut C,
 ) -> Result<Ended, Ending>
     requires no_draft { (D.state site.old).is_drafting ≡ false }
-    requires planned { IsPlanned plan }
-    ensures opened { DidAfterMaps (told_by plan.entry.command) plan.entry.heading.line (statuses_in maps.domain_map)
-        (statuses_in maps.test_map) plan.entry.heard (heard_after plan.entry.heard result) (ending_of result) (across
-        (S.state source.old) (S.state source.new) (D.state site.old) (D.state site.new) (K.state clock.old)
-        (K.state clock.new) (C.state console.old) (C.state console.new)) }
+    requires checked { IsChecked checked }
+    ensures opened { DidAfterMaps (told_by checked.entry.command) checked.entry.heading.line
+        (statuses_in maps.domain_map) (statuses_in maps.test_map) checked.entry.heard
+        (heard_after checked.entry.heard result) (ending_of result) (across (S.state source.old) (S.state source.new)
+        (D.state site.old) (D.state site.new) (K.state clock.old) (K.state clock.new) (C.state console.old)
+        (C.state console.new)) }
     ensures cause { Causes (ending_of result) (S.state source.old) (S.state source.new) (D.state site.old)
         (D.state site.new) }
     ensures draft { (D.state site.new).is_drafting ≡ drafting_left (ending_of result) }
@@ -145,12 +146,12 @@ fn open_and_run<S: Source, D: Site, K: Clock, C: Console>(
     ensures site { SiteKeeps (D.state site.old) (D.state site.new) }
     ensures clock { ClockKeeps (K.state clock.old) (K.state clock.new) }
 {
-    let command = plan.command;
+    let command = checked.command;
     let Ok(end) = source.open_input(command.infile) else {
         return Err(Ending::SourceFault);
     };
     open_output(site, command.outfile, true, command.options.forced)?;
-    let map = load(plan.alloc, site, &plan.names, end)?;
+    let map = load(checked.alloc, site, &checked.names, end)?;
     if !places_fit(&command.options, end) {
         return Err(Ending::Usage(UsageFault::PlaceTooLarge));
     }
@@ -164,21 +165,21 @@ fn open_and_run<S: Source, D: Site, K: Clock, C: Console>(
         end,
     };
     let files = TestedFiles { loaded, test_map };
-    Ok(run_tested(plan, files, source, site, clock, console))
+    Ok(run_tested(checked, files, source, site, clock, console))
 }
 
 /// Reads the maps that options name, opens the files, loads the mapfile if there is one, and runs the rescue.
 pub fn rescue<S: Source, D: Site, K: Clock, C: Console>(
-    plan: CheckedCommand<'_>,
+    checked: CheckedCommand<'_>,
     source: &mut S,
     site: &mut D,
     clock: &mut K,
     console: &mut C,
 ) -> Result<Ended, Ending>
     requires no_draft { (D.state site.old).is_drafting ≡ false }
-    requires planned { IsPlanned plan }
-    ensures worked { Worked (told_by plan.entry.command) plan.entry.heading.line plan.entry.heard
-        (heard_after plan.entry.heard result) (ending_of result) (across (S.state source.old) (S.state source.new)
+    requires checked { IsChecked checked }
+    ensures worked { Worked (told_by checked.entry.command) checked.entry.heading.line checked.entry.heard
+        (heard_after checked.entry.heard result) (ending_of result) (across (S.state source.old) (S.state source.new)
         (D.state site.old) (D.state site.new) (K.state clock.old) (K.state clock.new) (C.state console.old)
         (C.state console.new)) }
     ensures cause { Causes (ending_of result) (S.state source.old) (S.state source.new) (D.state site.old)
@@ -188,19 +189,19 @@ pub fn rescue<S: Source, D: Site, K: Clock, C: Console>(
     ensures site { SiteKeeps (D.state site.old) (D.state site.new) }
     ensures clock { ClockKeeps (K.state clock.old) (K.state clock.new) }
 {
-    let command = plan.command;
+    let command = checked.command;
     let loose = command.options.loose;
     let domain_map = read_named(
-        plan.alloc,
+        checked.alloc,
         site,
         Which::DomainMap,
         command.domain_map,
         loose,
     )?;
-    let test_map = read_named(plan.alloc, site, Which::TestMap, command.test_map, loose)?;
+    let test_map = read_named(checked.alloc, site, Which::TestMap, command.test_map, loose)?;
     let maps = NamedMaps {
         domain_map,
         test_map,
     };
-    open_and_run(plan, maps, source, site, clock, console)
+    open_and_run(checked, maps, source, site, clock, console)
 }

@@ -9,7 +9,7 @@ ghost use Rattle.ddrescue_words.specs.Asking.{told_by};
 ghost use Rattle.sweep_rules.specs.Sweep.{filler};
 ghost use Rattle.task_files.specs.Asked.{ArePlacedBy};
 ghost use Rattle.task_files.specs.Answers.{Causes, drafting_left};
-ghost use Rattle.task_files.specs.Steps.{ending_of, heard_after, maps_read, SuitsInput, IsPlanned};
+ghost use Rattle.task_files.specs.Steps.{ending_of, heard_after, maps_read, SuitsInput, IsChecked};
 ghost use Rattle.task_sweeps.specs.Modes.{fill_setting};
 ghost use Rattle.task_sweeps.specs.SweepSteps.{DidSweep, SweepCause, WorkedFill};
 ghost use Rattle.rescue_core.specs.Across.{across};
@@ -45,7 +45,7 @@ struct Filling<'a> {
 /// Fills over the map that the mapfile stands for. All memory is taken before the clock is read; the first line is put
 /// after that.
 fn run<D: Site, K: Clock, C: Console>(
-    plan: CheckedCommand<'_>,
+    checked: CheckedCommand<'_>,
     filling: Filling<'_>,
     loaded: LoadedFiles,
     site: &mut D,
@@ -54,18 +54,18 @@ fn run<D: Site, K: Clock, C: Console>(
 ) -> Ended
     requires image { (D.state site.old).is_open ≡ true }
     requires no_draft { (D.state site.old).is_drafting ≡ false }
-    requires planned { IsPlanned plan }
-    requires named { is_some (told_by plan.command).mapfile ≡ true }
-    requires room { length filling.buffer.now ≡ cluster_of (told_by plan.command).options }
-    requires placed { ArePlacedBy (told_by plan.command).options loaded.end }
+    requires checked { IsChecked checked }
+    requires named { is_some (told_by checked.command).mapfile ≡ true }
+    requires room { length filling.buffer.now ≡ cluster_of (told_by checked.command).options }
+    requires placed { ArePlacedBy (told_by checked.command).options loaded.end }
     requires fits { SuitsInput 0 loaded.map.tiles.statuses loaded.map.state }
     requires top { loaded.end ≡ length loaded.map.tiles.statuses }
     ensures ran { (test : Option Tiled) →
-        let c = told_by plan.entry.command in
+        let c = told_by checked.entry.command in
         let maps = maps_read c.options loaded.domain_map test loaded.map in
-        let s = fill_setting c plan.entry.heading.line loaded.end maps in
+        let s = fill_setting c checked.entry.heading.line loaded.end maps in
         DidSweep s (filler s filling.entry.types filling.entry.buffer.now) loaded.map.tiles.statuses loaded.map.state
-        plan.entry.heard result.heard result.ending (around (D.state site.old) (D.state site.new) (K.state clock.old)
+        checked.entry.heard result.heard result.ending (around (D.state site.old) (D.state site.new) (K.state clock.old)
         (K.state clock.new) (C.state console.old) (C.state console.new)) }
     ensures cause { SweepCause result.ending (D.state site.old) (D.state site.new) }
     ensures draft { (D.state site.new).is_drafting ≡ drafting_left result.ending }
@@ -78,7 +78,7 @@ fn run<D: Site, K: Clock, C: Console>(
         heading,
         heard,
         alloc,
-    } = plan;
+    } = checked;
     let Some(names) = names else { unreachable!() };
     let Ok(ready) = make_sweep(alloc, command, loaded) else {
         let ending = Ending::NoMemory;
@@ -96,7 +96,7 @@ fn run<D: Site, K: Clock, C: Console>(
 
 /// Reads the map that an option names and the pattern, opens the outfile, loads the mapfile, and fills.
 pub fn fill<S: Source, D: Site, K: Clock, C: Console>(
-    plan: CheckedCommand<'_>,
+    checked: CheckedCommand<'_>,
     types: TypeSet,
     source: &mut S,
     site: &mut D,
@@ -104,10 +104,10 @@ pub fn fill<S: Source, D: Site, K: Clock, C: Console>(
     console: &mut C,
 ) -> Result<Ended, Ending>
     requires no_draft { (D.state site.old).is_drafting ≡ false }
-    requires planned { IsPlanned plan }
-    requires named { is_some (told_by plan.command).mapfile ≡ true }
-    ensures worked { WorkedFill types (told_by plan.entry.command) plan.entry.heading.line plan.entry.heard
-        (heard_after plan.entry.heard result) (ending_of result) (across (S.state source.old) (S.state source.new)
+    requires checked { IsChecked checked }
+    requires named { is_some (told_by checked.command).mapfile ≡ true }
+    ensures worked { WorkedFill types (told_by checked.entry.command) checked.entry.heading.line checked.entry.heard
+        (heard_after checked.entry.heard result) (ending_of result) (across (S.state source.old) (S.state source.new)
         (D.state site.old) (D.state site.new) (K.state clock.old) (K.state clock.new) (C.state console.old)
         (C.state console.new)) }
     ensures cause { Causes (ending_of result) (S.state source.old) (S.state source.new) (D.state site.old)
@@ -117,10 +117,10 @@ pub fn fill<S: Source, D: Site, K: Clock, C: Console>(
     ensures site { SiteKeeps (D.state site.old) (D.state site.new) }
     ensures clock { ClockKeeps (K.state clock.old) (K.state clock.new) }
 {
-    let command = plan.command;
+    let command = checked.command;
     let loose = command.options.loose;
     let domain_map = read_named(
-        plan.alloc,
+        checked.alloc,
         site,
         Which::DomainMap,
         command.domain_map,
@@ -129,9 +129,9 @@ pub fn fill<S: Source, D: Site, K: Clock, C: Console>(
     let Ok(end) = source.open_input(command.infile) else {
         return Err(Ending::SourceFault);
     };
-    let buffer = read_pattern(plan.alloc, source, end, command.options.cluster())?;
+    let buffer = read_pattern(checked.alloc, source, end, command.options.cluster())?;
     open_output(site, command.outfile, true, command.options.forced)?;
-    let map = load(plan.alloc, site, &plan.names, 0)?;
+    let map = load(checked.alloc, site, &checked.names, 0)?;
     let top = map.tiles.end();
     if !places_fit(&command.options, top) {
         return Err(Ending::Usage(UsageFault::PlaceTooLarge));
@@ -145,5 +145,5 @@ pub fn fill<S: Source, D: Site, K: Clock, C: Console>(
         map,
         end: top,
     };
-    Ok(run(plan, filling, loaded, site, clock, console))
+    Ok(run(checked, filling, loaded, site, clock, console))
 }

@@ -9,7 +9,7 @@ ghost use Rattle.fill_generate.specs.Sweeping.{around};
 ghost use Rattle.ddrescue_words.specs.Asking.{told_by};
 ghost use Rattle.task_files.specs.Asked.{setting_of};
 ghost use Rattle.task_files.specs.Answers.{Causes, drafting_left};
-ghost use Rattle.task_files.specs.Steps.{ending_of, heard_after, maps_read, CanBegin, IsPlanned};
+ghost use Rattle.task_files.specs.Steps.{ending_of, heard_after, maps_read, CanBegin, IsChecked};
 ghost use Rattle.task_sweeps.specs.SweepSteps.{DidGenerate, SweepCause, WorkedGenerate};
 
 use crate::sweep::{make_job, make_sweep};
@@ -30,7 +30,7 @@ use task_files::places::places_fit;
 /// Looks up in the outfile what the map that the mapfile stands for calls non-tried. All memory but that for marks is
 /// taken before the clock is read; the first line is put after that.
 fn run<D: Site, K: Clock, C: Console>(
-    plan: CheckedCommand<'_>,
+    checked: CheckedCommand<'_>,
     loaded: LoadedFiles,
     site: &mut D,
     clock: &mut K,
@@ -38,14 +38,14 @@ fn run<D: Site, K: Clock, C: Console>(
 ) -> Ended
     requires image { (D.state site.old).is_open ≡ true }
     requires no_draft { (D.state site.old).is_drafting ≡ false }
-    requires planned { IsPlanned plan }
-    requires named { is_some (told_by plan.command).mapfile ≡ true }
-    requires begins { CanBegin (told_by plan.command).options loaded.end loaded.map.tiles.statuses loaded.map.state }
+    requires checked { IsChecked checked }
+    requires named { is_some (told_by checked.command).mapfile ≡ true }
+    requires begins { CanBegin (told_by checked.command).options loaded.end loaded.map.tiles.statuses loaded.map.state }
     ensures ran { (test : Option Tiled) →
-        let c = told_by plan.entry.command in
+        let c = told_by checked.entry.command in
         let maps = maps_read c.options loaded.domain_map test loaded.map in
-        let s = setting_of c plan.entry.heading.line loaded.end maps in
-        DidGenerate s loaded.map.tiles.statuses loaded.map.state plan.entry.heard result.heard result.ending (around
+        let s = setting_of c checked.entry.heading.line loaded.end maps in
+        DidGenerate s loaded.map.tiles.statuses loaded.map.state checked.entry.heard result.heard result.ending (around
         (D.state site.old) (D.state site.new) (K.state clock.old) (K.state clock.new) (C.state console.old)
         (C.state console.new)) }
     ensures cause { SweepCause result.ending (D.state site.old) (D.state site.new) }
@@ -59,7 +59,7 @@ fn run<D: Site, K: Clock, C: Console>(
         heading,
         heard,
         alloc,
-    } = plan;
+    } = checked;
     let Some(names) = names else { unreachable!() };
     let Ok(ready) = make_sweep(alloc, command, loaded) else {
         let ending = Ending::NoMemory;
@@ -82,17 +82,17 @@ fn run<D: Site, K: Clock, C: Console>(
 /// Reads the map that an option names, opens the infile for its length and the outfile, which has to be there, loads
 /// the mapfile, and looks up what the outfile holds.
 pub fn generate<S: Source, D: Site, K: Clock, C: Console>(
-    plan: CheckedCommand<'_>,
+    checked: CheckedCommand<'_>,
     source: &mut S,
     site: &mut D,
     clock: &mut K,
     console: &mut C,
 ) -> Result<Ended, Ending>
     requires no_draft { (D.state site.old).is_drafting ≡ false }
-    requires planned { IsPlanned plan }
-    requires named { is_some (told_by plan.command).mapfile ≡ true }
-    ensures worked { WorkedGenerate (told_by plan.entry.command) plan.entry.heading.line plan.entry.heard
-        (heard_after plan.entry.heard result) (ending_of result) (across (S.state source.old) (S.state source.new)
+    requires checked { IsChecked checked }
+    requires named { is_some (told_by checked.command).mapfile ≡ true }
+    ensures worked { WorkedGenerate (told_by checked.entry.command) checked.entry.heading.line checked.entry.heard
+        (heard_after checked.entry.heard result) (ending_of result) (across (S.state source.old) (S.state source.new)
         (D.state site.old) (D.state site.new) (K.state clock.old) (K.state clock.new) (C.state console.old)
         (C.state console.new)) }
     ensures cause { Causes (ending_of result) (S.state source.old) (S.state source.new) (D.state site.old)
@@ -102,10 +102,10 @@ pub fn generate<S: Source, D: Site, K: Clock, C: Console>(
     ensures site { SiteKeeps (D.state site.old) (D.state site.new) }
     ensures clock { ClockKeeps (K.state clock.old) (K.state clock.new) }
 {
-    let command = plan.command;
+    let command = checked.command;
     let loose = command.options.loose;
     let domain_map = read_named(
-        plan.alloc,
+        checked.alloc,
         site,
         Which::DomainMap,
         command.domain_map,
@@ -115,7 +115,7 @@ pub fn generate<S: Source, D: Site, K: Clock, C: Console>(
         return Err(Ending::SourceFault);
     };
     open_output(site, command.outfile, false, command.options.forced)?;
-    let map = load(plan.alloc, site, &plan.names, end)?;
+    let map = load(checked.alloc, site, &checked.names, end)?;
     if !places_fit(&command.options, end) {
         return Err(Ending::Usage(UsageFault::PlaceTooLarge));
     }
@@ -124,5 +124,5 @@ pub fn generate<S: Source, D: Site, K: Clock, C: Console>(
         map,
         end,
     };
-    Ok(run(plan, loaded, site, clock, console))
+    Ok(run(checked, loaded, site, clock, console))
 }

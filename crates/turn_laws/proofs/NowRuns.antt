@@ -57,7 +57,7 @@ writes_unfinished s m e by run y from to =
     let size : length (take (kept s.sector r) r.given) ≡ kept s.sector r
     = length-take-le (kept s.sector r) r.given b.kept_given in
     let x : ℕ = r.pos + (y - place s r.pos) in
-    let first : s.from ≤ r.pos
+    let first : s.input_position ≤ r.pos
     = ok.from r.pos (wanted_domain s (ready s m) r.pos (b.wanted r.pos (omega arith) (omega (arith, b.some)))) in
     let wanted : is_wanted s (ready s m) x ≡ true
     = b.wanted x (omega arith) (omega (arith, to, from, size, b.kept_asked)) in

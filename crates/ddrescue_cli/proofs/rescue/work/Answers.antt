@@ -1,14 +1,14 @@
 use Rattle.ddrescue_cli.proofs.MadeLemmas.{sample_said}
-use Rattle.ddrescue_cli.proofs.TaskLemmas.{files_job, sample_job, planned_for, named_by_plan, never_sampled, never_twice}
+use Rattle.ddrescue_cli.proofs.TaskLemmas.{files_job, sample_job, is_checked, named_by_checked, never_sampled, never_twice}
 use Rattle.ddrescue_cli.proofs.rescue.work.Goals as goal
 
-pub work_on-requires-clause-planned : goal.work_on-requires-clause-planned
-work_on-requires-clause-planned g c =
-    planned_for _ _ _ (files_job c.args.words.now _ _ _ c.in-Ok-Files.field-0-is c.in-Ok-Files.ensures.job)
+pub work_on-requires-clause-checked : goal.work_on-requires-clause-checked
+work_on-requires-clause-checked g c =
+    is_checked _ _ _ (files_job c.args.words.now _ _ _ c.in-Ok-Files.field-0-is c.in-Ok-Files.ensures.job)
 
 pub work_on-requires-clause-named : goal.work_on-requires-clause-named
 work_on-requires-clause-named g c =
-    named_by_plan _ _ _ (files_job c.args.words.now _ _ _ c.in-Ok-Files.field-0-is c.in-Ok-Files.ensures.job)
+    named_by_checked _ _ _ (files_job c.args.words.now _ _ _ c.in-Ok-Files.field-0-is c.in-Ok-Files.ensures.job)
 
 pub returns-in-Ok-Files-clause-said : goal.returns-in-Ok-Files-clause-said
 returns-in-Ok-Files-clause-said g c =

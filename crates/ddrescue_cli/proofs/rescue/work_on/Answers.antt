@@ -1,10 +1,10 @@
 use Rattle.std.proofs.Common.{refl}
-use Rattle.ddrescue_cli.proofs.TaskLemmas.{plan_does}
+use Rattle.ddrescue_cli.proofs.TaskLemmas.{checked_does}
 use Rattle.ddrescue_cli.proofs.rescue.work_on.Goals as goal
 
 pub returns-in-Ok : goal.returns-in-Ok
 returns-in-Ok g c = λ words is.
-    plan_does words c.args.aim c.args.plan _ _ _ _ is c.in-Ok.ensures.worked refl
+    checked_does words c.args.aim c.args.checked _ _ _ _ is c.in-Ok.ensures.worked refl
     (record {
       cause = c.in-Ok.ensures.cause;
       draft = c.in-Ok.ensures.draft;
@@ -15,7 +15,7 @@ returns-in-Ok g c = λ words is.
 
 pub returns-in-Err : goal.returns-in-Err
 returns-in-Err g c = λ words is.
-    plan_does words c.args.aim c.args.plan _ _ _ _ is c.in-Err.ensures.worked refl
+    checked_does words c.args.aim c.args.checked _ _ _ _ is c.in-Err.ensures.worked refl
     (record {
       cause = c.in-Err.ensures.cause;
       draft = c.in-Err.ensures.draft;

@@ -4,7 +4,7 @@ use Rattle.mapfile_text.specs.HeadingLines.{HeadingLines}
 use Rattle.ddrescueverify_words.specs.Command.{Command, told_by}
 use Rattle.ddrescueverify_cli.proofs.AnswerLemmas.{AnswersAs}
 use Rattle.ddrescueverify_cli.proofs.PromiseLemmas.{apart_never}
-use Rattle.ddrescueverify_cli.proofs.WorkedLemmas.{planned_worked, still_worked}
+use Rattle.ddrescueverify_cli.proofs.WorkedLemmas.{checked_worked, still_worked}
 use Rattle.ddrescueverify_cli.proofs.verify.run.Goals as goal
 
 pub returns-in-Err-clause-worked : goal.returns-in-Err-clause-worked
@@ -13,8 +13,8 @@ returns-in-Err-clause-worked g c =
 
 pub returns-in-Ok-verify-clause-worked : goal.returns-in-Ok-verify-clause-worked
 returns-in-Ok-verify-clause-worked g c =
-    planned_worked (told_by c.args.command.now) c.args.words.now (Ok c.in-Ok-verify.tally) _ _ _ _ _ _ _
-    (told_by c.in-Ok.plan.command) c.in-Ok.plan.heading.line c.in-Ok.ensures.command
+    checked_worked (told_by c.args.command.now) c.args.words.now (Ok c.in-Ok-verify.tally) _ _ _ _ _ _ _
+    (told_by c.in-Ok.checked.command) c.in-Ok.checked.heading.line c.in-Ok.ensures.command
     (ap (λ (h : HeadingLines). h.line) c.in-Ok.ensures.heading) c.in-Ok.ensures.different
     (record {
       went = c.in-Ok-verify.ensures.went;
@@ -29,8 +29,8 @@ returns-in-Ok-verify-clause-worked g c =
 
 pub returns-clause-worked : goal.returns-clause-worked
 returns-clause-worked g c =
-    planned_worked (told_by c.args.command.now) c.args.words.now (Err c.in-Err-verify.refusal) _ _ _ _ _ _ _
-    (told_by c.in-Ok.plan.command) c.in-Ok.plan.heading.line c.in-Ok.ensures.command
+    checked_worked (told_by c.args.command.now) c.args.words.now (Err c.in-Err-verify.refusal) _ _ _ _ _ _ _
+    (told_by c.in-Ok.checked.command) c.in-Ok.checked.heading.line c.in-Ok.ensures.command
     (ap (λ (h : HeadingLines). h.line) c.in-Ok.ensures.heading) c.in-Ok.ensures.different
     (record {
       went = c.in-Err-verify.ensures.went;

@@ -12,7 +12,7 @@ returns-in_default-clause-went g c = input_fails _ _ _ _ _ c.open_input.ensures.
 pub returns-in_err-open_output-clause-went : goal.returns-in_err-open_output-clause-went
 returns-in_err-open_output-clause-went g c =
     let p = err_from_is_err_and c.from_residual.result c.from_residual.ensures.1 in
-    rw (p.1, p.2) (output_fails (told_by c.args.plan.now.command) _ c.in-Ok.end _ _ _ _ _ (record {
+    rw (p.1, p.2) (output_fails (told_by c.args.checked.now.command) _ c.in-Ok.end _ _ _ _ _ (record {
       opened = (c.open_input.ensures.call.opens, c.in-Ok.ensures.call.named);
       same = c.open_input.ensures.call.journal;
       keeps = c.open_input.ensures.call.keeps;
@@ -23,7 +23,7 @@ returns-in_err-open_output-clause-went g c =
 pub returns-in_err-loaded-clause-went : goal.returns-in_err-loaded-clause-went
 returns-in_err-loaded-clause-went g c =
     let p = err_from_is_err_and c.from_residual-in_err-loaded.result c.from_residual-in_err-loaded.ensures.1 in
-    rw (p.1, p.2) (load_fails (told_by c.args.plan.now.command) _ c.args.plan.now.names c.in-Ok.end _ _ _
+    rw (p.1, p.2) (load_fails (told_by c.args.checked.now.command) _ c.args.checked.now.names c.in-Ok.end _ _ _
     (g.D.Site.state c.args.site.now) (g.D.Site.state c.open_output.new.site)
     (g.D.Site.state c.load.new.site) (record {
       opened = (c.open_input.ensures.call.opens, c.in-Ok.ensures.call.named);
@@ -32,7 +32,7 @@ returns-in_err-loaded-clause-went g c =
       all = c.in-Ok.ensures.call.all;
     })
     (record {
-      names = c.requires.planned.names;
+      names = c.requires.checked.names;
       output = c.in_ok-open_output.ensures.opens;
       keeps = c.open_output.ensures.keeps;
       loads = c.in_err-loaded.ensures.loaded;
@@ -41,7 +41,7 @@ returns-in_err-loaded-clause-went g c =
 pub returns-in_err-tally-clause-went : goal.returns-in_err-tally-clause-went
 returns-in_err-tally-clause-went g c =
     let p = err_from_is_err_and c.from_residual-in_err-tally.result c.from_residual-in_err-tally.ensures.1 in
-    rw (p.1, p.2) (compare_fails (told_by c.args.plan.now.command) _ c.args.plan.now.names c.in-Ok.end c.in_ok-loaded.loaded _ _
+    rw (p.1, p.2) (compare_fails (told_by c.args.checked.now.command) _ c.args.checked.now.names c.in-Ok.end c.in_ok-loaded.loaded _ _
     _ _ _
     (g.D.Site.state c.args.site.now) (g.D.Site.state c.open_output.new.site)
     (g.D.Site.state c.load.new.site) _ (record {
@@ -51,7 +51,7 @@ returns-in_err-tally-clause-went g c =
       all = c.in-Ok.ensures.call.all;
     })
     (record {
-      names = c.requires.planned.names;
+      names = c.requires.checked.names;
       output = c.in_ok-open_output.ensures.opens;
       keeps = c.open_output.ensures.keeps;
       loads = c.in_ok-loaded.ensures.loaded;
@@ -60,7 +60,7 @@ returns-in_err-tally-clause-went g c =
 pub returns-in_err-save_map-clause-went : goal.returns-in_err-save_map-clause-went
 returns-in_err-save_map-clause-went g c =
     let p = err_from_is_err_and c.from_residual-in_err-save_map.result c.from_residual-in_err-save_map.ensures.1 in
-    rw (p.1, p.2) (compare_saves (told_by c.args.plan.now.command) _ c.args.plan.now.names c.args.plan.now.heading c.in-Ok.end
+    rw (p.1, p.2) (compare_saves (told_by c.args.checked.now.command) _ c.args.checked.now.names c.args.checked.now.heading c.in-Ok.end
     c.in_ok-loaded.loaded _ c.in_ok-tally.tally _ _ _ _
     (g.D.Site.state c.args.site.now) (g.D.Site.state c.open_output.new.site)
     (g.D.Site.state c.load.new.site) _ _ (record {
@@ -70,17 +70,17 @@ returns-in_err-save_map-clause-went g c =
       all = c.in-Ok.ensures.call.all;
     })
     (record {
-      names = c.requires.planned.names;
+      names = c.requires.checked.names;
       output = c.in_ok-open_output.ensures.opens;
       keeps = c.open_output.ensures.keeps;
       loads = c.in_ok-loaded.ensures.loaded;
     }) c.load.ensures.site.keeps c.compare_loaded.ensures.source c.compare_loaded.ensures.site
-    c.in_ok-tally.ensures.placed c.requires.planned.heading c.in_ok-tally.ensures.compares
+    c.in_ok-tally.ensures.placed c.requires.checked.heading c.in_ok-tally.ensures.compares
     (rw c.compare_loaded.ensures.state at c.in_err-save_map.ensures.saves))
 
 pub returns-clause-went : goal.returns-clause-went
 returns-clause-went g c =
-    compare_saves (told_by c.args.plan.now.command) _ c.args.plan.now.names c.args.plan.now.heading c.in-Ok.end
+    compare_saves (told_by c.args.checked.now.command) _ c.args.checked.now.names c.args.checked.now.heading c.in-Ok.end
     c.in_ok-loaded.loaded _ c.in_ok-tally.tally _ _ _ _
     (g.D.Site.state c.args.site.now) (g.D.Site.state c.open_output.new.site)
     (g.D.Site.state c.load.new.site) _ _ (record {
@@ -90,12 +90,12 @@ returns-clause-went g c =
       all = c.in-Ok.ensures.call.all;
     })
     (record {
-      names = c.requires.planned.names;
+      names = c.requires.checked.names;
       output = c.in_ok-open_output.ensures.opens;
       keeps = c.open_output.ensures.keeps;
       loads = c.in_ok-loaded.ensures.loaded;
     }) c.load.ensures.site.keeps c.compare_loaded.ensures.source c.compare_loaded.ensures.site
-    c.in_ok-tally.ensures.placed c.requires.planned.heading c.in_ok-tally.ensures.compares
+    c.in_ok-tally.ensures.placed c.requires.checked.heading c.in_ok-tally.ensures.compares
     (rw c.compare_loaded.ensures.state at c.in_ok-save_map.ensures.saves)
 
 pub returns-in_err-tally-clause-source : goal.returns-in_err-tally-clause-source

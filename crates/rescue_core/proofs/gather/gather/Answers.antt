@@ -17,7 +17,7 @@ pub returns-in_default-land_kept-clause-halted : goal.returns-in_default-land_ke
 returns-in_default-land_kept-clause-halted g c = λ r console same.
     let t = c.in-Ok.ensures.timed in
     let from = t.is.pos in
-    let cut_at : IsCutAt c.in-Ok.timed.fetched c.read_timed.new.buf (c.saturating_sub.result + c.args.settings.now.to) (setting_in r) t.event.reading
+    let cut_at : IsCutAt c.in-Ok.timed.fetched c.read_timed.new.buf (c.saturating_sub.result + c.args.settings.now.output_position) (setting_in r) t.event.reading
     = record {
       cut = subst (λ (s : Settings). IsCut s.sector t.event.reading c.in-Ok.timed.fetched) (sym same) t.cut;
       front = t.front;

@@ -15,7 +15,7 @@ replace-requires-2 g c =
     let third = c.in_ok-room-3.ensures in
     let changed = rw c.reserve.ensures.statuses at c.replace.ensures.changed in
     let apart : c.prepared_to-trimmed.result ≢ NonScraped
-    = rw c.prepared_to-trimmed.ensures (trimmed_unscraped c.args.again c.args.retrim) in
+    = rw c.prepared_to-trimmed.ensures (trimmed_unscraped c.args.try_again c.args.retrim) in
     let used = (rw c.reserve.ensures.statuses at c.replace.ensures.spare) first.ranges first.changes in
     record {
       room = record {
@@ -30,7 +30,7 @@ pub replace-requires-3 : goal.replace-requires-3
 replace-requires-3 g c =
     let domain = covers c.args.domain.now in
     let old = g.T.Tiles.statuses c.args.tiles.now in
-    let again = c.args.again in
+    let try_again = c.args.try_again in
     let retrim = c.args.retrim in
     let first = c.in_ok-room.ensures in
     let second = c.in_ok-room-2.ensures in
@@ -38,9 +38,9 @@ replace-requires-3 g c =
     let trimmed = c.prepared_to-trimmed.result in
     let scraped = c.prepared_to-scraped.result in
     let changed = rw c.reserve.ensures.statuses at c.replace.ensures.changed in
-    let unscraped : trimmed ≢ NonScraped = rw c.prepared_to-trimmed.ensures (trimmed_unscraped again retrim) in
-    let apart : trimmed ≢ BadSector = rw c.prepared_to-trimmed.ensures (trimmed_good again retrim) in
-    let apart' : scraped ≢ BadSector = rw c.prepared_to-scraped.ensures (scraped_good again retrim) in
+    let unscraped : trimmed ≢ NonScraped = rw c.prepared_to-trimmed.ensures (trimmed_unscraped try_again retrim) in
+    let apart : trimmed ≢ BadSector = rw c.prepared_to-trimmed.ensures (trimmed_good try_again retrim) in
+    let apart' : scraped ≢ BadSector = rw c.prepared_to-scraped.ensures (scraped_good try_again retrim) in
     let left = changes_still domain (replaced NonTrimmed trimmed) NonScraped old _ changed refl
     (replaced_alone NonTrimmed trimmed NonScraped unscraped) _ _ second.changes in
     let bad = changes_still domain (replaced NonTrimmed trimmed) BadSector old _ changed refl

@@ -6,7 +6,7 @@ use Rattle.rescue_core.proofs.progress.progress_after.Goals.{then-eq, else-eq}
 
 pub returns : goal.returns
 returns c = λ r e at read turn size more.
-    let old : Progress = c.args.progress.old in
+    let old : Progress = c.args.progress.now in
     let pass : r.machine.progress.pass ≡ old.pass = ap (λ (p : Progress). p.pass) at.progress_is in
     let mode : r.machine.progress.mode ≡ old.mode = ap (λ (p : Progress). p.mode) at.progress_is in
     let skip : r.machine.progress.skip ≡ old.skip = ap (λ (p : Progress). p.skip) at.progress_is in

@@ -14,7 +14,7 @@ returns-in_default-clause-opened g c = input_fails _ _ _ _ _ _ _ _ _ _ c.open_in
 pub returns-in_err-open_output-clause-opened : goal.returns-in_err-open_output-clause-opened
 returns-in_err-open_output-clause-opened g c =
     let p = err_from_is_err_and c.from_residual.result c.from_residual.ensures.1 in
-    rw (p.1, p.2) (output_fails (told_by c.args.plan.command) _ _ _ c.args.plan.heard c.in-Ok.end _ _ _ _ _ _ _ (record {
+    rw (p.1, p.2) (output_fails (told_by c.args.checked.command) _ _ _ c.args.checked.heard c.in-Ok.end _ _ _ _ _ _ _ (record {
       opened = (c.open_input.ensures.call.opens, c.in-Ok.ensures.call.named);
       same = c.open_input.ensures.call.journal;
       bytes = c.open_input.ensures.call.keeps.bytes;
@@ -26,7 +26,7 @@ returns-in_err-open_output-clause-opened g c =
 pub returns-in_err-map-clause-opened : goal.returns-in_err-map-clause-opened
 returns-in_err-map-clause-opened g c =
     let p = err_from_is_err_and c.from_residual-in_err-map.result c.from_residual-in_err-map.ensures.1 in
-    rw (p.1, p.2) (load_fails (told_by c.args.plan.command) _ _ _ c.args.plan.heard c.args.plan.names c.in-Ok.end _ _ _
+    rw (p.1, p.2) (load_fails (told_by c.args.checked.command) _ _ _ c.args.checked.heard c.args.checked.names c.in-Ok.end _ _ _
     (g.D.Site.state c.args.site.now) (g.D.Site.state c.open_output.new.site) (g.D.Site.state c.load.new.site) _ _ (record {
       opened = (c.open_input.ensures.call.opens, c.in-Ok.ensures.call.named);
       same = c.open_input.ensures.call.journal;
@@ -35,8 +35,8 @@ returns-in_err-map-clause-opened g c =
       all = c.in-Ok.ensures.call.all;
       short = c.in-Ok.ensures.short;
     }) (record {
-      names = c.requires.planned.names;
-      apart = c.requires.planned.apart;
+      names = c.requires.checked.names;
+      apart = c.requires.checked.apart;
       output = c.in_ok-open_output.ensures.opens;
       keeps = c.open_output.ensures.keeps;
       loads = c.in_err-map.ensures.loaded;
@@ -66,7 +66,7 @@ returns-in_err-map-clause-draft g c =
 
 pub returns-then-not-places_fit-clause-opened : goal.returns-then-not-places_fit-clause-opened
 returns-then-not-places_fit-clause-opened g c =
-    place_fails (told_by c.args.plan.command) _ _ _ c.args.plan.heard c.args.plan.names c.in-Ok.end c.in_ok-map.map _ _
+    place_fails (told_by c.args.checked.command) _ _ _ c.args.checked.heard c.args.checked.names c.in-Ok.end c.in_ok-map.map _ _
     (g.D.Site.state c.args.site.now) (g.D.Site.state c.open_output.new.site) (g.D.Site.state c.load.new.site) _ _ (record {
       opened = (c.open_input.ensures.call.opens, c.in-Ok.ensures.call.named);
       same = c.open_input.ensures.call.journal;
@@ -75,8 +75,8 @@ returns-then-not-places_fit-clause-opened g c =
       all = c.in-Ok.ensures.call.all;
       short = c.in-Ok.ensures.short;
     }) (record {
-      names = c.requires.planned.names;
-      apart = c.requires.planned.apart;
+      names = c.requires.checked.names;
+      apart = c.requires.checked.apart;
       output = c.in_ok-open_output.ensures.opens;
       keeps = c.open_output.ensures.keeps;
       loads = c.in_ok-map.ensures.loaded;
@@ -84,7 +84,7 @@ returns-then-not-places_fit-clause-opened g c =
 
 pub returns-clause-opened : goal.returns-clause-opened
 returns-clause-opened g c =
-    run_goes (told_by c.args.plan.command) _ _ _ c.args.plan.heard _ c.args.plan.names c.in-Ok.end c.in_ok-map.map _ _
+    run_goes (told_by c.args.checked.command) _ _ _ c.args.checked.heard _ c.args.checked.names c.in-Ok.end c.in_ok-map.map _ _
     (g.S.Source.state c.open_input.new.self) _ (g.D.Site.state c.args.site.now) (g.D.Site.state c.open_output.new.site)
     (g.D.Site.state c.load.new.site) _ _ _ _ _ (record {
       opened = (c.open_input.ensures.call.opens, c.in-Ok.ensures.call.named);
@@ -94,8 +94,8 @@ returns-clause-opened g c =
       all = c.in-Ok.ensures.call.all;
       short = c.in-Ok.ensures.short;
     }) (record {
-      names = c.requires.planned.names;
-      apart = c.requires.planned.apart;
+      names = c.requires.checked.names;
+      apart = c.requires.checked.apart;
       output = c.in_ok-open_output.ensures.opens;
       keeps = c.open_output.ensures.keeps;
       loads = c.in_ok-map.ensures.loaded;

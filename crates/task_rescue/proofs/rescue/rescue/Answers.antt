@@ -11,7 +11,7 @@ use Rattle.task_rescue.proofs.rescue.rescue.Goals as goal
 pub returns-in_err-domain_map-clause-worked : goal.returns-in_err-domain_map-clause-worked
 returns-in_err-domain_map-clause-worked g c =
     let p = err_from_is_err_and c.from_residual.result c.from_residual.ensures.1 in
-    rw (p.1, p.2) (worked_domain (told_by c.args.plan.command) _ c.args.plan.heard _ (g.S.Source.state c.args.source.now)
+    rw (p.1, p.2) (worked_domain (told_by c.args.checked.command) _ c.args.checked.heard _ (g.S.Source.state c.args.source.now)
     (g.D.Site.state c.args.site.now) (g.D.Site.state c.read_named.new.site) (g.K.Clock.state c.args.clock.now)
     (g.C.Console.state c.args.console.now) c.in_err-domain_map.ensures.told)
 
@@ -32,7 +32,7 @@ returns-in_err-domain_map-clause-source g c = keeps_self _
 pub returns-in_err-test_map-clause-worked : goal.returns-in_err-test_map-clause-worked
 returns-in_err-test_map-clause-worked g c =
     let p = err_from_is_err_and c.from_residual-in_err-test_map.result c.from_residual-in_err-test_map.ensures.1 in
-    rw (p.1, p.2) (worked_test (told_by c.args.plan.command) _ c.in_ok-domain_map.domain_map c.args.plan.heard _
+    rw (p.1, p.2) (worked_test (told_by c.args.checked.command) _ c.in_ok-domain_map.domain_map c.args.checked.heard _
     (g.S.Source.state c.args.source.now) (g.D.Site.state c.args.site.now) (g.D.Site.state c.read_named.new.site)
     (g.D.Site.state c.read_named-2.new.site) (g.K.Clock.state c.args.clock.now)
     (g.C.Console.state c.args.console.now)
@@ -61,7 +61,7 @@ returns-in_err-test_map-clause-site g c = site_keeps_more _ _ _ c.in_ok-domain_m
 
 pub returns-clause-worked : goal.returns-clause-worked
 returns-clause-worked g c =
-    worked_after (told_by c.args.plan.command) _ c.in_ok-domain_map.domain_map c.in_ok-test_map.test_map c.args.plan.heard _ _
+    worked_after (told_by c.args.checked.command) _ c.in_ok-domain_map.domain_map c.in_ok-test_map.test_map c.args.checked.heard _ _
     (g.S.Source.state c.args.source.now) (g.S.Source.state c.open_and_run.new.source)
     (g.D.Site.state c.args.site.now) (g.D.Site.state c.read_named.new.site) (g.D.Site.state c.read_named-2.new.site)
     (g.D.Site.state c.open_and_run.new.site) (g.K.Clock.state c.args.clock.now)

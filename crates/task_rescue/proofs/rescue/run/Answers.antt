@@ -10,21 +10,21 @@ use Rattle.rescue_core.specs.Across.{across}
 pub run_rescue-closed-requires-clause-copying : goal.run_rescue-closed-requires-clause-copying
 run_rescue-closed-requires-clause-copying g c =
     let loaded = c.args.loaded in
-    let maps : Maps = maps_read c.args.plan.command.options loaded.domain_map None loaded.map in
+    let maps : Maps = maps_read c.args.checked.command.options loaded.domain_map None loaded.map in
     (c.begin-rescue.ensures loaded.end maps loaded.map.tiles.statuses loaded.map.state c.requires.begins.placed c.requires.begins.fits
     (c.in-Ok.ensures.ready None)).copying
 
 pub run_rescue-closed-requires-clause-places : goal.run_rescue-closed-requires-clause-places
 run_rescue-closed-requires-clause-places g c =
     let loaded = c.args.loaded in
-    let maps : Maps = maps_read c.args.plan.command.options loaded.domain_map None loaded.map in
+    let maps : Maps = maps_read c.args.checked.command.options loaded.domain_map None loaded.map in
     (c.begin-rescue.ensures loaded.end maps loaded.map.tiles.statuses loaded.map.state c.requires.begins.placed c.requires.begins.fits
     (c.in-Ok.ensures.ready None)).places
 
 pub returns-in_default-clause-ran : goal.returns-in_default-clause-ran
 returns-in_default-clause-ran g c = λ test.
     let loaded = c.args.loaded in
-    ran_unbegun _ loaded.map.tiles.statuses loaded.map.state c.args.plan.heard (g.S.Source.state c.args.source.now)
+    ran_unbegun _ loaded.map.tiles.statuses loaded.map.state c.args.checked.heard (g.S.Source.state c.args.source.now)
     (g.D.Site.state c.args.site.now) (g.K.Clock.state c.args.clock.now) (g.C.Console.state c.args.console.now)
 
 pub returns-in_default-clause-source : goal.returns-in_default-clause-source
@@ -33,15 +33,15 @@ returns-in_default-clause-source g c = stays_self _
 pub returns-clause-ran : goal.returns-clause-ran
 returns-clause-ran g c = λ test.
     let loaded = c.args.loaded in
-    let maps : Maps = maps_read c.args.plan.command.options loaded.domain_map test loaded.map in
-    ran_by (told_by c.args.plan.command) c.args.plan.names c.args.plan.heading.line loaded.end maps
-    loaded.map.tiles.statuses loaded.map.state c.now_ms-moment.result c.args.plan.heard c.say_line-heard.result
+    let maps : Maps = maps_read c.args.checked.command.options loaded.domain_map test loaded.map in
+    ran_by (told_by c.args.checked.command) c.args.checked.names c.args.checked.heading.line loaded.end maps
+    loaded.map.tiles.statuses loaded.map.state c.now_ms-moment.result c.args.checked.heard c.say_line-heard.result
     c.run_rescue-closed.result.heard c.in-Ok.ready c.begin-rescue.result c.run_rescue-closed.result.end c.answer.result
     (across (g.S.Source.state c.args.source.now) (g.S.Source.state c.run_rescue-closed.new.source)
     (g.D.Site.state c.args.site.now) (g.D.Site.state c.run_rescue-closed.new.site)
     (g.K.Clock.state c.now_ms-moment.new.self) (g.K.Clock.state c.run_rescue-closed.new.clock)
     (g.C.Console.state c.say_line-heard.new.console) (g.C.Console.state c.run_rescue-closed.new.console))
-    (g.K.Clock.state c.args.clock.now) (g.C.Console.state c.args.console.now) c.requires.planned.names
+    (g.K.Clock.state c.args.clock.now) (g.C.Console.state c.args.console.now) c.requires.checked.names
     (c.in-Ok.ensures.ready test)
     (c.begin-rescue.ensures loaded.end maps loaded.map.tiles.statuses loaded.map.state c.requires.begins.placed c.requires.begins.fits
     (c.in-Ok.ensures.ready test))

@@ -18,12 +18,12 @@ returns-clause-ran g c =
     let state = g.S.Source.state in
     let new = c.run-in-Some.new in
     let loaded = c.args.files.loaded in
-    let s : Setting = setting_of (told_by c.args.plan.command) c.args.plan.heading.line loaded.end
-    (maps_read c.args.plan.command.options loaded.domain_map (Some c.in-Some.tiles) loaded.map) in
+    let s : Setting = setting_of (told_by c.args.checked.command) c.args.checked.heading.line loaded.end
+    (maps_read c.args.checked.command.options loaded.domain_map (Some c.in-Some.tiles) loaded.map) in
     rw c.in-Some.is
     (subst
     (λ (x : g.row.S.Denot). DidRun s (Some c.in-Some.tiles.statuses) loaded.map.tiles.statuses loaded.map.state
-    c.args.plan.heard c.run-in-Some.result.heard c.run-in-Some.result.ending
+    c.args.checked.heard c.run-in-Some.result.heard c.run-in-Some.result.ending
     (across (state c.args.source.now) (state x) (g.D.Site.state c.args.site.now) (g.D.Site.state new.site)
     (g.K.Clock.state c.args.clock.now) (g.K.Clock.state new.clock) (g.C.Console.state c.args.console.now)
     (g.C.Console.state new.console)))

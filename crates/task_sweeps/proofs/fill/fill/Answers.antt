@@ -13,7 +13,7 @@ use Rattle.task_sweeps.proofs.fill.fill.Goals as goal
 pub returns-in_err-domain_map-clause-worked : goal.returns-in_err-domain_map-clause-worked
 returns-in_err-domain_map-clause-worked g c =
     let p = err_from_is_err_and c.from_residual.result c.from_residual.ensures.1 in
-    rw (p.1, p.2) (fill_unread c.args.types (told_by c.args.plan.command) _ c.args.plan.heard c.requires.planned.different _
+    rw (p.1, p.2) (fill_unread c.args.types (told_by c.args.checked.command) _ c.args.checked.heard c.requires.checked.different _
     (g.S.Source.state c.args.source.now) (g.D.Site.state c.args.site.now) (g.D.Site.state c.read_named.new.site)
     (g.K.Clock.state c.args.clock.now)
     (g.C.Console.state c.args.console.now) c.in_err-domain_map.ensures.told)
@@ -35,7 +35,7 @@ returns-in_err-domain_map-clause-source g c = keeps_self _
 
 pub returns-in_default-clause-worked : goal.returns-in_default-clause-worked
 returns-in_default-clause-worked g c =
-    fill_unopened c.args.types (told_by c.args.plan.command) _ c.args.plan.heard c.requires.planned.different
+    fill_unopened c.args.types (told_by c.args.checked.command) _ c.args.checked.heard c.requires.checked.different
     c.in_ok-domain_map.domain_map (g.S.Source.state c.args.source.now) (g.D.Site.state c.args.site.now)
     (g.D.Site.state c.read_named.new.site) c.in_ok-domain_map.ensures.told c.in_ok-domain_map.ensures.site
     (g.S.Source.state c.open_input.new.self) (g.K.Clock.state c.args.clock.now)
@@ -45,7 +45,7 @@ returns-in_default-clause-worked g c =
 pub returns-in_err-buffer-clause-worked : goal.returns-in_err-buffer-clause-worked
 returns-in_err-buffer-clause-worked g c =
     let p = err_from_is_err_and c.from_residual-in_err-buffer.result c.from_residual-in_err-buffer.ensures.1 in
-    rw (p.1, p.2) (fill_unpatterned c.args.types (told_by c.args.plan.command) _ c.args.plan.heard c.requires.planned.different
+    rw (p.1, p.2) (fill_unpatterned c.args.types (told_by c.args.checked.command) _ c.args.checked.heard c.requires.checked.different
     c.in_ok-domain_map.domain_map (g.S.Source.state c.args.source.now) (g.D.Site.state c.args.site.now)
     (g.D.Site.state c.read_named.new.site) c.in_ok-domain_map.ensures.told c.in_ok-domain_map.ensures.site
     c.in-Ok.end (g.S.Source.state c.open_input.new.self) (g.S.Source.state c.read_pattern.new.source) (g.K.Clock.state c.args.clock.now)
@@ -62,7 +62,7 @@ returns-in_err-buffer-clause-worked g c =
 pub returns-in_err-open_output-clause-worked : goal.returns-in_err-open_output-clause-worked
 returns-in_err-open_output-clause-worked g c =
     let p = err_from_is_err_and c.from_residual-in_err-open_output.result c.from_residual-in_err-open_output.ensures.1 in
-    rw (p.1, p.2) (fill_output c.args.types (told_by c.args.plan.command) _ c.args.plan.heard c.requires.planned.different
+    rw (p.1, p.2) (fill_output c.args.types (told_by c.args.checked.command) _ c.args.checked.heard c.requires.checked.different
     c.in_ok-domain_map.domain_map (g.S.Source.state c.args.source.now) (g.D.Site.state c.args.site.now)
     (g.D.Site.state c.read_named.new.site) c.in_ok-domain_map.ensures.told c.in_ok-domain_map.ensures.site
     c.in-Ok.end (g.S.Source.state c.open_input.new.self) (g.S.Source.state c.read_pattern.new.source) (g.K.Clock.state c.args.clock.now)
@@ -81,7 +81,7 @@ returns-in_err-open_output-clause-worked g c =
 pub returns-in_err-map-clause-worked : goal.returns-in_err-map-clause-worked
 returns-in_err-map-clause-worked g c =
     let p = err_from_is_err_and c.from_residual-in_err-map.result c.from_residual-in_err-map.ensures.1 in
-    rw (p.1, p.2) (fill_load c.args.types (told_by c.args.plan.command) _ c.args.plan.heard c.requires.planned.different
+    rw (p.1, p.2) (fill_load c.args.types (told_by c.args.checked.command) _ c.args.checked.heard c.requires.checked.different
     c.in_ok-domain_map.domain_map (g.S.Source.state c.args.source.now) (g.D.Site.state c.args.site.now)
     (g.D.Site.state c.read_named.new.site) c.in_ok-domain_map.ensures.told c.in_ok-domain_map.ensures.site
     c.in-Ok.end (g.S.Source.state c.open_input.new.self) (g.S.Source.state c.read_pattern.new.source) (g.K.Clock.state c.args.clock.now)
@@ -95,10 +95,10 @@ returns-in_err-map-clause-worked g c =
     }) c.read_pattern.ensures.source
     c.in_ok-buffer.buffer.items
     (takes_as c.cluster.result _ _ _ _ _ c.cluster.ensures c.in_ok-buffer.ensures.takes)
-    c.args.plan.names _ (g.D.Site.state c.open_output.new.site)
+    c.args.checked.names _ (g.D.Site.state c.open_output.new.site)
     (g.D.Site.state c.load.new.site) (record {
-      names = c.requires.planned.names;
-      apart = c.requires.planned.apart;
+      names = c.requires.checked.names;
+      apart = c.requires.checked.apart;
       output = c.in_ok-open_output.ensures.opens;
       keeps = c.open_output.ensures.keeps;
       loads = c.in_err-map.ensures.loaded;
@@ -140,7 +140,7 @@ returns-in_err-map-clause-draft g c =
 
 pub returns-then-not-places_fit-clause-worked : goal.returns-then-not-places_fit-clause-worked
 returns-then-not-places_fit-clause-worked g c =
-    fill_unplaced c.args.types (told_by c.args.plan.command) _ c.args.plan.heard c.requires.planned.different
+    fill_unplaced c.args.types (told_by c.args.checked.command) _ c.args.checked.heard c.requires.checked.different
     c.in_ok-domain_map.domain_map (g.S.Source.state c.args.source.now) (g.D.Site.state c.args.site.now)
     (g.D.Site.state c.read_named.new.site) c.in_ok-domain_map.ensures.told c.in_ok-domain_map.ensures.site
     c.in-Ok.end (g.S.Source.state c.open_input.new.self) (g.S.Source.state c.read_pattern.new.source) (g.K.Clock.state c.args.clock.now)
@@ -154,10 +154,10 @@ returns-then-not-places_fit-clause-worked g c =
     }) c.read_pattern.ensures.source
     c.in_ok-buffer.buffer.items
     (takes_as c.cluster.result _ _ _ _ _ c.cluster.ensures c.in_ok-buffer.ensures.takes)
-    c.args.plan.names c.in_ok-map.map (g.D.Site.state c.open_output.new.site)
+    c.args.checked.names c.in_ok-map.map (g.D.Site.state c.open_output.new.site)
     (g.D.Site.state c.load.new.site) (record {
-      names = c.requires.planned.names;
-      apart = c.requires.planned.apart;
+      names = c.requires.checked.names;
+      apart = c.requires.checked.apart;
       output = c.in_ok-open_output.ensures.opens;
       keeps = c.open_output.ensures.keeps;
       loads = c.in_ok-map.ensures.loaded;
@@ -167,7 +167,7 @@ returns-then-not-places_fit-clause-worked g c =
 
 pub returns-clause-worked : goal.returns-clause-worked
 returns-clause-worked g c =
-    fill_goes c.args.types (told_by c.args.plan.command) _ c.args.plan.heard c.requires.planned.different
+    fill_goes c.args.types (told_by c.args.checked.command) _ c.args.checked.heard c.requires.checked.different
     c.in_ok-domain_map.domain_map (g.S.Source.state c.args.source.now) (g.D.Site.state c.args.site.now)
     (g.D.Site.state c.read_named.new.site) c.in_ok-domain_map.ensures.told c.in_ok-domain_map.ensures.site
     c.in-Ok.end (g.S.Source.state c.open_input.new.self) (g.S.Source.state c.read_pattern.new.source) (g.K.Clock.state c.args.clock.now)
@@ -182,9 +182,9 @@ returns-clause-worked g c =
     c.deref.result.now
     (takes_into _ _ _ _ _ _ c.deref.ensures.value
     (takes_as c.cluster.result _ _ _ _ _ c.cluster.ensures c.in_ok-buffer.ensures.takes))
-    c.args.plan.names c.in_ok-map.map (g.D.Site.state c.open_output.new.site) (g.D.Site.state c.load.new.site) (record {
-      names = c.requires.planned.names;
-      apart = c.requires.planned.apart;
+    c.args.checked.names c.in_ok-map.map (g.D.Site.state c.open_output.new.site) (g.D.Site.state c.load.new.site) (record {
+      names = c.requires.checked.names;
+      apart = c.requires.checked.apart;
       output = c.in_ok-open_output.ensures.opens;
       keeps = c.open_output.ensures.keeps;
       loads = c.in_ok-map.ensures.loaded;

@@ -12,7 +12,7 @@ use Rattle.fill_generate.specs.Sweeping.{around}
 pub run_fill-closed-requires-clause-room : goal.run_fill-closed-requires-clause-room
 run_fill-closed-requires-clause-room g c =
     let loaded = c.args.loaded in
-    let maps : Maps = maps_read c.args.plan.command.options loaded.domain_map None loaded.map in
+    let maps : Maps = maps_read c.args.checked.command.options loaded.domain_map None loaded.map in
     let is = c.make_job-job.ensures loaded.end maps loaded.map.tiles.statuses loaded.map.state c.requires.placed
     (c.in-Ok.ensures None) in
     c.requires.room ∙ sym (ap (λ (s : Settings). s.cluster) is.settings_are)
@@ -20,7 +20,7 @@ run_fill-closed-requires-clause-room g c =
 pub run_fill-closed-requires-clause-sweeps : goal.run_fill-closed-requires-clause-sweeps
 run_fill-closed-requires-clause-sweeps g c =
     let loaded = c.args.loaded in
-    let maps : Maps = maps_read c.args.plan.command.options loaded.domain_map None loaded.map in
+    let maps : Maps = maps_read c.args.checked.command.options loaded.domain_map None loaded.map in
     let is = c.make_job-job.ensures loaded.end maps loaded.map.tiles.statuses loaded.map.state c.requires.placed
     (c.in-Ok.ensures None) in
     record { sound = is.sound; suits = job_suits _ _ _ _ _ _ _ _ _ _ is; places = is.places }
@@ -28,16 +28,16 @@ run_fill-closed-requires-clause-sweeps g c =
 pub run_fill-closed-requires-clause-program : goal.run_fill-closed-requires-clause-program
 run_fill-closed-requires-clause-program g c =
     let loaded = c.args.loaded in
-    let maps : Maps = maps_read c.args.plan.command.options loaded.domain_map None loaded.map in
+    let maps : Maps = maps_read c.args.checked.command.options loaded.domain_map None loaded.map in
     job_heading _ _ _ _ _ _ _ _ _ _
     (c.make_job-job.ensures loaded.end maps loaded.map.tiles.statuses loaded.map.state c.requires.placed
     (c.in-Ok.ensures None))
-    c.requires.planned.heading
+    c.requires.checked.heading
 
 pub returns-in_default-make_sweep-clause-ran : goal.returns-in_default-make_sweep-clause-ran
 returns-in_default-make_sweep-clause-ran g c = λ test.
     let loaded = c.args.loaded in
-    swept_none _ _ loaded.map.tiles.statuses loaded.map.state c.args.plan.heard (g.D.Site.state c.args.site.now)
+    swept_none _ _ loaded.map.tiles.statuses loaded.map.state c.args.checked.heard (g.D.Site.state c.args.site.now)
     (g.K.Clock.state c.args.clock.now) (g.C.Console.state c.args.console.now)
 
 pub returns-in_default-make_sweep-clause-cause : goal.returns-in_default-make_sweep-clause-cause
@@ -46,16 +46,16 @@ returns-in_default-make_sweep-clause-cause g c = none_cause (g.D.Site.state c.ar
 pub returns-clause-ran : goal.returns-clause-ran
 returns-clause-ran g c = λ test.
     let loaded = c.args.loaded in
-    let maps : Maps = maps_read c.args.plan.command.options loaded.domain_map test loaded.map in
-    filled_so (told_by c.args.plan.command) c.in-Some.names c.args.plan.heading loaded.end maps
-    loaded.map.tiles.statuses loaded.map.state c.now_ms-moment.result c.args.plan.heard c.say_line-heard.result
+    let maps : Maps = maps_read c.args.checked.command.options loaded.domain_map test loaded.map in
+    filled_so (told_by c.args.checked.command) c.in-Some.names c.args.checked.heading loaded.end maps
+    loaded.map.tiles.statuses loaded.map.state c.now_ms-moment.result c.args.checked.heard c.say_line-heard.result
     c.run_fill-closed.result.heard c.args.filling.types c.args.filling.buffer.now c.in-Ok.ready c.make_job-job.result
     c.run_fill-closed.result.end c.answer.result
     (around (g.D.Site.state c.args.site.now) (g.D.Site.state c.run_fill-closed.new.site)
     (g.K.Clock.state c.now_ms-moment.new.self) (g.K.Clock.state c.run_fill-closed.new.clock)
     (g.C.Console.state c.say_line-heard.new.console) (g.C.Console.state c.run_fill-closed.new.console))
     (g.K.Clock.state c.args.clock.now) (g.C.Console.state c.args.console.now)
-    (sym c.requires.planned.names ∙ c.in-Some.is) (c.in-Ok.ensures test)
+    (sym c.requires.checked.names ∙ c.in-Some.is) (c.in-Ok.ensures test)
     (c.make_job-job.ensures loaded.end maps loaded.map.tiles.statuses loaded.map.state c.requires.placed
     (c.in-Ok.ensures test))
     c.run_fill-closed.ensures.sweeps c.answer.ensures c.now_ms-moment.ensures.told (omega arith) c.say_line-heard.ensures

@@ -12,7 +12,7 @@ use Rattle.task_sweeps.proofs.generate.generate.Goals as goal
 pub returns-in_err-domain_map-clause-worked : goal.returns-in_err-domain_map-clause-worked
 returns-in_err-domain_map-clause-worked g c =
     let p = err_from_is_err_and c.from_residual.result c.from_residual.ensures.1 in
-    rw (p.1, p.2) (generate_unread (told_by c.args.plan.command) _ c.args.plan.heard c.requires.planned.different _
+    rw (p.1, p.2) (generate_unread (told_by c.args.checked.command) _ c.args.checked.heard c.requires.checked.different _
     (g.S.Source.state c.args.source.now) (g.D.Site.state c.args.site.now) (g.D.Site.state c.read_named.new.site)
     (g.K.Clock.state c.args.clock.now)
     (g.C.Console.state c.args.console.now) c.in_err-domain_map.ensures.told)
@@ -34,7 +34,7 @@ returns-in_err-domain_map-clause-source g c = keeps_self _
 
 pub returns-in_default-clause-worked : goal.returns-in_default-clause-worked
 returns-in_default-clause-worked g c =
-    generate_unopened (told_by c.args.plan.command) _ c.args.plan.heard c.requires.planned.different
+    generate_unopened (told_by c.args.checked.command) _ c.args.checked.heard c.requires.checked.different
     c.in_ok-domain_map.domain_map (g.S.Source.state c.args.source.now) (g.D.Site.state c.args.site.now)
     (g.D.Site.state c.read_named.new.site) c.in_ok-domain_map.ensures.told c.in_ok-domain_map.ensures.site
     (g.S.Source.state c.open_input.new.self) (g.K.Clock.state c.args.clock.now)
@@ -44,7 +44,7 @@ returns-in_default-clause-worked g c =
 pub returns-in_err-open_output-clause-worked : goal.returns-in_err-open_output-clause-worked
 returns-in_err-open_output-clause-worked g c =
     let p = err_from_is_err_and c.from_residual-in_err-open_output.result c.from_residual-in_err-open_output.ensures.1 in
-    rw (p.1, p.2) (generate_output (told_by c.args.plan.command) _ c.args.plan.heard c.requires.planned.different
+    rw (p.1, p.2) (generate_output (told_by c.args.checked.command) _ c.args.checked.heard c.requires.checked.different
     c.in_ok-domain_map.domain_map (g.S.Source.state c.args.source.now) (g.D.Site.state c.args.site.now)
     (g.D.Site.state c.read_named.new.site) c.in_ok-domain_map.ensures.told c.in_ok-domain_map.ensures.site
     c.in-Ok.end (g.S.Source.state c.open_input.new.self) (g.K.Clock.state c.args.clock.now)
@@ -60,7 +60,7 @@ returns-in_err-open_output-clause-worked g c =
 pub returns-in_err-map-clause-worked : goal.returns-in_err-map-clause-worked
 returns-in_err-map-clause-worked g c =
     let p = err_from_is_err_and c.from_residual-in_err-map.result c.from_residual-in_err-map.ensures.1 in
-    rw (p.1, p.2) (generate_load (told_by c.args.plan.command) _ c.args.plan.heard c.requires.planned.different
+    rw (p.1, p.2) (generate_load (told_by c.args.checked.command) _ c.args.checked.heard c.requires.checked.different
     c.in_ok-domain_map.domain_map (g.S.Source.state c.args.source.now) (g.D.Site.state c.args.site.now)
     (g.D.Site.state c.read_named.new.site) c.in_ok-domain_map.ensures.told c.in_ok-domain_map.ensures.site
     c.in-Ok.end (g.S.Source.state c.open_input.new.self) (g.K.Clock.state c.args.clock.now)
@@ -71,9 +71,9 @@ returns-in_err-map-clause-worked g c =
       tells = c.open_input.ensures.call.keeps.tells;
       all = c.in-Ok.ensures.call.all;
       short = c.in-Ok.ensures.short;
-    }) c.args.plan.names _ (g.D.Site.state c.open_output.new.site) (g.D.Site.state c.load.new.site) (record {
-      names = c.requires.planned.names;
-      apart = c.requires.planned.apart;
+    }) c.args.checked.names _ (g.D.Site.state c.open_output.new.site) (g.D.Site.state c.load.new.site) (record {
+      names = c.requires.checked.names;
+      apart = c.requires.checked.apart;
       output = c.in_ok-open_output.ensures.opens;
       keeps = c.open_output.ensures.keeps;
       loads = c.in_err-map.ensures.loaded;
@@ -104,7 +104,7 @@ returns-in_err-map-clause-draft g c =
 
 pub returns-then-not-places_fit-clause-worked : goal.returns-then-not-places_fit-clause-worked
 returns-then-not-places_fit-clause-worked g c =
-    generate_unplaced (told_by c.args.plan.command) _ c.args.plan.heard c.requires.planned.different
+    generate_unplaced (told_by c.args.checked.command) _ c.args.checked.heard c.requires.checked.different
     c.in_ok-domain_map.domain_map (g.S.Source.state c.args.source.now) (g.D.Site.state c.args.site.now)
     (g.D.Site.state c.read_named.new.site) c.in_ok-domain_map.ensures.told c.in_ok-domain_map.ensures.site
     c.in-Ok.end (g.S.Source.state c.open_input.new.self) (g.K.Clock.state c.args.clock.now)
@@ -115,9 +115,9 @@ returns-then-not-places_fit-clause-worked g c =
       tells = c.open_input.ensures.call.keeps.tells;
       all = c.in-Ok.ensures.call.all;
       short = c.in-Ok.ensures.short;
-    }) c.args.plan.names c.in_ok-map.map (g.D.Site.state c.open_output.new.site) (g.D.Site.state c.load.new.site) (record {
-      names = c.requires.planned.names;
-      apart = c.requires.planned.apart;
+    }) c.args.checked.names c.in_ok-map.map (g.D.Site.state c.open_output.new.site) (g.D.Site.state c.load.new.site) (record {
+      names = c.requires.checked.names;
+      apart = c.requires.checked.apart;
       output = c.in_ok-open_output.ensures.opens;
       keeps = c.open_output.ensures.keeps;
       loads = c.in_ok-map.ensures.loaded;
@@ -126,7 +126,7 @@ returns-then-not-places_fit-clause-worked g c =
 
 pub returns-clause-worked : goal.returns-clause-worked
 returns-clause-worked g c =
-    generate_goes (told_by c.args.plan.command) _ c.args.plan.heard c.requires.planned.different
+    generate_goes (told_by c.args.checked.command) _ c.args.checked.heard c.requires.checked.different
     c.in_ok-domain_map.domain_map (g.S.Source.state c.args.source.now) (g.D.Site.state c.args.site.now)
     (g.D.Site.state c.read_named.new.site) c.in_ok-domain_map.ensures.told c.in_ok-domain_map.ensures.site
     c.in-Ok.end (g.S.Source.state c.open_input.new.self) (g.K.Clock.state c.args.clock.now)
@@ -137,9 +137,9 @@ returns-clause-worked g c =
       tells = c.open_input.ensures.call.keeps.tells;
       all = c.in-Ok.ensures.call.all;
       short = c.in-Ok.ensures.short;
-    }) c.args.plan.names c.in_ok-map.map (g.D.Site.state c.open_output.new.site) (g.D.Site.state c.load.new.site) (record {
-      names = c.requires.planned.names;
-      apart = c.requires.planned.apart;
+    }) c.args.checked.names c.in_ok-map.map (g.D.Site.state c.open_output.new.site) (g.D.Site.state c.load.new.site) (record {
+      names = c.requires.checked.names;
+      apart = c.requires.checked.apart;
       output = c.in_ok-open_output.ensures.opens;
       keeps = c.open_output.ensures.keeps;
       loads = c.in_ok-map.ensures.loaded;

@@ -12,7 +12,7 @@ use Rattle.fill_generate.specs.Sweeping.{around}
 pub run_generate-closed-requires-clause-room : goal.run_generate-closed-requires-clause-room
 run_generate-closed-requires-clause-room g c =
     let loaded = c.args.loaded in
-    let maps : Maps = maps_read c.args.plan.command.options loaded.domain_map None loaded.map in
+    let maps : Maps = maps_read c.args.checked.command.options loaded.domain_map None loaded.map in
     let is = c.make_job-job.ensures loaded.end maps loaded.map.tiles.statuses loaded.map.state c.requires.begins.placed
     (c.in-Ok.ensures None) in
     rw (ap (λ (s : Settings). s.cluster) is.settings_are) (search rules)
@@ -20,7 +20,7 @@ run_generate-closed-requires-clause-room g c =
 pub run_generate-closed-requires-clause-sweeps : goal.run_generate-closed-requires-clause-sweeps
 run_generate-closed-requires-clause-sweeps g c =
     let loaded = c.args.loaded in
-    let maps : Maps = maps_read c.args.plan.command.options loaded.domain_map None loaded.map in
+    let maps : Maps = maps_read c.args.checked.command.options loaded.domain_map None loaded.map in
     let is = c.make_job-job.ensures loaded.end maps loaded.map.tiles.statuses loaded.map.state c.requires.begins.placed
     (c.in-Ok.ensures None) in
     record { sound = is.sound; suits = job_suits _ _ _ _ _ _ _ _ _ _ is; places = is.places }
@@ -28,22 +28,22 @@ run_generate-closed-requires-clause-sweeps g c =
 pub run_generate-closed-requires-clause-program : goal.run_generate-closed-requires-clause-program
 run_generate-closed-requires-clause-program g c =
     let loaded = c.args.loaded in
-    let maps : Maps = maps_read c.args.plan.command.options loaded.domain_map None loaded.map in
+    let maps : Maps = maps_read c.args.checked.command.options loaded.domain_map None loaded.map in
     job_heading _ _ _ _ _ _ _ _ _ _
     (c.make_job-job.ensures loaded.end maps loaded.map.tiles.statuses loaded.map.state c.requires.begins.placed
     (c.in-Ok.ensures None))
-    c.requires.planned.heading
+    c.requires.checked.heading
 
 pub returns-in_default-make_sweep-clause-ran : goal.returns-in_default-make_sweep-clause-ran
 returns-in_default-make_sweep-clause-ran g c = λ test.
     let loaded = c.args.loaded in
-    generated_none _ loaded.map.tiles.statuses loaded.map.state c.args.plan.heard (g.D.Site.state c.args.site.now)
+    generated_none _ loaded.map.tiles.statuses loaded.map.state c.args.checked.heard (g.D.Site.state c.args.site.now)
     (g.K.Clock.state c.args.clock.now) (g.C.Console.state c.args.console.now)
 
 pub returns-in_default-vec-clause-ran : goal.returns-in_default-vec-clause-ran
 returns-in_default-vec-clause-ran g c = λ test.
     let loaded = c.args.loaded in
-    generated_none _ loaded.map.tiles.statuses loaded.map.state c.args.plan.heard (g.D.Site.state c.args.site.now)
+    generated_none _ loaded.map.tiles.statuses loaded.map.state c.args.checked.heard (g.D.Site.state c.args.site.now)
     (g.K.Clock.state c.args.clock.now) (g.C.Console.state c.args.console.now)
 
 pub returns-in_default-make_sweep-clause-cause : goal.returns-in_default-make_sweep-clause-cause
@@ -52,15 +52,15 @@ returns-in_default-make_sweep-clause-cause g c = none_cause (g.D.Site.state c.ar
 pub returns-clause-ran : goal.returns-clause-ran
 returns-clause-ran g c = λ test.
     let loaded = c.args.loaded in
-    let maps : Maps = maps_read c.args.plan.command.options loaded.domain_map test loaded.map in
-    generated_so (told_by c.args.plan.command) c.in-Some.names c.args.plan.heading loaded.end maps
-    loaded.map.tiles.statuses loaded.map.state c.now_ms-moment.result c.args.plan.heard c.say_line-heard.result
+    let maps : Maps = maps_read c.args.checked.command.options loaded.domain_map test loaded.map in
+    generated_so (told_by c.args.checked.command) c.in-Some.names c.args.checked.heading loaded.end maps
+    loaded.map.tiles.statuses loaded.map.state c.now_ms-moment.result c.args.checked.heard c.say_line-heard.result
     c.run_generate-closed.result.heard c.in-Ok.ready c.make_job-job.result c.run_generate-closed.result.end c.answer.result
     (around (g.D.Site.state c.args.site.now) (g.D.Site.state c.run_generate-closed.new.site)
     (g.K.Clock.state c.now_ms-moment.new.self) (g.K.Clock.state c.run_generate-closed.new.clock)
     (g.C.Console.state c.say_line-heard.new.console) (g.C.Console.state c.run_generate-closed.new.console))
     (g.K.Clock.state c.args.clock.now) (g.C.Console.state c.args.console.now)
-    (sym c.requires.planned.names ∙ c.in-Some.is) (c.in-Ok.ensures test)
+    (sym c.requires.checked.names ∙ c.in-Some.is) (c.in-Ok.ensures test)
     (c.make_job-job.ensures loaded.end maps loaded.map.tiles.statuses loaded.map.state c.requires.begins.placed
     (c.in-Ok.ensures test))
     c.run_generate-closed.ensures.sweeps c.answer.ensures c.now_ms-moment.ensures.told (omega arith) c.say_line-heard.ensures

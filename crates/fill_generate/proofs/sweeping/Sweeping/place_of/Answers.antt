@@ -3,4 +3,4 @@ use Rattle.fill_generate.specs.SweepState.{SweepState}
 use Rattle.fill_generate.proofs.sweeping.Sweeping.place_of.Goals as goal
 
 pub overflow_sub-result : goal.overflow_sub-result
-overflow_sub-result g c = omega (arith, c.requires.from, ap (λ (r : SweepState). r.settings.from) c.self.view_is)
+overflow_sub-result g c = omega (arith, c.requires.from, ap (λ (r : SweepState). r.settings.input_position) c.self.view_is)

@@ -2,7 +2,7 @@
 use Rattle.std.proofs.Common.{◌∙◌, ap, option_map}
 use Rattle.ddrescueplan_words.specs.Options.{of_rescue}
 use Rattle.ddrescueplan_words.proofs.OptionLemmas.{row_sets, no_row_sets}
-use Rattle.ddrescueplan_words.proofs.options.PlanOptionsSettings.with_row.Goals as goal
+use Rattle.ddrescueplan_words.proofs.options.PlanOptionsOptionValues.with_row.Goals as goal
 
 pub returns-in-Some : goal.returns-in-Some
 returns-in-Some c =

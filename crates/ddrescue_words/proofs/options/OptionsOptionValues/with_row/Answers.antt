@@ -2,7 +2,7 @@
 use Rattle.std.proofs.Common.{rules, ◌∙◌, sym, ap, option_map}
 use Rattle.option_words.specs.Values.{set_by}
 use Rattle.ddrescue_words.proofs.RowLemmas.{place_unlettered, row_lettered, row_of_sample}
-use Rattle.ddrescue_words.proofs.options.OptionsSettings.with_row.Goals as goal
+use Rattle.ddrescue_words.proofs.options.OptionsOptionValues.with_row.Goals as goal
 
 pub returns-then-row-eq-SAMPLE : goal.returns-then-row-eq-SAMPLE
 returns-then-row-eq-SAMPLE c =

@@ -3,8 +3,8 @@ use Rattle.std.proofs.Common.{◌≡◌, ◌∙◌, sym, ap, refl, slice_get, op
 use Rattle.std.specs.Option.{option_and_then}
 use Rattle.option_words.specs.Values.{row_of, set_by}
 use Rattle.option_words.proofs.RowLemmas.{letter_given, row_by_letter}
-use Rattle.ddrescueverify_words.specs.Options.{option_rows}
-use Rattle.ddrescueverify_words.proofs.options.VerifyOptionsSettings.with_row.Goals as goal
+use Rattle.ddrescuelog_words.specs.Options.{option_rows}
+use Rattle.ddrescuelog_words.proofs.options.LogOptionsOptionValues.with_row.Goals as goal
 
 pub returns-in-Some : goal.returns-in-Some
 returns-in-Some c =

@@ -14,7 +14,7 @@ use crate::words::Words;
 pub const SECTOR_SIZE: char = 'b';
 
 /// What the options of a program set.
-pub trait Settings: Copy {
+pub trait OptionValues: Copy {
     /// The rows of the program's options.
     ghost rows: { List (OptionRow Self) };
 
@@ -73,7 +73,12 @@ pub fn read_sector_in(
 }
 
 /// What one option sets, or the word of its bad value.
-fn set_item<O: Settings>(words: &Words, options: O, sector: u64, item: &Item) -> Result<O, usize>
+fn set_item<O: OptionValues>(
+    words: &Words,
+    options: O,
+    sector: u64,
+    item: &Item,
+) -> Result<O, usize>
     requires spot { HasSpot words.now item.now }
     requires low { 0 < sector }
     requires high { sector ≤ 1048576 }
@@ -86,7 +91,7 @@ fn set_item<O: Settings>(words: &Words, options: O, sector: u64, item: &Item) ->
 }
 
 /// What the options set on top of that, in their order, or the word of the first bad value.
-pub fn read_settings<O: Settings>(
+pub fn read_settings<O: OptionValues>(
     words: &Words,
     items: &[Item],
     sector: u64,
@@ -106,7 +111,7 @@ pub fn read_settings<O: Settings>(
 
 /// What all options ask for, or the word of the first bad value. Those that give the sector come first, then all in
 /// their order.
-pub fn read_options<O: Settings>(
+pub fn read_options<O: OptionValues>(
     table: &OptionTable,
     words: &Words,
     items: &[Item],

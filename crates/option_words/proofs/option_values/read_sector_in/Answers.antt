@@ -4,7 +4,7 @@ use Rattle.option_words.specs.Rows.{meaning_of_row}
 use Rattle.option_words.specs.declared.reading.Item.{Item}
 use Rattle.option_words.specs.Values.{with_sector}
 use Rattle.option_words.proofs.TurnLemmas.{sector_step, set_step}
-use Rattle.option_words.proofs.settings.read_sector_in.Goals as goal
+use Rattle.option_words.proofs.option_values.read_sector_in.Goals as goal
 
 pub loop-item-preserved : goal.loop-item-preserved
 loop-item-preserved c =
