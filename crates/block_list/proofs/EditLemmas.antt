@@ -1,3 +1,4 @@
+-- What an edit of a list of blocks leaves: a cut, a block in the place of others, and a block after all others.
 use Rattle.std.proofs.Common.{◌≡◌, ℕ, ◌+◌, ◌-◌, ◌<◌, ◌≤◌, ◌^◌, List, [], ◌∷◌, ◌++◌, length, take, drop, get_or, replicate, Some, Bool, true, false, if◌then◌else◌, refl, arith, ap, sym, ◌∙◌, subst, append_assoc, append-nil, length-append, ⊎_elim}
 use Rattle.std.specs.List.{flat_map, slice_get}
 use Rattle.std.specs.List.Sorted.{IsNonDecreasingBy}

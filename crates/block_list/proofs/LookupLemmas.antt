@@ -1,3 +1,4 @@
+-- What a search in a list of blocks finds: a stretch, the first or the last position of a status, and a count.
 use Rattle.std.proofs.Common.{◌≡◌, ℕ, ◌+◌, ◌-◌, ◌*◌, ◌<◌, ◌≤◌, List, [], ◌∷◌, ◌++◌, length, take, get_or, replicate, Option, Some, None, IfSome, IfNone, Bool, true, false, cond, append-nil, max, min, arith, ap, sym, ◌∙◌, ⊎_elim, refl}
 use Rattle.std.specs.List.{flat_map, count_by}
 use Rattle.std.proofs.lemmas.Bool.{cases_lt}

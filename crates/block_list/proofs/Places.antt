@@ -1,3 +1,4 @@
+-- Items at places of lists that are joined, and the length of a map after a mark.
 use Rattle.std.proofs.Common.{◌≡◌, ℕ, zero, suc, ◌+◌, ◌-◌, ◌<◌, ◌≤◌, List, [], ◌∷◌, ◌++◌, length, replicate, Some, refl, arith, length-append, take, drop}
 use Rattle.std.specs.List.{slice_get}
 use Rattle.std.proofs.lemmas.List.{length-take-le, length-drop, length-replicate}

@@ -1,3 +1,4 @@
+-- What a push answers, by whether a fault was found.
 use Rattle.std.proofs.Common.{◌≡◌, ℕ, Option, Some, None, Result, Ok, Err, IsOk, OnOk, MatchOption}
 use Rattle.block_list.specs.declared.plain_tiles.PushError.{PushError}
 

@@ -1,3 +1,4 @@
+-- What a map becomes when the boundary between two blocks moves.
 use Rattle.std.proofs.Common.{◌≡◌, ℕ, zero, suc, ◌+◌, ◌-◌, ◌<◌, List, [], ◌∷◌, ◌++◌, length, take, drop, get_or, set, replicate, refl, arith, ap, sym, ◌∙◌, subst, append_assoc, length-append}
 use Rattle.std.specs.List.{flat_map}
 use Rattle.std.proofs.lemmas.List.{take-append-drop, drop_more, replicate-append-replicate, take_at, drop_at, length-replicate}

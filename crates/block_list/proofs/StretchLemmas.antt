@@ -1,3 +1,4 @@
+-- Merged blocks are the stretches of the map that they tile, and the stretches of a map are such blocks.
 use Rattle.std.proofs.Common.{◌≡◌, ℕ, zero, suc, ◌+◌, ◌-◌, ◌<◌, ◌≤◌, List, [], ◌∷◌, ◌++◌, length, take, drop, replicate, Some, Bool, true, false, cond, nat_eq, refl, arith, ap, sym, ◌∙◌, subst, append_assoc, add-one}
 use Rattle.std.specs.List.{flat_map, slice_get}
 use Rattle.std.proofs.lemmas.Bool.{eqb-true}

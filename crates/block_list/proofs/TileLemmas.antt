@@ -1,3 +1,4 @@
+-- Blocks that tile a map: their parts, where they begin, and each block of them.
 use Rattle.std.proofs.Common.{◌≡◌, ℕ, ◌+◌, ◌<◌, ◌≤◌, ◌^◌, List, [], ◌∷◌, ◌++◌, length, take, drop, get_or, replicate, arith, ap, sym, ◌∙◌, length-append, subst, ⊎_elim}
 use Rattle.std.specs.List.{flat_map}
 use Rattle.std.proofs.lemmas.List.{length-replicate, take-append-drop, take_more, drop_more, take-take, take_at, drop_at, take_all}

@@ -25,7 +25,7 @@ impl Status {
         self == other
     }
 
-    /// The character that a mapfile has for it.
+    /// The character that a mapfile has for the status.
     pub fn symbol(self) -> u8
         ensures { result ≡ symbol self }
     {

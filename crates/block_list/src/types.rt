@@ -34,7 +34,7 @@ impl TypeSet {
         })
     }
 
-    /// Whether a status is one of them.
+    /// Whether a status is in the set.
     pub fn has(&self, status: Status) -> bool
         ensures { result ≡ has_type self.now status }
     {

@@ -44,7 +44,7 @@ impl StatusCounts {
         }
     }
 
-    /// These without some that are among them, and with others.
+    /// The counts without some that are among them, and with others.
     pub fn exchanged(self, gone: StatusCounts, come: StatusCounts) -> StatusCounts
         requires among { (s : Status) → tallied gone s ≤ tallied self s }
         requires short { (s : Status) → tallied self s + tallied come s < 2 ^ 64 }
@@ -59,7 +59,7 @@ impl StatusCounts {
         }
     }
 
-    /// How many have a status.
+    /// How many positions have a status.
     pub fn of(self, status: Status) -> u64
         ensures { result ≡ tallied self status }
     {

@@ -89,7 +89,7 @@ pub fn a_refused_filling_leaves()
     ensures { RefusedFillLeaves }
 {}
 
-/// Such a generating leaves every file as it was.
+/// A generating whose answer comes before its sweep leaves every file as it was.
 pub fn a_refused_generating_leaves()
     ensures { RefusedGenerateLeaves }
 {}

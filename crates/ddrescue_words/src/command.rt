@@ -167,7 +167,7 @@ fn goes_with_sample(table: &OptionTable, item: &Item) -> bool
     item.row == SAMPLE || letter_of(table.rows(), item.row) == Some(QUIET)
 }
 
-/// The word of the first option that doesn't.
+/// The word of the first option that doesn't go with a sample.
 fn sample_conflict(table: &OptionTable, items: &[Item]) -> Option<usize>
     requires { AreOptions table.now }
     ensures { result ≡ sample_conflict items.now }

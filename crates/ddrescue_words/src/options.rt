@@ -30,19 +30,19 @@ const MOST_CLUSTER: u64 = 16_777_216;
 /// The most passes of retrying.
 const MOST_RETRIES: u64 = 65_535;
 
-/// The letter of the one that gives the size of a cluster.
+/// The letter of the option that gives the size of a cluster.
 pub(crate) const CLUSTER_SIZE: char = 'c';
 
-/// The letter of the one that gives the statuses that are filled.
+/// The letter of the option that gives the statuses that are filled.
 pub(crate) const FILL_MODE: char = 'F';
 
-/// The letter of the one that asks for generate mode.
+/// The letter of the option that asks for generate mode.
 pub(crate) const GENERATE_MODE: char = 'G';
 
-/// The letter of the one that names the map of what can be read.
+/// The letter of the option that names the map of what can be read.
 pub(crate) const TEST_MODE: char = 'H';
 
-/// The letter of the one that names the map of what is rescued.
+/// The letter of the option that names the map of what is rescued.
 pub(crate) const DOMAIN_MAPFILE: char = 'm';
 
 /// The row of the option that has no letter, counted from 0: the size of a sample.
@@ -92,14 +92,14 @@ pub struct Options {
     /// How far copying skips at first after a failed or slow read, in bytes and not yet rounded up to whole sectors;
     /// 64 KiB if it isn't given, or the largest skip if that is less.
     pub skip: u64,
-    /// How far it skips at most, in bytes and not yet rounded up to whole sectors; 1 GiB if it isn't given, or the
+    /// How far copying skips at most, in bytes and not yet rounded up to whole sectors; 1 GiB if it isn't given, or the
     /// first skip if that is more.
     pub skip_max: u64,
     /// Below how many bytes a second a read of copying is slow; 0 if it isn't given, and then none is.
     pub min_rate: u64,
     /// Where the rescue begins in the infile, in bytes; 0 if it isn't given.
     pub input_position: u64,
-    /// Where it begins in the outfile, in bytes; as in the infile if it isn't given.
+    /// Where the rescue begins in the outfile, in bytes; as in the infile if it isn't given.
     pub output_position: Option<u64>,
     /// How many bytes are rescued at most; no limit if it isn't given.
     pub size: Option<u64>,
@@ -172,7 +172,7 @@ impl Options {
         in_sectors(self.skip, self.sector)
     }
 
-    /// How far it skips at most, in bytes, as whole sectors.
+    /// How far copying skips at most, in bytes, as whole sectors.
     pub fn largest_skip(&self) -> u64
         requires { AreInLimits self.now }
         ensures { result ≡ in_sectors self.now self.now.skip_max }

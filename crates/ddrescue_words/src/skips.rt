@@ -7,7 +7,7 @@ use size_suffixes::size::read_size;
 /// How far copying skips at first in bytes, where no option says it.
 pub(crate) const DEFAULT_SKIP: u64 = 65_536;
 
-/// How far it skips at most.
+/// How far copying skips at most in bytes, where no option says it.
 pub(crate) const DEFAULT_SKIP_MAX: u64 = 1 << 30;
 
 /// The least skip in whole sectors that is too large.
@@ -36,7 +36,7 @@ fn size_if_given(sector: u64, text: &str) -> Option<Option<u64>>
     }
 }
 
-/// Both sizes, of which each may be left out.
+/// The first skip and the largest, by two sizes of which each may be left out.
 fn skips_given(first: Option<u64>, most: Option<u64>) -> Option<(u64, u64)>
     ensures { result ≡ skips_given first most }
 {
@@ -49,7 +49,7 @@ fn skips_given(first: Option<u64>, most: Option<u64>) -> Option<(u64, u64)>
     }
 }
 
-/// Both sizes, each of a text that is empty where it is left out.
+/// The first skip and the largest, by the texts of two sizes. A text is empty if its size is left out.
 fn skips_of_pair(sector: u64, first: &str, most: &str) -> Option<(u64, u64)>
     requires low { 0 < sector }
     requires high { sector ≤ 1048576 }
@@ -58,7 +58,7 @@ fn skips_of_pair(sector: u64, first: &str, most: &str) -> Option<(u64, u64)>
     skips_given(size_if_given(sector, first)?, size_if_given(sector, most)?)
 }
 
-/// Both sizes of a text that has one comma at most.
+/// The first skip and the largest that a text with one comma at most gives.
 fn skips_in_text(sector: u64, text: &str) -> Option<(u64, u64)>
     requires low { 0 < sector }
     requires high { sector ≤ 1048576 }

@@ -5,8 +5,6 @@ use Rattle.block_list.specs.declared.status.Status.{Status}
 use Rattle.block_list.specs.Tiled.{Tiled, statuses_in}
 use Rattle.mapfile_text.specs.declared.read.Mode.{Mode}
 use Rattle.mapfile_text.specs.declared.heading.Program.TheVariants.{Ddrescuelog}
-use Rattle.mapfile_text.specs.declared.state.MapState.{MapState}
-use Rattle.mapfile_text.specs.declared.state.Current.TheVariants.{Copying}
 use Rattle.mapfile_text.specs.HeadingLines.{HeadingLines}
 use Rattle.mapfile_text.specs.Printed.{printed}
 use Rattle.mapfile_text.specs.Pieces.{pieces_of}
@@ -20,6 +18,7 @@ use Rattle.save_resume.specs.MapNames.{MapNames, names_of}
 use Rattle.save_resume.specs.Named.{IsMapOf, map_mode, HasStatuses}
 use Rattle.save_resume.specs.Saving.{save_calls, publish_calls, IsNameIn, Saves}
 use Rattle.map_algebra.specs.Numbers.{list_limit, numbers_in}
+use Rattle.rescue_rules.specs.Beginning.{nothing_shown}
 use Rattle.work_rules.specs.Work.{Deeds, Works, Make}
 use Rattle.ddrescuelog_words.specs.declared.mode.LogMode.TheVariants.{Create}
 use Rattle.ddrescuelog_words.specs.Modes.{creates, has_other}
@@ -107,12 +106,8 @@ feed_after_save names text e site site' old new s b =
 
 -- ---- the maps
 
--- a map that is created shows its first position
-abbrev first_shown : MapState
-first_shown = record { pos = 0; current = Copying; pass = 1 }
-
 abbrev maps_made : Option Tiled → Maps
-maps_made tiles = record { shown = first_shown; statuses = []; other = []; domain = statuses_in tiles }
+maps_made tiles = record { shown = nothing_shown; statuses = []; other = []; domain = statuses_in tiles }
 
 domain_is : (asked : Option (List ℕ)) (mode : Mode) (file : Option File) (have : Option (List Status))
     → HasStatuses asked mode file have → (name : List ℕ) (statuses : List Status) → asked ≡ Some name
@@ -227,15 +222,15 @@ created_refused c line listed rest tiles e old new feed feed' mode alone l w = r
 is_created : (c : Command) (line : List ℕ) (h : HeadingLines) (listed rest : Status) (tiles : Option Tiled)
     (list text : List ℕ) (statuses : List Status)
     → h ≡ record { program = Ddrescuelog; line = line; start_s = 0; now_s = 0 }
-    → text ≡ printed h first_shown statuses
+    → text ≡ printed h nothing_shown statuses
     → (a : AreOfList c.options listed rest (statuses_in tiles) list statuses)
     → IsCreated c listed rest line (maps_made tiles) a.numbers text
 is_created c line h listed rest tiles list text statuses heading is a = record {
   end = a.end;
   ends = a.ends;
   is =
-      is ∙ ap (λ (g : HeadingLines). printed g first_shown statuses) heading
-      ∙ ap (λ (s : List Status). map_text line first_shown s) a.is;
+      is ∙ ap (λ (g : HeadingLines). printed g nothing_shown statuses) heading
+      ∙ ap (λ (s : List Status). map_text line nothing_shown s) a.is;
 }
 
 pub created : (c : Command) (line : List ℕ) (h : HeadingLines) (names : MapNames) (listed rest : Status)
@@ -243,9 +238,9 @@ pub created : (c : Command) (line : List ℕ) (h : HeadingLines) (names : MapNam
     → c.mode ≡ Create listed rest → c.other ≡ None → names ≡ names_of c.mapfile → mid.tells ≡ old.tells
     → h ≡ record { program = Ddrescuelog; line = line; start_s = 0; now_s = 0 }
     → Looks c (Ok tiles) old mid → MakesList c.options listed rest (statuses_in tiles) (Ok made) feed feed'
-    → SavesText names (printed h first_shown made.statuses) e mid new → CreatesMap c line e old new feed
+    → SavesText names (printed h nothing_shown made.statuses) e mid new → CreatesMap c line e old new feed
 created c line h names listed rest tiles made e old mid new feed feed' mode alone named same heading l w s =
-    let text : List ℕ = printed h first_shown made.statuses in
+    let text : List ℕ = printed h nothing_shown made.statuses in
     let m : Maps = maps_made tiles in
     record {
       found = l.found;

@@ -12,7 +12,7 @@ use program_promise::answer::Answer;
 /// The program's name, which begins its command line and its messages.
 pub(crate) const PROGRAM: &str = "ddrescuelog";
 
-/// Adds which map it is.
+/// Adds which map an answer is about.
 fn add_which(message: &mut Message, which: Which)
     requires { array_vec_len message.old ≤ 20 }
     ensures text { message.new.items ≡ message.old.items ++ which_text which }

@@ -63,7 +63,7 @@ fn add_short(text: &mut Buffer, line: &Message)
     let _fits = text.try_extend_from_slice(line.as_slice());
 }
 
-/// The whole text, which is short.
+/// The whole text of a summary, which is short.
 pub(crate) fn make_summary(state: MapState, summary: &Summary) -> Buffer
     ensures { result.items ≡ summary_text state summary.now }
 {

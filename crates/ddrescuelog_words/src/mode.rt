@@ -12,9 +12,9 @@ use map_algebra::combine::Op;
 pub enum LogMode {
     /// The map is printed with types changed.
     Change(TypeChange),
-    /// It is printed, made one with another map.
+    /// The map is printed, made one with another map.
     Combine(Op),
-    /// It is printed, with the gaps between its blocks filled by a status.
+    /// The map is printed, with the gaps between its blocks filled by a status.
     Complete(Status),
     /// The numbers of the blocks in which positions of some types stand are printed.
     ListBlocks(TypeSet),

@@ -20,13 +20,13 @@ use option_words::values::{is_name, size_by};
 /// The least end that is too large for a map.
 const END_LIMIT: u64 = 1 << 63;
 
-/// The letter of the one that names the map of the positions that are examined.
+/// The letter of the option that names the map of the positions that are examined.
 pub(crate) const DOMAIN_MAPFILE: char = 'm';
 
-/// The letter of the one that says how many bytes are examined.
+/// The letter of the option that says how many bytes are examined.
 pub(crate) const SIZE: char = 's';
 
-/// The letter of the one that has no effect.
+/// The letter of the option that has no effect.
 const VERBOSE: char = 'v';
 
 /// The letters of the options of which one says what is done.

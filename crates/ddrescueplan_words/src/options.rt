@@ -9,10 +9,10 @@ use option_words::option_values::OptionValues;
 use option_words::row::Row;
 use option_words::table::OptionTable;
 
-/// The letter of the one that gives the size of a cluster.
+/// The letter of the option that gives the size of a cluster.
 pub(crate) const CLUSTER_SIZE: char = 'c';
 
-/// Which row of a rescue's options each row is, counted from 0.
+/// Which row of a rescue's options each row of a plan's options is, counted from 0.
 const RESCUE_PLACES: [usize; 11] = [2, 3, 10, 11, 15, 16, 18, 19, 20, 21, 23];
 
 /// The options. A later one is a row here and its place above.

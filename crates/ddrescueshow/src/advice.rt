@@ -111,7 +111,8 @@ pub fn advise(
     Some(line_of(PROGRAM, cause))
 }
 
-/// The same for a call that follows a rescue. `fed` and `put` are the errors of standard input and output.
+/// The line that the message of a call that follows a rescue is followed by, if one helps. `fed` and `put` are the
+/// errors of standard input and output.
 pub fn advise_follower(
     ending: FollowEnding,
     fed: Option<io::Error>,

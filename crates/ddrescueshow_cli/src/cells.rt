@@ -21,7 +21,7 @@ pub(crate) struct Seen {
 }
 
 impl Seen {
-    /// No status was.
+    /// No status was seen.
     fn none() -> Seen
         ensures { (s : StatusOf) → is_seen result s ≡ false }
     {
@@ -65,7 +65,7 @@ impl Seen {
         }
     }
 
-    /// The worst of them.
+    /// The worst status that was seen.
     fn worst(self) -> Option<Status>
         ensures { result ≡ worst_by (is_seen self) }
     {

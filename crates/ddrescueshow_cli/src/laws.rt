@@ -58,7 +58,7 @@ pub fn maps_have_one_verdict()
     ensures { HasOneVerdict }
 {}
 
-/// All files read as they did.
+/// A call leaves every file as it read.
 pub fn files_stand()
     ensures { FilesStand }
 {}

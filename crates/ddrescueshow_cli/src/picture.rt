@@ -113,7 +113,7 @@ fn add_foot(text: &mut Vec<u8>, form: Form, frame: &Frame) -> Result<(), NoMemor
     }
 }
 
-/// The whole text.
+/// The whole text of a picture.
 pub(crate) fn draw<T: Tiles>(
     alloc: Global,
     form: Form,

@@ -59,7 +59,7 @@ fn add_figures_line(text: &mut Vec<u8>, summary: &Summary) -> Result<(), NoMemor
     add(text, "\n")
 }
 
-/// Adds both first lines.
+/// Adds the line of the figures, and the line of the size of a cell.
 pub(crate) fn add_lines(
     text: &mut Vec<u8>,
     frame: &Frame,
@@ -88,7 +88,7 @@ pub(crate) fn add_legend(text: &mut Vec<u8>, frame: &Frame) -> Result<(), NoMemo
     add(text, LEGEND)
 }
 
-/// Adds what the first two colors mean.
+/// Adds what the colors of finished and non-tried cells mean.
 fn add_tried(text: &mut Vec<u8>) -> Result<(), NoMemory>
     ensures { OnOk result (text.new.items ≡ text.old.items ++ tried_colors) }
 {
@@ -96,7 +96,7 @@ fn add_tried(text: &mut Vec<u8>) -> Result<(), NoMemory>
     add_meaning(text, Status::NonTried, " non-tried, ")
 }
 
-/// Adds what the others mean.
+/// Adds what the colors of failed cells mean, and what a blank cell does.
 fn add_failed(text: &mut Vec<u8>) -> Result<(), NoMemory>
     ensures { OnOk result (text.new.items ≡ text.old.items ++ failed_colors) }
 {

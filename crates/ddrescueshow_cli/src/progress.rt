@@ -152,7 +152,7 @@ fn left_by(alloc: Global, size: u64, rescued: u64, rate: u64) -> Result<Vec<u8>,
     }
 }
 
-/// The same if the size and the rate are known.
+/// In which time the rest of the domain is rescued, if there is a rest and the size and the rate are known.
 fn left_text(
     alloc: Global,
     size: Option<u64>,
@@ -170,7 +170,7 @@ fn left_text(
     left_by(alloc, size, rescued, rate)
 }
 
-/// The line, by the size of the domain and the rate, if they are known.
+/// The line of a rescue's progress, by the size of the domain and the rate, if they are known.
 fn progress_text(
     alloc: Global,
     size: Option<u64>,

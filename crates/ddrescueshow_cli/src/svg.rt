@@ -108,7 +108,7 @@ fn add_cell_line(text: &mut Vec<u8>, frame: &Frame) -> Result<(), NoMemory>
     add(text, "</text>\n")
 }
 
-/// Adds both lines of text.
+/// Adds the line of the figures, and the line of the size of a cell.
 fn add_svg_lines(text: &mut Vec<u8>, frame: &Frame, summary: &Summary) -> Result<(), NoMemory>
     requires { (line_of summary.now 4).bytes ≤ summary.now.domain }
     ensures { OnOk result (text.new.items
@@ -118,7 +118,7 @@ fn add_svg_lines(text: &mut Vec<u8>, frame: &Frame, summary: &Summary) -> Result
     add_cell_line(text, frame)
 }
 
-/// Adds the title, how statuses are filled, and both lines of text.
+/// Adds the title, how statuses are filled, and the two lines of text.
 pub(crate) fn add_svg_head(
     text: &mut Vec<u8>,
     frame: &Frame,
@@ -227,7 +227,7 @@ fn add_first(text: &mut Vec<u8>) -> Result<(), NoMemory>
     add_meaning(text, 60, Some(Status::NonTrimmed), "non-trimmed")
 }
 
-/// Adds the others.
+/// Adds the last three lines of the legend.
 fn add_others(text: &mut Vec<u8>) -> Result<(), NoMemory>
     ensures { OnOk result (text.new.items ≡ text.old.items ++ other_meanings) }
 {

@@ -11,20 +11,20 @@ use option_words::row::Row;
 use option_words::table::OptionTable;
 use option_words::values::{is_name, number_by, size_by, within_range};
 
-/// The letter of the one that names the domain map.
+/// The letter of the option that names the domain map.
 pub(crate) const DOMAIN_MAPFILE: char = 'm';
 
 /// The row of the option that says when the picture is in color, counted from 0. It has no letter, nor have the
 /// following ones.
 const COLOR: usize = 6;
 
-/// The row of the one that gives the most rows of cells.
+/// The row of the option that gives the most rows of cells.
 const ROW_LIMIT: usize = 7;
 
-/// The row of the one that asks for SVG.
+/// The row of the option that asks for SVG.
 const SVG: usize = 8;
 
-/// The row of the one that gives the cells of a row.
+/// The row of the option that gives the cells of a row.
 const WIDTH: usize = 9;
 
 /// The most rows, and the most cells in a row.

@@ -10,7 +10,7 @@ use console_texts::message::{Message, add, begin, end};
 use mapfile_text::read::MapError;
 use program_promise::answer::Answer;
 
-/// Adds which map it is.
+/// Adds which map an answer is about.
 fn add_which(message: &mut Message, which: Which)
     requires { array_vec_len message.old ≤ 20 }
     ensures text { message.new.items ≡ message.old.items ++ which_text which }

@@ -47,7 +47,7 @@ fn make_line(tally: Tally) -> Message
     line
 }
 
-/// Puts the line, unless nothing is to be said, and answers.
+/// Puts the line on how much was compared, unless nothing is to be said, and answers.
 pub(crate) fn report<P: Console>(tally: Tally, quiet: bool, console: &mut P) -> VerifyEnding
     ensures { Reports tally quiet result (P.state console.old) (P.state console.new) }
 {

@@ -27,7 +27,7 @@ pub struct VerifyOptions {
     pub sector: u64,
     /// Where the comparison begins in the infile, in bytes; 0 if it isn't given.
     pub input_position: u64,
-    /// Where it begins in the outfile, in bytes; as in the infile if it isn't given.
+    /// Where the comparison begins in the outfile, in bytes; as in the infile if it isn't given.
     pub output_position: Option<u64>,
     /// How many bytes are compared, at most; no limit if it isn't given.
     pub size: Option<u64>,

@@ -26,7 +26,7 @@ impl SweepMode {
         }
     }
 
-    /// What a mapfile shows of it.
+    /// What a mapfile shows of a sweep in this mode.
     pub fn current(self) -> Current
         ensures { result ≡ current_in self }
     {

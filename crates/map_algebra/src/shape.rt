@@ -5,7 +5,7 @@
 pub struct Shape {
     /// The first position that has a place in the output.
     pub ipos: u64,
-    /// Its place there.
+    /// The place of that position in the output.
     pub opos: u64,
     /// How many bytes a block has.
     pub size: u64,

@@ -14,7 +14,7 @@ pub enum Program {
 }
 
 impl Program {
-    /// Its name, as a mapfile has it.
+    /// The program's name, as a mapfile has it.
     pub fn name(self) -> &'static str
         ensures { result.now ≡ program_name self }
     {
@@ -74,6 +74,7 @@ impl Heading {
         self.now_s = now_s;
     }
 
+    /// The program that prints the mapfile.
     pub(crate) fn program(&self) -> Program
         ensures { result ≡ self.now.program }
     {
@@ -87,12 +88,14 @@ impl Heading {
         self.line.as_bytes()
     }
 
+    /// When the run began, in seconds since 1970.
     pub(crate) fn start_s(&self) -> u64
         ensures { result ≡ self.now.start_s }
     {
         self.start_s
     }
 
+    /// When the mapfile is saved, in seconds since 1970.
     pub(crate) fn now_s(&self) -> u64
         ensures { result ≡ self.now.now_s }
     {

@@ -33,21 +33,21 @@ impl<'a> Model for FilledLine<'a> {
 }
 
 impl<'a> FilledLine<'a> {
-    /// Its number in the text, counted from 1.
+    /// The number of the line in the text, counted from 1.
     pub fn number(&self) -> usize
         ensures { result ≡ self.now.number }
     {
         self.number
     }
 
-    /// Its first field.
+    /// The first field of the line.
     pub fn first(&self) -> &'a [u8]
         ensures { result.now ≡ self.now.first }
     {
         self.first
     }
 
-    /// Whether it is a comment.
+    /// Whether the line is a comment.
     pub fn is_comment(&self) -> bool
         ensures { result ≡ is_comment (line_of self.now).fields }
     {
@@ -64,7 +64,7 @@ impl<'a> FilledLine<'a> {
         Some(field)
     }
 
-    /// The lines after it.
+    /// The lines after this one.
     pub fn lines_after(&self) -> FilledLines<'a>
         ensures { result ≡ self.now.after }
     {

@@ -57,6 +57,7 @@ fn append_decimal(line: &mut Line, n: u64)
     append(line, &digits[begin..]);
 }
 
+/// Appends the line that names the program.
 pub(crate) fn append_program(line: &mut Line, program: Program)
     requires { line.old.items ≡ [] }
     ensures { line.new.items ≡ program_line program }
@@ -66,6 +67,7 @@ pub(crate) fn append_program(line: &mut Line, program: Program)
     append(line, b"\n");
 }
 
+/// Appends the line of the start time, which a mapfile of ddrescue alone has.
 pub(crate) fn append_start(line: &mut Line, heading: &Heading)
     requires { line.old.items ≡ [] }
     ensures { line.new.items ≡ start_line heading.now.program heading.now.start_s }
@@ -80,6 +82,7 @@ pub(crate) fn append_start(line: &mut Line, heading: &Heading)
     }
 }
 
+/// Appends the line of the current time, which a mapfile of ddrescue alone has.
 pub(crate) fn append_now(line: &mut Line, heading: &Heading)
     requires { line.old.items ≡ [] }
     ensures { line.new.items ≡ now_line heading.now.program heading.now.now_s }
@@ -94,6 +97,7 @@ pub(crate) fn append_now(line: &mut Line, heading: &Heading)
     }
 }
 
+/// Appends the status line.
 pub(crate) fn append_state(line: &mut Line, state: MapState)
     requires { line.old.items ≡ [] }
     ensures { line.new.items ≡ state_line state }
@@ -106,6 +110,7 @@ pub(crate) fn append_state(line: &mut Line, state: MapState)
     append(line, b"\n");
 }
 
+/// Appends the line of a block.
 pub(crate) fn append_block(line: &mut Line, block: Block)
     requires { line.old.items ≡ [] }
     ensures { line.new.items ≡ block_line block }

@@ -22,7 +22,7 @@ pub enum Current {
 }
 
 impl Current {
-    /// The character that a mapfile has for it.
+    /// The character that a mapfile has for what the program was doing.
     pub fn symbol(self) -> u8
         ensures { result ≡ current_symbol self }
     {

@@ -1,3 +1,4 @@
+-- What a folder is after a call that changes it.
 use Rattle.std.proofs.Common.{◌≡◌, ℕ, Bool, true, false, cond, List, ◌++◌, Option, Some, None, Result, Ok, Err, OnErr, refl, sym, ◌∙◌, ap}
 use Rattle.crash_site.specs.declared.site.ImageKind.TheVariants.{Regular, Other}
 use Rattle.crash_site.specs.Files.{File, bytes_of, put, written_file}

@@ -1,3 +1,4 @@
+-- Files in memory follow what was told of them, call by call.
 use Rattle.std.proofs.Common.{◌≡◌, inl, inr, ℕ, Bool, true, false, List, [], ◌∷◌, ◌++◌, Option, Some, None, is_some, Result, Ok, Err, IfOk, OnOk, OnErr, IsErr, refl, sym, ◌∙◌, ap, subst}
 use Rattle.std.specs.Bool.{⊤}
 use Rattle.crash_site.specs.Files.{File, empty_file, bytes_of, put, written_file}

@@ -1,3 +1,4 @@
+-- The files that a list of places holds, by name: after a change of one place, and after one more place.
 use Rattle.std.proofs.Common.{◌≡◌, ℕ, ◌<◌, Bool, true, false, cond, List, [], ◌∷◌, ◌++◌, length, get_or, map, Option, Some, None, MatchOption, option_copied, Bor, refl, sym, ◌∙◌, ap, zero, suc, arith, inl, inr, length-append}
 use Rattle.std.proofs.Math.ListN.{set}
 use Rattle.std.proofs.lemmas.List.{get_or-set_same, get_or-set_other, length-set, get_or_append_left, get_or_at}

@@ -10,5 +10,6 @@ pub record Follows (current told : Folder) : Type 0 where
   pub image : (n : List ℕ) → current.image ≡ Some n → told.image ≡ Some n
   pub draft : (n : List ℕ) → current.draft ≡ Some n → told.draft ≡ Some n
 
+-- any two proofs that files follow are equal
 pub Follows-prop : (a b : Folder) → IsProp (Follows a b)
 Follows-prop a b = hlevel props

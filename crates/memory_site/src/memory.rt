@@ -125,7 +125,7 @@ impl MemorySite {
         self.folder.draft.is_some()
     }
 
-    /// How many calls it lists.
+    /// How many calls the site lists.
     pub fn made(&self) -> usize
         ensures { result ≡ length (state_of self.now).calls }
     {

@@ -1,3 +1,4 @@
+-- The entries of a journal are told by the reads that they stand for.
 use Rattle.std.proofs.Common.{◌≡◌, ℕ, ◌+◌, ◌-◌, ◌≤◌, List, [], ◌∷◌, length, map, take, drop, All, refl, ap, arith, length-take, length-drop}
 use Rattle.std.proofs.lemmas.List.Elements.{All-head, All-tail}
 use Rattle.faulty_source.specs.declared.journal.ReadEntry.{ReadEntry}

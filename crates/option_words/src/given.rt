@@ -52,7 +52,7 @@ pub fn last_of(table: &OptionTable, words: &Words, letter: char, items: &[Item])
     last
 }
 
-/// The text of its value.
+/// The text of the value of the last option of a letter.
 pub fn last_value<'a>(
     table: &OptionTable,
     words: &'a Words,

@@ -36,7 +36,7 @@ pub fn readings_depend_on_meanings()
     ensures { ReadingDependsOnMeanings }
 {}
 
-/// Nor do their faults.
+/// The faults of words depend on nothing of the rows but their letters, their names and whether they take values.
 pub fn faults_depend_on_meanings()
     ensures { FaultDependsOnMeanings }
 {}

@@ -13,7 +13,7 @@ pub fn last_option_counts()
     ensures { LastCounts }
 {}
 
-/// Where none is given, none counts.
+/// Where no option of a letter is given, none counts.
 pub fn none_counts_where_none_is_given()
     ensures { NoneCounts }
 {}

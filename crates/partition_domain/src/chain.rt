@@ -22,9 +22,9 @@ pub struct Chain {
     pub base: u32,
     /// The sector of the record that comes next.
     pub at: u64,
-    /// How many partitions the records before it gave.
+    /// How many partitions the records before that one gave.
     pub given: u64,
-    /// How many records there are before it.
+    /// How many records there are before that one.
     pub read: u64,
 }
 

@@ -14,14 +14,14 @@ pub enum Refusal {
     NoSignature { sector: u64 },
     /// The table protects a disk that has another kind of partition table.
     Protective,
-    /// There is no such partition.
+    /// The disk has no partition of the number that is asked for.
     NoPartition,
     /// The chain of records is longer than any chain may be, and none of them gives the partition.
     ChainTooLong,
 }
 
 impl Refusal {
-    /// Adds its text to a message.
+    /// Adds the refusal's text to a message.
     pub fn add_to(self, message: &mut Message)
         requires { array_vec_len message.old ≤ 20 }
         ensures text { message.new.items ≡ message.old.items ++ (said_of self).1 }

@@ -44,28 +44,28 @@ pub struct Partition {
 pub(crate) type Table = [TableEntry; 4];
 
 impl TableEntry {
-    /// Whether it is used.
+    /// Whether the entry is used.
     pub(crate) fn is_used(self) -> bool
         ensures { result ≡ is_used self }
     {
         self.kind != 0
     }
 
-    /// Whether it is for an extended partition.
+    /// Whether the entry is for an extended partition.
     pub(crate) fn is_extended(self) -> bool
         ensures { result ≡ is_extended self }
     {
         EXTENDED.contains(&self.kind)
     }
 
-    /// Whether it protects a disk that has a partition table of another kind.
+    /// Whether the entry protects a disk that has a partition table of another kind.
     pub(crate) fn is_protective(self) -> bool
         ensures { result ≡ is_protective self }
     {
         self.kind == PROTECTIVE
     }
 
-    /// The partition that it is for, where its first sector counts from sector 0 on.
+    /// The partition that the entry is for, where its first sector counts from sector 0 on.
     pub(crate) fn partition(self) -> Partition
         ensures is { result ≡ record { first = self.first; count = self.count } }
         ensures first { result.first < 2 ^ 34 }
@@ -77,7 +77,7 @@ impl TableEntry {
         }
     }
 
-    /// The partition that it is for, where its first sector counts from another one on.
+    /// The partition that the entry is for, where its first sector counts from another one on.
     pub(crate) fn partition_from(self, sector: u64) -> Partition
         requires { sector < 2 ^ 33 }
         ensures is { result ≡ record { first = sector + self.first; count = self.count } }
@@ -90,7 +90,7 @@ impl TableEntry {
         }
     }
 
-    /// The sector that it links to, which counts from a base on.
+    /// The sector that the entry links to, which counts from a base on.
     pub(crate) fn linked(self, base: u32) -> u64
         ensures is { result ≡ base + self.first }
         ensures near { result < 2 ^ 33 }

@@ -48,7 +48,7 @@ impl OpenInput {
         }
     }
 
-    /// Another hold of the same note.
+    /// A second holder of this note: each sees which input the other notes.
     pub fn share(&self) -> io::Result<OpenInput> {
         let noted = self.noted.clone()?;
         Ok(OpenInput { noted })

@@ -6,7 +6,7 @@ use std::os::unix::fs::{FileTypeExt, MetadataExt};
 /// The table of mounts.
 const MOUNTS: &str = "/proc/self/mountinfo";
 
-/// A line of the table.
+/// A line of the table of mounts.
 #[derive(Clone, Copy)]
 pub struct MountLine<'a> {
     /// The numbers of the device, as `8:1`.

@@ -39,7 +39,7 @@ pub trait Stage: Drop {
     ghost reached: { Reached };
 }
 
-/// Nothing is known yet.
+/// Nothing is known yet of what is gone from the domain.
 #[derive(Clone, Copy, Debug)]
 pub struct Copying;
 
@@ -233,14 +233,14 @@ impl<P: Stage, T: Tiles> Rescue<P, T> {
         &self.running.tiles
     }
 
-    /// The number of its pass, counted from 1 within the phase.
+    /// The number of the present pass, counted from 1 within the phase.
     pub fn pass(&self) -> u32
         ensures { result ≡ self.now.pass }
     {
         self.running.progress.pass
     }
 
-    /// The next request of its pass.
+    /// The next request of the present pass.
     #[inline(always)]
     pub fn next_request(&self) -> Option<Request>
         ensures some { IfSome result (λ q. IsRequest (setting_in self.now) self.now.machine q.pos (q.pos + q.len)) }
@@ -321,7 +321,7 @@ impl<T: Tiles> Model for Stopped<T> {
 }
 
 impl<T: Tiles> Stopped<T> {
-    /// Why it stopped.
+    /// Why the rescue stopped.
     pub fn stop(&self) -> Stop
         ensures { result ≡ self.now.stop }
     {

@@ -269,7 +269,7 @@ impl<T: Tiles> Running<T> {
         }
     }
 
-    /// The limit that it has met, if it has.
+    /// The limit that the run has met, if it has.
     fn limit(&self) -> Option<Limit>
         ensures { result ≡ limit_by (setting_in self.now) self.now.machine }
     {

@@ -31,7 +31,7 @@ pub fn find_up<T: Tiles>(live: Live<'_>, tiles: &T, from: u64, status: Status) -
     find_further_up(live, tiles, found.from, status)
 }
 
-/// The same search, part by part of the domain.
+/// The range that `find_up` finds, looked for part by part of the domain.
 #[inline(never)]
 fn find_further_up<T: Tiles>(live: Live<'_>, tiles: &T, from: u64, status: Status) -> Option<Range>
     ensures first { IfSome result (λ range.

@@ -18,6 +18,6 @@ pub struct Settings {
     pub skips: Skips,
     /// Which phases there are, and how their passes go.
     pub passes: Passes,
-    /// What may fail, and for how long, before it stops.
+    /// What may fail, and for how long, before the run stops.
     pub limits: Limits,
 }

@@ -9,7 +9,7 @@ pub struct Turn {
     pub given: u64,
     /// Whether all was given that was asked for.
     pub whole: bool,
-    /// Whether it was whole, and slow.
+    /// Whether the read was whole, and slow.
     pub slow: bool,
     /// Whether the input ended after what was given, which is then no failure.
     pub ended: bool,
@@ -31,7 +31,7 @@ impl Turn {
         !self.whole && !self.ended
     }
 
-    /// Whether it was whole, and not slow.
+    /// Whether the read was whole, and not slow.
     pub(crate) fn is_plain(&self) -> bool
         ensures whole { result ≡ true → self.now.whole ≡ true }
         ensures slow { result ≡ true → self.now.slow ≡ false }

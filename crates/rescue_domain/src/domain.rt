@@ -92,7 +92,7 @@ impl Domain {
         self.parts.retain_mut(|part| cut_to(part, first, end));
     }
 
-    /// Whether a position is in it.
+    /// Whether a position is in the domain.
     pub fn holds(&self, x: u64) -> bool
         ensures { result ≡ covers self.now x }
     {
@@ -131,9 +131,9 @@ impl Domain {
         })
     }
 
-    /// Whether a position is in it, and up to where, below a limit, the positions after it are like it. `near` says
-    /// where to look first, and then where this was found. Each value gives the same answer; from stretch to stretch
-    /// with one `near` a step takes constant time, and any other one a search by halves.
+    /// Whether a position is in the domain, and up to where, below a limit, the positions after it are like it. `near`
+    /// says where to look first, and then where this was found. Each value gives the same answer; from stretch to
+    /// stretch with one `near` a step takes constant time, and any other one a search by halves.
     pub fn stretch_at(&self, near: &mut usize, x: u64, limit: u64) -> Stretch
         requires { x < limit }
         ensures { IsStretchFrom (covers self.now) x limit result.inside result.to }
@@ -142,7 +142,7 @@ impl Domain {
         stretch_in(&self.parts, *near, x, limit)
     }
 
-    /// How many positions it has.
+    /// How many positions the domain has.
     pub fn size(&self) -> u64
         ensures count { IsSize (covers self.now) result }
         ensures bound { (x : ℕ) → IsIn (covers self.now) x → x < 2 ^ 64 }

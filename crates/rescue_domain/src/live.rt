@@ -18,7 +18,7 @@ pub struct Live<'a> {
 impl Live<'_> {
     ghost use Rattle.rescue_domain.specs.Live.{lives};
 
-    /// Whether a position is among them.
+    /// Whether a position is live: in the domain, and before the end.
     pub fn holds(self, x: u64) -> bool
         ensures { result ≡ lives self.entry x }
     {
@@ -29,7 +29,7 @@ impl Live<'_> {
         before && self.domain.holds(x)
     }
 
-    /// The first of them at or after `from`, and the end of those that follow it there.
+    /// The first live position at or after `from`, and the end of the live ones there.
     pub fn next_in(self, from: u64) -> Option<Range>
         ensures first { IfSome result (λ range. IsFirst (IsIn (lives self.entry)) from range.from) }
         ensures range { IfSome result (λ range. IsRangeUp (IsIn (lives self.entry)) range.from range.to) }
@@ -46,7 +46,7 @@ impl Live<'_> {
         }
     }
 
-    /// The greatest end at or before `before` right below which one of them lies, and the start of those there.
+    /// The greatest end at or before `before` right below which a live position lies, and where the live ones begin.
     pub fn last_in(self, before: u64) -> Option<Range>
         ensures last { IfSome result (λ range. IsLast (IsIn (lives self.entry)) before range.to) }
         ensures range { IfSome result (λ range. IsRangeDown (IsIn (lives self.entry)) range.from range.to) }

@@ -84,7 +84,7 @@ impl<'a> Cursor<'a> {
         value
     }
 
-    /// The same with a number below 2^64.
+    /// Reads a number below 2^64, and a piece after it that begins with no digit.
     pub(crate) fn read_number(&mut self, after: &str) -> u64
         requires { begins_plain after.now ≡ true }
         ensures { StripsNumber (2 ^ 64) after.now result self.old self.new }

@@ -17,7 +17,7 @@ pub enum Head {
     Last { done: bool },
 }
 
-/// How such a line begins, by its first bytes.
+/// How a line of a rescue begins, by its first bytes.
 #[derive(Clone, Copy)]
 enum Start {
     InPhase(Current),
@@ -37,7 +37,7 @@ pub struct Figures {
     pub errors: u64,
     /// How long the run has taken.
     pub seconds: u64,
-    /// How many bytes a second it has written.
+    /// How many bytes a second the run has written.
     pub rate: u128,
 }
 

@@ -28,6 +28,6 @@ pub struct Report {
     pub errors: u64,
     /// How long the run has taken, in milliseconds.
     pub taken: u64,
-    /// How many bytes it has written.
+    /// How many bytes the run has written.
     pub written: u64,
 }

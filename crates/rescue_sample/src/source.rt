@@ -81,7 +81,7 @@ impl SampleSource {
         })
     }
 
-    /// Gives `count` of its bytes from a position on.
+    /// Gives `count` of the sample's bytes from a position on.
     fn give(&self, pos: u64, count: usize, buf: &mut [u8])
         requires fits { count ≤ length buf.old }
         requires place { pos + count < 2 ^ 63 }

@@ -1,3 +1,4 @@
+-- Bad ranges stay separate with one more after them.
 use Rattle.std.proofs.Common.{◌≡◌, ◌≤◌, ◌<◌, ℕ, List, [], ◌∷◌, ◌++◌, refl, arith}
 use Rattle.faulty_source.specs.declared.bad_range.BadRange.{BadRange}
 use Rattle.faulty_source.specs.Memory.{AreSeparate}

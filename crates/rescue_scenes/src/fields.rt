@@ -21,10 +21,12 @@ pub(crate) struct Fields<'a> {
 }
 
 impl<'a> Fields<'a> {
+    /// The fields of a line, from its first byte on.
     pub(crate) fn new(alloc: Global, line: &'a [u8]) -> Fields<'a> {
         Fields { alloc, rest: line }
     }
 
+    /// What the memory for the fields is taken from.
     pub(crate) fn allocator(&self) -> Global {
         self.alloc
     }

@@ -43,7 +43,7 @@ pub(crate) struct Scene {
     silent: Vec<u64>,
     /// What the next run of ddrescuelog takes from its feed.
     feed: Vec<u8>,
-    /// The takes of that feed that fail.
+    /// The takes of the feed that fail.
     unread: Vec<u64>,
     /// How many bytes it has stated.
     bytes: usize,
@@ -117,6 +117,7 @@ impl Scene {
         Ok(())
     }
 
+    /// States the input's bytes, unless the scene states too many.
     pub(crate) fn set_source(&mut self, bytes: Vec<u8>) -> Result<(), Refusal> {
         self.count_bytes(bytes.len())?;
         self.stated.set_bytes(bytes);
@@ -124,24 +125,28 @@ impl Scene {
         Ok(())
     }
 
+    /// Lets reads meet the end at this position, which lies within the input's bytes.
     pub(crate) fn set_end(&mut self, at: u64) -> Result<(), Refusal> {
         self.stated.set_end(at)?;
         self.source = None;
         Ok(())
     }
 
+    /// Adds a bad range past the others.
     pub(crate) fn add_bad(&mut self, range: BadRange) -> Result<(), Refusal> {
         self.stated.add_bad(range)?;
         self.source = None;
         Ok(())
     }
 
+    /// Sets how many reads the journal holds, unless these are too many.
     pub(crate) fn set_room(&mut self, room: usize) -> Result<(), Refusal> {
         self.stated.set_room(room)?;
         self.source = None;
         Ok(())
     }
 
+    /// Has the calls of an object with these numbers fail.
     pub(crate) fn fail_calls(&mut self, object: Object, numbers: &[u64]) -> Result<(), Refusal> {
         match object {
             Object::Source => {
@@ -161,12 +166,14 @@ impl Scene {
         }
     }
 
+    /// States what the next run of ddrescuelog takes from its feed.
     pub(crate) fn set_feed(&mut self, bytes: Vec<u8>) -> Result<(), Refusal> {
         self.count_bytes(bytes.len())?;
         self.feed = bytes;
         Ok(())
     }
 
+    /// Sets the readings of the clock of each later run.
     pub(crate) fn set_clock(&mut self, readings: Vec<u64>) {
         self.clock = readings;
     }
@@ -178,6 +185,7 @@ impl Scene {
         Ok(())
     }
 
+    /// Puts a file there, unless the scene has too many files or states too many bytes then.
     pub(crate) fn put_file(
         &mut self,
         name: &str,

@@ -59,7 +59,7 @@ impl BadRanges {
         Ok(())
     }
 
-    /// The ranges, once more.
+    /// A copy of the ranges.
     fn copy(&self, alloc: Global) -> Result<Vec<BadRange>, Refusal>
         ensures same { IfOk result (λ ranges. ranges.items ≡ self.now) }
         ensures apart { IfOk result (λ ranges. AreSeparate 0 ranges.items) }
@@ -91,12 +91,13 @@ impl Stated {
         }
     }
 
+    /// Sets the input's bytes. Reads meet the end where these end.
     pub(crate) fn set_bytes(&mut self, bytes: Vec<u8>) {
         self.bytes = bytes;
         self.end = None;
     }
 
-    /// The end lies within the bytes.
+    /// Lets reads meet the end at this position, which lies within the bytes.
     pub(crate) fn set_end(&mut self, at: u64) -> Result<(), Refusal> {
         if at > self.bytes.len() as u64 {
             return Err(Refusal::NotUnderstood);
@@ -105,10 +106,12 @@ impl Stated {
         Ok(())
     }
 
+    /// Adds a bad range past the others.
     pub(crate) fn add_bad(&mut self, range: BadRange) -> Result<(), Refusal> {
         self.bad.push(range)
     }
 
+    /// Sets how many reads the journal holds, unless these are too many.
     pub(crate) fn set_room(&mut self, room: usize) -> Result<(), Refusal> {
         if room > ROOM_LIMIT {
             return Err(Refusal::NotUnderstood);
@@ -117,12 +120,13 @@ impl Stated {
         Ok(())
     }
 
+    /// Has the source's calls with these numbers fail.
     pub(crate) fn fail_calls(&mut self, numbers: &[u64]) -> Result<(), Refusal> {
         self.failing.extend_from_slice(numbers)?;
         Ok(())
     }
 
-    /// A new source of all this.
+    /// A new source of what is stated.
     pub(crate) fn make_source(&self, alloc: Global) -> Result<MemorySource, Refusal> {
         let bytes = Vec::from_slice(alloc, self.bytes.as_slice())?;
         let bad = self.bad.copy(alloc)?;

@@ -19,7 +19,7 @@ pub enum Advice {
     /// The mapfile is absent, though the outfile isn't empty.
     NewMapfile { length: u64 },
     LinkedMapfile,
-    /// Its file system has no journal.
+    /// The mapfile's file system has no journal.
     UnsafeMapfile,
     /// There is nothing yet that could be filled.
     NewOutfile,
@@ -126,7 +126,7 @@ fn last_of(finished: Option<Finished>) -> Option<u64>
     }
 }
 
-/// Where its last finished block ends, if that is known.
+/// Where the last finished block of a mapfile ends, if that is known.
 fn finished_of(map: Option<MapText>) -> Option<u64>
     ensures { result ≡ finished_of map }
 {
@@ -146,7 +146,7 @@ fn is_new(map: Option<MapText>) -> bool
     }
 }
 
-/// Whether it is known to list no block.
+/// Whether a mapfile is known to list no block.
 fn lists_nothing(map: Option<MapText>) -> bool
     ensures { result ≡ lists_nothing map }
 {
@@ -485,7 +485,7 @@ fn empty_domain(facts: &Facts) -> Option<Advice>
     Some(Advice::EmptyDomain)
 }
 
-/// Those that are due.
+/// The warnings that are due, of each kind one or none.
 fn collect(kinds: &[Option<Advice>]) -> Advices
     requires { length kinds.now ≤ 19 }
     ensures { result.items ≡ somes kinds.now }

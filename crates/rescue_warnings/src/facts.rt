@@ -60,7 +60,7 @@ pub struct Facts {
     pub work: Work,
     /// Where the work begins in the infile, in bytes.
     pub input_position: u64,
-    /// Where it begins in the outfile.
+    /// Where the work begins in the outfile, in bytes.
     pub output_position: u64,
     /// The most bytes that are asked for, if an option says so.
     pub size: Option<u64>,
@@ -72,7 +72,7 @@ pub struct Facts {
     pub complete_only: bool,
     /// Only what is finished in another map is asked for.
     pub domain_map: bool,
-    /// The text of that map.
+    /// The text of the map of what is asked for.
     pub domain: Option<MapText>,
     /// Each bad sector is read by itself: nothing leaves out trimming or scraping.
     pub scrapes: bool,

@@ -21,7 +21,7 @@ pub enum Resumed {
     Map(ReadMap),
 }
 
-/// Makes the mapfile and the open image durable as they read. Or the call that failed.
+/// Makes the mapfile and the open image durable as they read, or answers the call that failed.
 fn make_durable<D: Site>(site: &mut D, names: &Names) -> Result<(), SiteCall>
     ensures made { OnOk result (Makes (barrier_calls names.now) (D.state site.old) (D.state site.new)) }
     ensures broke { IfErr result (λ call. Breaks call (barrier_calls names.now) (D.state site.old) (D.state site.new)) }

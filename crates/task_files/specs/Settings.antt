@@ -1,4 +1,4 @@
--- How the run of a rescue goes, by what the objects tell.
+-- What options ask of a run, and the line before it.
 use Rattle.std.specs.Prelude.{ℕ, List, [], ◌∷◌, Option, Some, None}
 use Rattle.rescue_core.specs.declared.settings.Settings.{Settings}
 use Rattle.ddrescue_words.specs.declared.options.Options.{Options}

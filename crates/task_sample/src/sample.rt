@@ -32,7 +32,7 @@ use task_files::opening::say_line;
 use task_rescue::ready::{begin, make_ready};
 use task_rescue::run::run_phases;
 
-/// The command line that the saved maps of such a rescue show.
+/// The command line that the saved maps of a sample's rescue show.
 const COMMAND_LINE: &str = "ddrescue -r 1 in out map";
 
 /// How much of a domain is finished in a map, and how much of it failed.

@@ -88,7 +88,7 @@ impl Unlanded {
         self.range
     }
 
-    /// Spends it with no mark in a map.
+    /// Spends the token with no mark in a map.
     pub fn set_aside(self) -> Range
         ensures range { result ≡ self }
         ensures some { self.from < self.to }
@@ -123,7 +123,7 @@ impl Missed {
         self.range
     }
 
-    /// Spends it with no mark in a map.
+    /// Spends the token with no mark in a map.
     pub fn set_aside(self) -> Range
         ensures range { result ≡ self }
         ensures some { self.from < self.to }

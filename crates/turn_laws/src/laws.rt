@@ -20,7 +20,7 @@ pub fn a_run_stays_safe()
     ensures { RunStaysSafe }
 {}
 
-/// At each stop of those calls, and of the calls of the run's end, what is held is held.
+/// At each stop of a safe run's calls, and of the calls of the run's end, what is held is held.
 pub fn a_run_is_held()
     ensures { RunIsHeld }
 {}
@@ -55,7 +55,7 @@ pub fn a_phase_stays_safe()
     ensures { PhaseStaysSafe }
 {}
 
-/// At each stop within them what is held is held.
+/// At each stop within whole turns of a safe run what is held is held.
 pub fn a_phase_is_held()
     ensures { PhaseIsHeld }
 {}
@@ -65,7 +65,7 @@ pub fn stopped_turns_stay_safe()
     ensures { StoppedTurnsStaySafe }
 {}
 
-/// At each stop within them, wherever they stopped, what is held is held.
+/// At each stop within turns up to one that stopped, wherever they stopped, what is held is held.
 pub fn stopped_turns_are_held()
     ensures { StoppedTurnsAreHeld }
 {}
@@ -80,37 +80,37 @@ pub fn what_is_safe_now_is_safe()
     ensures { NowIsSafe }
 {}
 
-/// Files that are durable as they read stand so when a run begins.
+/// Files that are durable as they read are as `IsSafeNow` says when a run begins.
 pub fn a_run_begins_safe_now()
     ensures { RestIsSafeNow }
 {}
 
-/// Events with all their calls leave them so.
+/// Events with all their calls leave the files as `IsSafeNow` says.
 pub fn a_run_stays_safe_now()
     ensures { RunStaysSafeNow }
 {}
 
-/// A whole turn leaves them so.
+/// A whole turn leaves the files as `IsSafeNow` says.
 pub fn a_turn_stays_safe_now()
     ensures { TurnStaysSafeNow }
 {}
 
-/// A turn that stopped leaves them so, also at a call on the files that failed.
+/// A turn that stopped leaves the files as `IsSafeNow` says, also at a call on the files that failed.
 pub fn a_halted_turn_stays_safe_now()
     ensures { HaltedStaysSafeNow }
 {}
 
-/// The whole turns of a phase leave them so.
+/// The whole turns of a phase leave the files as `IsSafeNow` says.
 pub fn a_phase_stays_safe_now()
     ensures { PhaseStaysSafeNow }
 {}
 
-/// Turns up to one that stopped leave them so, for whatever cause it stopped.
+/// Turns up to one that stopped leave the files as `IsSafeNow` says, for whatever cause it stopped.
 pub fn stopped_turns_stay_safe_now()
     ensures { StoppedStaysSafeNow }
 {}
 
-/// The last save leaves them so, whole or stopped at whatever call.
+/// The last save leaves the files as `IsSafeNow` says, whole or stopped at whatever call.
 pub fn a_close_stays_safe_now()
     ensures { CloseStaysSafeNow }
 {}
@@ -136,12 +136,12 @@ pub fn a_run_under_way_ends_well()
     ensures { UnderWayEndsWell }
 {}
 
-/// From a run's own start on, that is what a whole run leaves.
+/// A run that ends well since its own start ends well as a whole run.
 pub fn what_is_well_since_the_start_is_well()
     ensures { SinceStartIsWell }
 {}
 
-/// Whole turns from where it is under way, to past the last phase, and the close after them leave no request, each
+/// Whole turns of a run that is under way, to past the last phase, and the close after them leave no request, each
 /// position left well, and the last map saved.
 pub fn phases_end_well()
     ensures { PhasesEndWell }
@@ -152,7 +152,7 @@ pub fn a_done_run_ends_well()
     ensures { DoneEndsWell }
 {}
 
-/// One that stopped, but not at a call on the files, saved its map as it was.
+/// A whole run that stopped, but not at a call on the files, saved its map as it was.
 pub fn a_stopped_run_is_saved()
     ensures { StoppedIsSaved }
 {}
@@ -162,18 +162,18 @@ pub fn a_whole_run_is_held()
     ensures { WholeRunIsHeld }
 {}
 
-/// The mapfile found then is one that the run saved, or the one that it began with, and it is no older than the last
-/// save that returned.
+/// The mapfile found at a stop within a whole run is one that the run saved, or the one that it began with, and it is
+/// no older than the last save that returned.
 pub fn a_whole_run_is_kept()
     ensures { WholeRunIsKept }
 {}
 
-/// A run whose earlier passes are spent may begin those that are left of them, and is past that phase then.
+/// A run whose passes up to a phase's end are spent may begin those that are left of them, and is past the phase then.
 pub fn spent_passes_lead_past()
     ensures { SpentLeadsPast }
 {}
 
-/// By what its type knows, a run that is in copying still may be handed so to the phase that takes its type.
+/// By what its type knows, a run that is in copying still may be handed to the phase that takes its type.
 pub fn a_typed_run_leads_past()
     ensures { TypedLeadsPast }
 {}

@@ -41,11 +41,13 @@ impl OpenDraft {
         })
     }
 
+    /// Adds a piece at the draft's end.
     pub fn append(&self, piece: &[u8]) -> io::Result<()> {
         let mut file = &self.file;
         put(&mut file, piece)
     }
 
+    /// Makes the draft's bytes durable.
     pub fn sync(&self) -> io::Result<()> {
         self.file.sync_all()
     }

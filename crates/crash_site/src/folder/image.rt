@@ -25,6 +25,7 @@ pub(super) struct OpenImage {
 }
 
 impl OpenImage {
+    /// Whether the image is a regular file or something else.
     pub fn kind(&self) -> ImageKind
         ensures { is_absent result ≡ false }
     {

@@ -66,6 +66,7 @@ pub(crate) struct CallLog {
 }
 
 impl CallLog {
+    /// No call, and none that is to fail.
     pub(crate) fn new(alloc: Global) -> CallLog
         ensures entries { entries_of result ≡ [] }
         ensures schedule { result.schedule ≡ no_schedule }
@@ -80,6 +81,7 @@ impl CallLog {
         }
     }
 
+    /// Has the call with this number fail, counted from 1 over all calls.
     pub(crate) fn fail_call(&mut self, number: u64) -> Result<(), AllocError>
         ensures schedule { OnOk result (self.new.schedule ≡ with_failing number self.old.schedule) }
         ensures same { OnErr result (self.new.schedule ≡ self.old.schedule) }

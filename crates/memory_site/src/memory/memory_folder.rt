@@ -70,6 +70,7 @@ pub(crate) fn fits(pos: usize, len: usize) -> bool
 }
 
 impl MemoryFolder {
+    /// A folder without files, with no image open and no draft begun.
     pub(crate) fn new(alloc: Global) -> MemoryFolder
         ensures files { (n : List ℕ) → (folder_of result).files n ≡ None }
         ensures image { (folder_of result).image ≡ None }
@@ -83,6 +84,7 @@ impl MemoryFolder {
         }
     }
 
+    /// A copy of the folder, with copies of its files.
     pub(crate) fn copy(&self) -> Result<MemoryFolder, AllocError>
         ensures { IfOk result (λ copied. folder_of copied ≡ folder_of self.now) }
     {
@@ -109,6 +111,7 @@ impl MemoryFolder {
         }
     }
 
+    /// Reads the file that has a name, from a place on.
     pub(crate) fn read(&self, name: &[u8], pos: u64, buf: &mut [u8]) -> MapRead
         requires { 0 < length buf.old }
         ensures count { IsWithin result (length buf.old) }
@@ -142,6 +145,7 @@ impl MemoryFolder {
         let _ = take_file(&mut self.places, name);
     }
 
+    /// Whether a file has a name.
     pub(crate) fn has(&self, name: &[u8]) -> bool
         ensures { result ≡ is_some ((folder_of self.now).files name.now) }
     {
@@ -176,6 +180,7 @@ impl MemoryFolder {
         Ok(())
     }
 
+    /// Opens the file that has a name as the image, and makes an absent one if that is asked for.
     pub(crate) fn open(&mut self, name: &[u8], make: bool) -> Result<ImageKind, AllocError>
         ensures kind { IfOk result (λ kind. kind ≡ kind_of ((folder_of self.old).files name.now) make) }
         ensures opened { OnOk result (folder_of self.new
@@ -220,6 +225,7 @@ impl MemoryFolder {
         self.places[i].write(self.alloc, pos, piece)
     }
 
+    /// Begins an empty draft under a name. A file that had the name is lost.
     pub(crate) fn begin(&mut self, name: &[u8]) -> Result<(), AllocError>
         ensures begun { OnOk result (folder_of self.new ≡ after_done (folder_of self.old) (draft_begin name.now)) }
         ensures same { OnErr result (folder_of self.new ≡ folder_of self.old) }
@@ -231,6 +237,7 @@ impl MemoryFolder {
         Ok(())
     }
 
+    /// Adds a piece at the begun draft's end.
     pub(crate) fn append(&mut self, piece: &[u8]) -> Result<(), AllocError>
         requires { IsSome self.old.draft }
         ensures appended { OnOk result (folder_of self.new

@@ -81,6 +81,7 @@ impl NamedFile {
         });
     }
 
+    /// Writes at a place of the file. An absent file is made, as a regular one.
     pub(crate) fn write(
         &mut self,
         alloc: Global,
@@ -204,6 +205,7 @@ pub(crate) fn take_file(places: &mut Vec<NamedFile>, name: &[u8]) -> Option<Memo
     places[i].file.take()
 }
 
+/// A copy of all places, with copies of their files.
 pub(crate) fn copy_places(alloc: Global, places: &[NamedFile]) -> Result<Vec<NamedFile>, AllocError>
     ensures { IfOk result (λ copied. files_of copied.items ≡ files_of places.now) }
 {

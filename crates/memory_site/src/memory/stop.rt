@@ -201,7 +201,7 @@ fn publish(
     left.put(name, file)
 }
 
-/// An empty file is put there.
+/// An empty file is put under a name.
 fn begin(left: &mut MemoryFolder, alloc: Global, name: &[u8]) -> Result<(), AllocError>
     ensures { OnOk result ((folder_of left.new).files ≡ put (folder_of left.old).files name.now (Some empty_file)) }
 {
