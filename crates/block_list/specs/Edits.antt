@@ -1,4 +1,5 @@
 -- What an edit of a block list changes: a cut, a join with a neighbor, and a boundary that moves.
+-- For contracts and proofs: no promise uses it.
 use Rattle.std.specs.Prelude.{◌≡◌, ℕ, ◌+◌, ◌-◌, ◌<◌, ◌≤◌, ◌^◌, ◌++◌, List, [], ◌∷◌, length, take, drop, slice_get, slice_set, Some}
 use Rattle.std.specs.List.{flat_map, insert}
 use Rattle.block_list.specs.declared.block.Block.{Block}

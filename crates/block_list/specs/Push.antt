@@ -1,4 +1,4 @@
--- When a block can be added at the end of a map, and why it can't.
+-- When a block can be added at the end of a map, and why it can't. For contracts and proofs: no promise uses it.
 use Rattle.std.specs.Prelude.{ℕ, ◌+◌, ◌-◌, ◌<◌, ◌^◌, List, length, Option, Some, None, nat_lt, nat_le, if◌then◌else◌}
 use Rattle.block_list.specs.declared.status.Status.{Status}
 use Rattle.block_list.specs.declared.plain_tiles.PushError.{PushError}

@@ -1,4 +1,4 @@
--- Blocks that follow one another, as their ends and statuses.
+-- Blocks that follow one another, as their ends and statuses. For contracts and proofs: no promise uses it.
 use Rattle.std.specs.Prelude.{◌≡◌, ℕ, ◌-◌, List, [], ◌∷◌, length, min, vec_capacity}
 use Rattle.block_list.specs.declared.block.Block.{Block}
 use Rattle.block_list.specs.declared.status.Status.{Status}

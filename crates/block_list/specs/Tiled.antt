@@ -1,4 +1,4 @@
--- What a block list stands for.
+-- What a block list stands for. For contracts and proofs: no promise uses it.
 use Rattle.std.specs.Prelude.{ℕ, List, Option, Some, None}
 use Rattle.block_list.specs.declared.status.Status.{Status}
 

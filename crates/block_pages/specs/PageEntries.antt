@@ -1,4 +1,4 @@
--- What the entry of a page says.
+-- What the entry of a page says. For contracts and proofs: no promise uses it.
 use Rattle.std.specs.Prelude.{◌≡◌, ℕ, ◌≤◌, List, length, slice_index_or, count_by}
 use Rattle.std.specs.List.{flat_map}
 use Rattle.block_list.specs.declared.block.Block.{Block}

@@ -1,4 +1,4 @@
--- What a search in a page finds.
+-- What a search in a page finds. For contracts and proofs: no promise uses it.
 use Rattle.std.specs.Prelude.{◌≡◌, ℕ, ◌+◌, ◌<◌, ◌≤◌, List, length, slice_get, slice_index_or, Some}
 use Rattle.block_list.specs.declared.block.Block.{Block}
 use Rattle.block_list.specs.declared.status.Status.{Status}

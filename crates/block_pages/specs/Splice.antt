@@ -1,4 +1,4 @@
--- Blocks that come in the place of others.
+-- Blocks that come in the place of others. For contracts and proofs: no promise uses it.
 use Rattle.std.specs.Prelude.{ℕ, List, ◌++◌, take, drop}
 use Rattle.block_list.specs.declared.block.Block.{Block}
 

@@ -1,4 +1,4 @@
--- How many positions have each status.
+-- How many positions have each status. For contracts and proofs: no promise uses it.
 use Rattle.std.specs.Prelude.{ℕ}
 use Rattle.block_list.specs.declared.status.Status.{Status}
 use Rattle.block_list.specs.declared.status.Status.TheVariants.{NonTried, NonTrimmed, NonScraped, BadSector, Finished}

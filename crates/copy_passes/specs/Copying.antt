@@ -1,4 +1,4 @@
--- A run between two turns of copying.
+-- A run between two turns of copying. For contracts, laws and proofs: no promise uses it.
 use Rattle.std.specs.Prelude.{◌≡◌, ℕ, ◌≤◌, true, None}
 use Rattle.rescue_rules.specs.declared.stop.TrimMode.TheVariants.{Lead}
 use Rattle.rescue_rules.specs.declared.phase.Phase.TheVariants.{Copying}

@@ -1,4 +1,5 @@
 -- Whole turns of a run, by what the objects tell, and a turn that stopped after them.
+-- For contracts, laws and proofs: no promise uses it.
 use Rattle.std.specs.Prelude.{◌≡◌, ◌+◌, true, false, IsTrue, List, All, Result, IfOk, IfErr, OnOk, None}
 use Rattle.faulty_source.specs.Journal.{IsFrom}
 use Rattle.faulty_source.specs.SourceState.{SourceState}

@@ -1,4 +1,4 @@
--- What holds of a disk at every stop along the calls of a record.
+-- What holds of a disk at every stop along the calls of a record. For contracts and proofs: no promise uses it.
 use Rattle.std.specs.Prelude.{◌≡◌, ⊤, List, [], ◌∷◌}
 use Rattle.crash_site.specs.Calls.{Call, Entry, Done, Failed}
 use Rattle.crash_site.specs.Disk.{Disk, entered}

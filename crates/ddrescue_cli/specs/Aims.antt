@@ -1,4 +1,5 @@
 -- What a command's files are for: the task, the mapfile that it wants, and the work after the words.
+-- For contracts and proofs: no promise uses it.
 use Rattle.std.specs.Prelude.{◌≡◌, ⊤, true, is_some, ℕ, Bool, List}
 use Rattle.ddrescue_words.specs.Command.{Command, Task, Rescue, Fill, Generate}
 use Rattle.ddrescue_cli.specs.declared.aim.Aim.{Aim}

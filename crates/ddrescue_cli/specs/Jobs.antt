@@ -1,4 +1,5 @@
 -- What the words of a call ask for once they are checked, and how a call ends that does nothing.
+-- For contracts and proofs: no promise uses it.
 use Rattle.std.specs.Prelude.{◌≡◌, ℕ, false, not, List, None}
 use Rattle.option_words.specs.Words.{command_line}
 use Rattle.rescue_rules.specs.Snapshots.{heading_at}

@@ -1,4 +1,5 @@
 -- What became of the files and of the feed after an answer of a mode that changes files.
+-- For contracts and proofs: no promise uses it.
 use Rattle.std.specs.Prelude.{◌≡◌, ℕ, false}
 use Rattle.crash_site.specs.SiteState.{SiteState}
 use Rattle.crash_site.specs.SiteChanges.{Keeps as SiteKeeps}

@@ -1,4 +1,5 @@
 -- How a map of listed blocks is made: what is checked before, how its list is taken, and what is saved.
+-- For contracts and proofs: no promise uses it.
 use Rattle.std.specs.Prelude.{◌≡◌, ◌⊎◌, ℕ, ◌<◌, ◌≤◌, Bool, true, false, IsTrue, List, [], ◌∷◌, ◌++◌, length, Option, Some, Result, Ok, Err}
 use Rattle.block_list.specs.declared.status.Status.{Status}
 use Rattle.block_list.specs.Tiled.{Tiled, statuses_in}

@@ -1,4 +1,4 @@
--- How a mapfile that is done is removed.
+-- How a mapfile that is done is removed. For contracts and proofs: no promise uses it.
 use Rattle.std.specs.Prelude.{◌≡◌, ℕ, IsTrue, List, ◌++◌}
 use Rattle.crash_site.specs.Calls.{Entry}
 use Rattle.crash_site.specs.SiteState.{SiteState}

@@ -1,4 +1,4 @@
--- What a whole command did, by what the objects tell.
+-- What a whole command did, by what the objects tell. For contracts and proofs: no promise uses it.
 use Rattle.std.specs.Prelude.{◌≡◌, ℕ, Bool, List}
 use Rattle.crash_site.specs.Calls.{Entry}
 use Rattle.rescue_console.specs.FeedState.{FeedState, Keeps as FeedKeeps}

@@ -1,4 +1,4 @@
--- The steps of a call that follows a rescue.
+-- The steps of a call that follows a rescue. For contracts and proofs: no promise uses it.
 use Rattle.std.specs.Prelude.{◌≡◌, ◌≢◌, ◌⊎◌, ℕ, ◌<◌, ◌≤◌, Bool, true, false, IsTrue, List, [], ◌∷◌, ◌++◌, take}
 use Rattle.rescue_console.specs.ConsoleState.{ConsoleState}
 use Rattle.rescue_console.specs.FeedState.{FeedState}

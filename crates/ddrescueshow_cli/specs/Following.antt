@@ -1,4 +1,4 @@
--- How a call that follows a rescue ends.
+-- How a call that follows a rescue ends. For contracts and proofs: no promise uses it.
 use Rattle.std.specs.Prelude.{◌≡◌, ◌≢◌, ℕ, Bool, true, false, List, [], codes}
 use Rattle.fault_count.specs.Counts.{raised}
 use Rattle.rescue_console.specs.ConsoleState.{ConsoleState}

@@ -1,4 +1,5 @@
 -- What is put of the lines of a rescue that is followed, and how such a call goes.
+-- For contracts and proofs: no promise uses it.
 use Rattle.std.specs.Prelude.{◌≡◌, ◌≢◌, ◌⊎◌, ℕ, ◌<◌, ◌≤◌, ⊤, Bool, true, false, IsTrue, List, [], ◌∷◌, ◌++◌, length, map, None, if◌then◌else◌}
 use Rattle.std.specs.List.{All, flat_map}
 use Rattle.program_promise.specs.Saying.{SaysAs}

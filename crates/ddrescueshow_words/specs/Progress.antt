@@ -1,4 +1,4 @@
--- Whether the words ask to follow a rescue.
+-- Whether the words ask to follow a rescue. For contracts and proofs: no promise uses it.
 use Rattle.std.specs.Prelude.{ℕ, Bool, true, false, List, [], ◌∷◌, codes, if◌then◌else◌}
 use Rattle.std.specs.Str.{bytes_eq}
 

@@ -1,4 +1,5 @@
 -- The counts, and whether a draft is left begun, by what the work after the words came to.
+-- For contracts and proofs: no promise uses it.
 use Rattle.std.specs.Prelude.{◌≡◌, ⊤, Bool, false, Result, Ok, Err}
 use Rattle.faulty_source.specs.SourceState.{SourceState}
 use Rattle.crash_site.specs.SiteState.{SiteState}

@@ -1,4 +1,4 @@
--- How far an input is read ahead.
+-- How far an input is read ahead. For contracts and proofs: no promise uses it.
 use Rattle.std.specs.Prelude.{ℕ, ◌-◌, ◌&&◌, nat_le, if◌then◌else◌}
 use Rattle.real_files.specs.Ahead.{Ahead}
 

@@ -1,4 +1,5 @@
 -- What a read of a real file answers, by how far it came and why it ended there.
+-- For contracts and proofs: no promise uses it.
 use Rattle.std.specs.Prelude.{⊤, ℕ, nat_lt, if◌then◌else◌, Option, Some, None, Result, Ok, Err}
 use Rattle.std.specs.declared.io.Error.{Error}
 use Rattle.std.specs.IoError.{raw_os_error}

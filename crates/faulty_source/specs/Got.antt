@@ -1,4 +1,5 @@
 -- What a read answers: how many bytes it gave, and whether it met the input's end.
+-- For contracts and proofs: no promise uses it.
 use Rattle.std.specs.Prelude.{ℕ, Bool, true, false}
 use Rattle.faulty_source.specs.declared.source.Got.{Got}
 use Rattle.faulty_source.specs.declared.source.Got.TheVariants.{Read, End}

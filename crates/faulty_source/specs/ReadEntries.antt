@@ -1,4 +1,4 @@
--- What an entry of the list of reads says of a read.
+-- What an entry of the list of reads says of a read. For contracts and proofs: no promise uses it.
 use Rattle.std.specs.Prelude.{ℕ, ◌+◌, List, length, slice_range}
 use Rattle.faulty_source.specs.declared.journal.ReadEntry.{ReadEntry}
 use Rattle.faulty_source.specs.Journal.{Reading}

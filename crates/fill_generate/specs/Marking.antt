@@ -1,4 +1,4 @@
--- What generate mode marks, by the bytes that an output gave.
+-- What generate mode marks, by the bytes that an output gave. For contracts and proofs: no promise uses it.
 use Rattle.std.specs.Prelude.{ℕ, Bool, not, ◌&&◌, nat_eq, nat_le, nat_lt, List}
 use Rattle.block_list.specs.declared.status.Status.{Status}
 use Rattle.block_list.specs.declared.status.Status.TheVariants.{Finished}

@@ -1,4 +1,4 @@
--- The two kinds of sweep, and what each takes.
+-- The two kinds of sweep, and what each takes. For contracts and proofs: no promise uses it.
 use Rattle.std.specs.Prelude.{◌≡◌, ℕ, Bool, true, List}
 use Rattle.block_list.specs.declared.status.Status.{Status}
 use Rattle.block_list.specs.declared.status.Status.TheVariants.{NonTried}

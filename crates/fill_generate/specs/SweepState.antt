@@ -1,4 +1,4 @@
--- What is known of a sweep between its pieces.
+-- What is known of a sweep between its pieces. For contracts and proofs: no promise uses it.
 use Rattle.std.specs.Prelude.{ℕ, ◌+◌, Bool, List, length, Some}
 use Rattle.block_list.specs.declared.block.Range.{Range}
 use Rattle.block_list.specs.declared.status.Status.{Status}

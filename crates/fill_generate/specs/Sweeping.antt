@@ -1,4 +1,4 @@
--- What a sweep does, by what its objects tell.
+-- What a sweep does, by what its objects tell. For contracts and proofs: no promise uses it.
 use Rattle.std.specs.Prelude.{◌≡◌, ◌≢◌, ℕ, Bool, true, false, IsTrue, List, [], ◌∷◌, ◌++◌, map, Option, Some, is_none}
 use Rattle.fault_count.specs.Counts.{Rose}
 use Rattle.crash_site.specs.declared.site.SiteCall.{SiteCall}

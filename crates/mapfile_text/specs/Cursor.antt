@@ -1,4 +1,4 @@
--- A text that is taken line by line, and a line field by field.
+-- A text that is taken line by line, and a line field by field. For contracts and proofs: no promise uses it.
 use Rattle.std.specs.Prelude.{ℕ, not, List, ◌∷◌, length, filter, nat_eq}
 use Rattle.std.specs.List.{before_first, after_first}
 use Rattle.mapfile_text.specs.Lines.{Line, lines, numbered_lines, is_newline, is_comment}

@@ -1,4 +1,4 @@
--- What is left of a mapfile's text while it is printed part by part.
+-- What is left of a mapfile's text while it is printed part by part. For contracts and proofs: no promise uses it.
 use Rattle.std.specs.Prelude.{◌≡◌, ℕ, ◌-◌, List, [], ◌∷◌, ◌++◌, length, map, take, drop, codes}
 use Rattle.std.specs.List.{concat}
 use Rattle.std.specs.Fmt.{decimal}

@@ -1,4 +1,5 @@
 -- How a text is read: numbers cut at a limit, and what fills the places before a block.
+-- For contracts and proofs: no promise uses it.
 use Rattle.std.specs.Prelude.{ℕ, ◌-◌, ◌^◌, min, Bool, true, false, List, [], replicate}
 use Rattle.block_list.specs.declared.status.Status.{Status}
 use Rattle.block_list.specs.declared.status.Status.TheVariants.{NonTried}

@@ -1,4 +1,4 @@
--- What a clock, a console and a feed in memory tell of themselves.
+-- What a clock, a console and a feed in memory tell of themselves. For contracts and proofs: no promise uses it.
 use Rattle.std.specs.Prelude.{◌-◌, ◌^◌, true, map, drop, nat_lt}
 use Rattle.std.specs.List.{range_with_len}
 use Rattle.rescue_console.specs.ClockState.{ClockState, reading_at}

@@ -1,4 +1,4 @@
--- The record that a log of calls in memory stands for.
+-- The record that a log of calls in memory stands for. For contracts and proofs: no promise uses it.
 use Rattle.std.specs.Prelude.{List, map, Some, if◌then◌else◌}
 use Rattle.memory_site.specs.declared.memory.call_log.Act.{Act}
 use Rattle.memory_site.specs.declared.memory.call_log.Act.TheVariants.{ImageOpen, ImageRead, ImageWrite, ImageSync, MapRead, DraftBegin, DraftAppend, DraftSync, DraftPublish, MapSettle, MapRemove}

@@ -1,4 +1,5 @@
 -- Which files a stop of each kind leaves, folded over the record of the calls.
+-- For contracts, laws and proofs: no promise uses it.
 use Rattle.std.specs.Prelude.{ℕ, ◌+◌, ◌-◌, min, Bool, true, false, List, [], ◌∷◌, ◌++◌, length, replicate, Option, Some, None}
 use Rattle.memory_site.specs.declared.memory.stop.Left.{Left}
 use Rattle.memory_site.specs.declared.memory.stop.Left.TheVariants.{Oldest, Newest, Garbage}

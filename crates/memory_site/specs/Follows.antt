@@ -1,4 +1,4 @@
--- When files in memory follow what was told of them.
+-- When files in memory follow what was told of them. For contracts and proofs: no promise uses it.
 use Rattle.std.specs.Prelude.{◌≡◌, ℕ, List, Some}
 use Rattle.std.proofs.Props.{props}
 use Rattle.crash_site.specs.Folder.{Folder}

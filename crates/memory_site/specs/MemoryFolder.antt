@@ -1,4 +1,4 @@
--- The folder that files in memory stand for.
+-- The folder that files in memory stand for. For contracts and proofs: no promise uses it.
 use Rattle.std.specs.Prelude.{ℕ, List, Option, Some, None, Vec}
 use Rattle.std.specs.declared.alloc.Global.{Global}
 use Rattle.memory_site.specs.declared.memory.memory_folder.MemoryFolder.{MemoryFolder}

@@ -1,4 +1,4 @@
--- What a site in memory tells of itself.
+-- What a site in memory tells of itself. For contracts and proofs: no promise uses it.
 use Rattle.std.specs.Prelude.{ℕ, true, List, Option, is_some}
 use Rattle.memory_site.specs.declared.memory.MemorySite.{MemorySite}
 use Rattle.crash_site.specs.SiteState.{SiteState}

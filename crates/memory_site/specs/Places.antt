@@ -1,4 +1,4 @@
--- The files that a list of named files stands for.
+-- The files that a list of named files stands for. For contracts and proofs: no promise uses it.
 use Rattle.std.specs.Prelude.{◌≡◌, ℕ, ◌<◌, Bool, false, List, [], ◌∷◌, length, slice_index_or, Option, Some, None, if◌then◌else◌}
 use Rattle.std.specs.Str.{bytes_eq}
 use Rattle.memory_site.specs.declared.memory.places.MemoryFile.{MemoryFile}

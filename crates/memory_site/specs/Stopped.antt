@@ -1,4 +1,5 @@
 -- How a site in memory finds the files that a stop leaves: it makes its calls again.
+-- For contracts and proofs: no promise uses it.
 use Rattle.std.specs.Prelude.{◌≡◌, ℕ, List, Option}
 use Rattle.memory_site.specs.declared.memory.stop.Replay.{Replay}
 use Rattle.crash_site.specs.Files.{File}

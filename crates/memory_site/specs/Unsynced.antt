@@ -1,4 +1,5 @@
 -- Which ranges of the files that a stop leaves aren't synced, folded over the record of the calls.
+-- For contracts, laws and proofs: no promise uses it.
 use Rattle.std.specs.Prelude.{ℕ, ◌+◌, ◌-◌, Bool, true, false, List, [], ◌∷◌, length, Option, Some, None, if◌then◌else◌}
 use Rattle.std.specs.Str.{bytes_eq}
 use Rattle.memory_site.specs.declared.memory.stop.Left.TheVariants.{Newest}

@@ -1,4 +1,4 @@
--- What an input in memory tells of itself.
+-- What an input in memory tells of itself. For contracts and proofs: no promise uses it.
 use Rattle.std.specs.Prelude.{true, [], map}
 use Rattle.faulty_source.specs.SourceState.{SourceState}
 use Rattle.faulty_source.specs.ReadEntries.{reading_of}

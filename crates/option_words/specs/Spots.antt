@@ -1,4 +1,4 @@
--- Where the value of an option begins among the words.
+-- Where the value of an option begins among the words. For contracts and proofs: no promise uses it.
 use Rattle.std.specs.Prelude.{ℕ, ◌≤◌, List, length, IfSome}
 use Rattle.std.specs.Str.{IsCharBoundary}
 use Rattle.option_words.specs.declared.reading.Item.{Item}

@@ -1,4 +1,4 @@
--- Which rows are a table of options.
+-- Which rows are a table of options. For contracts, laws and proofs: no promise uses it.
 use Rattle.std.specs.Prelude.{ℕ, Bool, true, false, not, ◌&&◌, List, [], ◌∷◌, length, Option, Some, None, nat_eq}
 use Rattle.std.specs.Str.{bytes_eq}
 use Rattle.std.specs.List.{list_all}

@@ -1,4 +1,4 @@
--- What a reader of words takes of each word.
+-- What a reader of words takes of each word. For contracts and proofs: no promise uses it.
 use Rattle.std.specs.Prelude.{◌≡◌, ◌⊎◌, ◌++◌, Result, Err}
 use Rattle.option_words.specs.declared.reader.Reader.{Reader}
 use Rattle.option_words.specs.declared.fault.WordFault.{WordFault}

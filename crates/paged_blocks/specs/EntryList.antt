@@ -1,4 +1,4 @@
--- A list of entries with a gap.
+-- A list of entries with a gap. For contracts and proofs: no promise uses it.
 use Rattle.std.specs.Prelude.{ℕ, ◌+◌, ◌≤◌, List, ◌++◌, min, reverse, vec_len, vec_capacity}
 use Rattle.block_pages.specs.declared.page_entry.PageEntry.{PageEntry}
 use Rattle.paged_blocks.specs.declared.entry_list.Entries.TheInside.{Inside}

@@ -1,4 +1,4 @@
--- The two forms of a map: a plain list of a few blocks, or pages.
+-- The two forms of a map: a plain list of a few blocks, or pages. For contracts and proofs: no promise uses it.
 use Rattle.std.specs.Prelude.{◌≡◌, ◌-◌, ◌≤◌, length, min}
 use Rattle.block_list.specs.Tiled.{Tiled}
 use Rattle.block_list.specs.Stretches.{stretches}

@@ -1,4 +1,5 @@
 -- What comes in the place of the blocks that a mark covers, and of the parts of blocks on its sides.
+-- For contracts and proofs: no promise uses it.
 use Rattle.std.specs.Prelude.{◌≡◌, ℕ, ◌+◌, ◌<◌, ◌≤◌, ◌^◌, List, [], ◌∷◌, ◌++◌, Option, None, length, take, drop, max, min, option_to_list, slice_index_or}
 use Rattle.std.specs.List.{flat_map}
 use Rattle.block_list.specs.declared.block.Block.{Block}

@@ -1,4 +1,4 @@
--- A map in pages: a list of entries, each with the number of a page.
+-- A map in pages: a list of entries, each with the number of a page. For contracts and proofs: no promise uses it.
 use Rattle.std.specs.Prelude.{◌≡◌, ℕ, ◌+◌, ◌<◌, ◌≤◌, List, [], ◌∷◌, ◌++◌, All, length, slice_index_or, slice_set, take, count_by, nat_eq, nat_lt}
 use Rattle.std.specs.List.{flat_map}
 use Rattle.block_list.specs.declared.block.Block.{Block}

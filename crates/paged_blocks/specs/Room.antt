@@ -1,4 +1,4 @@
--- How many more blocks there is room for.
+-- How many more blocks there is room for. For contracts and proofs: no promise uses it.
 use Rattle.std.specs.Prelude.{◌≡◌, ℕ, ◌+◌, ◌-◌, ◌*◌, ◌<◌, ◌≤◌, max, min}
 
 -- How many more blocks there is room for, by the number of pages, the entries that there is room for, and the numbers

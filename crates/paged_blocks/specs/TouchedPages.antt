@@ -1,4 +1,5 @@
 -- Pages that are next to each other, and the blocks that come in the place of theirs.
+-- For contracts and proofs: no promise uses it.
 use Rattle.std.specs.Prelude.{◌≡◌, ◌+◌, ◌-◌, ◌<◌, ◌≤◌, List, ◌++◌, length, take, drop, slice_index_or}
 use Rattle.block_list.specs.declared.block.Block.{Block}
 use Rattle.block_pages.specs.declared.page_entry.PageEntry.{PageEntry}

@@ -1,4 +1,4 @@
--- What a search has passed, and how much it looked at.
+-- What a search has passed, and how much it looked at. For contracts and proofs: no promise uses it.
 use Rattle.std.specs.Prelude.{ℕ, ◌+◌, ◌<◌, ◌≤◌, List}
 use Rattle.block_list.specs.declared.status.Status.{Status}
 use Rattle.block_list.specs.Map.{Has}

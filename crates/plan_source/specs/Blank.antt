@@ -1,4 +1,4 @@
--- What a site tells that takes whatever is written, and keeps nothing.
+-- What a site tells that takes whatever is written, and keeps nothing. For contracts and proofs: no promise uses it.
 use Rattle.std.specs.Prelude.{Bool, false, [], None}
 use Rattle.fault_count.specs.Schedule.{no_schedule}
 use Rattle.crash_site.specs.SiteState.{SiteState}

@@ -1,4 +1,4 @@
--- The line of a cause.
+-- The line of a cause. For contracts and proofs: no promise uses it.
 use Rattle.std.specs.Prelude.{ℕ, Bool, true, false, List, [], ◌∷◌, ◌++◌, ◌≡◌, ◌≤◌, All, length, take, map, codes, nat_le, nat_eq, if◌then◌else◌}
 use Rattle.std.specs.Fmt.{decimal}
 use Rattle.mapfile_text.specs.Printed.{shown_byte}

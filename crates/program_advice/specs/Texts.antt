@@ -1,4 +1,4 @@
--- The fixed texts of causes.
+-- The fixed texts of causes. For contracts and proofs: no promise uses it.
 use Rattle.std.specs.Prelude.{ℕ, List, codes}
 use Rattle.program_advice.specs.declared.cause.Role.{Role}
 use Rattle.program_advice.specs.declared.cause.Role.TheVariants.{Infile, Pattern, Outfile, Mapfile, Draft, DomainMap, TestMap, OtherMap}

@@ -1,4 +1,5 @@
 -- How a message is put on standard error when some work is done, unless nothing is to be said.
+-- For contracts and proofs: no promise uses it.
 use Rattle.std.specs.Prelude.{◌≡◌, ◌⊎◌, ℕ, Bool, true, false, IsTrue, List}
 use Rattle.fault_count.specs.Schedule.{with_call}
 use Rattle.rescue_console.specs.declared.console.Channel.TheVariants.{Err}

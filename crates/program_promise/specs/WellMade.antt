@@ -1,5 +1,5 @@
 -- What a program has to show of its rows, of its grammar and of its work, so that it keeps the promises of all
--- programs.
+-- programs. For contracts, laws and proofs: no promise uses it.
 use Rattle.std.specs.Prelude.{◌≡◌, ◌≢◌, ℕ, List, Err}
 use Rattle.option_words.specs.declared.reading.Item.{Item}
 use Rattle.option_words.specs.declared.fault.WordFault.{WordFault}

@@ -1,4 +1,4 @@
--- What a file gave before it was asked for.
+-- What a file gave before it was asked for. For contracts and proofs: no promise uses it.
 use Rattle.std.specs.Prelude.{◌≡◌, ℕ, ◌+◌, ◌-◌, ◌≤◌, min, Bool, true, false, ◌&&◌, nat_eq, nat_le, List, [], ◌++◌, length, drop, slice_range, Option}
 use Rattle.std.specs.Io.KnownBytes.{Consumes}
 

@@ -1,4 +1,4 @@
--- Which errors of a read are the medium's.
+-- Which errors of a read are the medium's. For contracts and proofs: no promise uses it.
 use Rattle.std.specs.Prelude.{ℤ, pos, negsuc, Bool, false, ◌==◌, ◌||◌, Option, Some, None}
 
 -- the kernel's number is EIO, ENODATA, EILSEQ, ETIMEDOUT or EREMOTEIO

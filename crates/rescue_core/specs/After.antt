@@ -1,4 +1,4 @@
--- What is made of a run after a read that was gathered, by its parts.
+-- What is made of a run after a read that was gathered, by its parts. For contracts and proofs: no promise uses it.
 use Rattle.std.specs.Prelude.{◌≡◌, ℕ, ◌+◌, ◌/◌, Bool, ◌&&◌, List, [], ◌∷◌, length, slice_get, Option}
 use Rattle.block_list.specs.declared.block.Range.{Range}
 use Rattle.block_list.specs.declared.status.Status.{Status}

@@ -1,4 +1,4 @@
--- What the end of a run does.
+-- What the end of a run does. For contracts, laws and proofs: no promise uses it.
 use Rattle.std.specs.Prelude.{◌≡◌, ⊤, false, Bool, List, [], ◌∷◌, Option, Some, None}
 use Rattle.block_list.specs.declared.status.Status.{Status}
 use Rattle.crash_site.specs.declared.site.SiteCall.{SiteCall}

@@ -1,4 +1,4 @@
--- How the counts of a run go on after a read.
+-- How the counts of a run go on after a read. For contracts and proofs: no promise uses it.
 use Rattle.std.specs.Prelude.{◌≡◌, ℕ, ◌+◌, ◌≤◌, Bool, List, length}
 use Rattle.block_list.specs.declared.status.Status.{Status}
 use Rattle.block_list.specs.Areas.{begins_area}

@@ -1,4 +1,4 @@
--- The calls of a keeper's saves.
+-- The calls of a keeper's saves. For contracts and proofs: no promise uses it.
 use Rattle.std.specs.Prelude.{List, [], ◌∷◌, is_some, if◌then◌else◌}
 use Rattle.crash_site.specs.Calls.{Call, image_sync}
 use Rattle.save_resume.specs.Saving.{save_calls}

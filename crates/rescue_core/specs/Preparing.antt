@@ -1,4 +1,5 @@
 -- How a map is prepared: one status after the other, with the memory for it taken before.
+-- For contracts and proofs: no promise uses it.
 use Rattle.std.specs.Prelude.{◌≡◌, ◌≢◌, ℕ, zero, suc, ◌+◌, ◌*◌, ◌≤◌, Bool, List, if◌then◌else◌}
 use Rattle.block_list.specs.declared.status.Status.{Status}
 use Rattle.block_list.specs.Status.{same}

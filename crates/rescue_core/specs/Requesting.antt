@@ -1,4 +1,4 @@
--- How a run comes to its next request.
+-- How a run comes to its next request. For contracts and proofs: no promise uses it.
 use Rattle.std.specs.Prelude.{◌≡◌, ℕ, Bool, List, ◌∷◌, drop, Option}
 use Rattle.block_list.specs.declared.status.Status.{Status}
 use Rattle.rescue_rules.specs.declared.phase.Phase.{Phase}

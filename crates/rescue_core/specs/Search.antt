@@ -1,4 +1,4 @@
--- Positions of a domain that have a status.
+-- Positions of a domain that have a status. For contracts and proofs: no promise uses it.
 use Rattle.std.specs.Prelude.{◌≡◌, ℕ, Bool, true, List}
 use Rattle.block_list.specs.declared.status.Status.{Status}
 use Rattle.block_list.specs.Map.{Has}

@@ -1,4 +1,4 @@
--- What is known of a run by how far it has come.
+-- What is known of a run by how far it has come. For contracts, laws and proofs: no promise uses it.
 use Rattle.std.specs.Prelude.{◌≡◌, ⊤, true}
 use Rattle.block_list.specs.declared.status.Status.TheVariants.{NonTried, NonTrimmed, NonScraped}
 use Rattle.rescue_rules.specs.Moves.{ready, no_pass_left}

@@ -1,4 +1,4 @@
--- What the parts of a turn take, and what they make.
+-- What the parts of a turn take, and what they make. For contracts and proofs: no promise uses it.
 use Rattle.std.specs.Prelude.{◌≡◌, ⊤, ℕ, ◌+◌, ◌/◌, ◌≤◌, Bool, List, length, take, Option, Some, None, if◌then◌else◌}
 use Rattle.faulty_source.specs.Got.{count_of, is_end}
 use Rattle.faulty_source.specs.Journal.{Reading}

@@ -1,4 +1,4 @@
--- What is left of a domain whose input was found to end.
+-- What is left of a domain whose input was found to end. For contracts and proofs: no promise uses it.
 use Rattle.std.specs.Prelude.{ℕ, Bool, ◌&&◌}
 use Rattle.faulty_source.specs.Ends.{is_before}
 use Rattle.rescue_domain.specs.declared.live.Live.{Live}

@@ -1,4 +1,4 @@
--- How a domain is kept: as intervals of positions.
+-- How a domain is kept: as intervals of positions. For contracts, laws and proofs: no promise uses it.
 use Rattle.std.specs.Prelude.{◌≡◌, ℕ, ◌+◌, ◌<◌, ◌≤◌, Bool, false, ◌&&◌, ◌||◌, nat_lt, nat_le, List, [], ◌∷◌, Some, slice_get}
 use Rattle.block_list.specs.declared.block.Range.{Range}
 

@@ -1,4 +1,4 @@
--- What is the same along positions.
+-- What is the same along positions. For contracts and proofs: no promise uses it.
 use Rattle.std.specs.Prelude.{◌≡◌, ℕ, ◌<◌, ◌≤◌, Bool, not}
 
 -- each position from one on, below another, has this value

@@ -1,4 +1,5 @@
 -- The lines of a rescue as they are read: the figures of a line, and the line that figures print to.
+-- For contracts and proofs: no promise uses it.
 use Rattle.std.specs.Prelude.{◌≡◌, ℕ, ◌+◌, ◌*◌, ◌/◌, ◌-◌, ◌^◌, ◌<◌, min, nat_eq, nat_lt, ⊤, Bool, true, false, List, [], ◌∷◌, ◌++◌, slice_index_or, Option, Some, codes, if◌then◌else◌}
 use Rattle.std.specs.Char.{digit_value}
 use Rattle.std.specs.Fmt.{decimal}

@@ -1,4 +1,4 @@
--- When a limit is checked.
+-- When a limit is checked. For contracts and proofs: no promise uses it.
 use Rattle.std.specs.Prelude.{◌≡◌, ℕ, false, is_none, List, Option, None}
 use Rattle.block_list.specs.declared.status.Status.{Status}
 use Rattle.mapfile_text.specs.declared.state.MapState.{MapState}

@@ -1,4 +1,4 @@
--- A rescue's run as one that saves while it goes.
+-- A rescue's run as one that saves while it goes. For contracts and proofs: no promise uses it.
 use Rattle.std.specs.Prelude.{◌≡◌, List, ◌++◌, map, Some, None, if◌then◌else◌}
 use Rattle.rescue_rules.specs.Setting.{Setting}
 use Rattle.rescue_rules.specs.Machine.{Machine}

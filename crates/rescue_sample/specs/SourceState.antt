@@ -1,4 +1,4 @@
--- What the input of a sample tells of itself.
+-- What the input of a sample tells of itself. For contracts and proofs: no promise uses it.
 use Rattle.std.specs.Prelude.{true, false, [], map}
 use Rattle.fault_count.specs.Schedule.{no_schedule}
 use Rattle.faulty_source.specs.SourceState.{SourceState}

@@ -1,4 +1,4 @@
--- What a clock that stands still tells of itself.
+-- What a clock that stands still tells of itself. For contracts and proofs: no promise uses it.
 use Rattle.std.specs.Prelude.{◌-◌, ◌^◌, false, nat_lt, [], replicate}
 use Rattle.rescue_console.specs.ClockState.{ClockState}
 use Rattle.rescue_sample.specs.declared.clock.StillClock.{StillClock}

@@ -1,4 +1,4 @@
--- Bad ranges in their order.
+-- Bad ranges in their order. For contracts and proofs: no promise uses it.
 use Rattle.std.specs.Prelude.{ℕ, List, [], ◌∷◌}
 use Rattle.faulty_source.specs.declared.bad_range.BadRange.{BadRange}
 

@@ -1,4 +1,4 @@
--- Lines and scenes of a text.
+-- Lines and scenes of a text. For contracts and proofs: no promise uses it.
 use Rattle.std.specs.Prelude.{ℕ, ◌+◌, ◌-◌, ◌≡◌, Bool, true, List, [], ◌∷◌, take, nat_eq, codes, if◌then◌else◌, ◌&&◌}
 use Rattle.std.specs.List.{starts_with}
 

@@ -1,4 +1,4 @@
--- What one look at a piece does, by what the objects tell.
+-- What one look at a piece does, by what the objects tell. For contracts and proofs: no promise uses it.
 use Rattle.std.specs.Prelude.{◌≡◌, ℕ, ◌+◌, ◌-◌, ◌^◌, ◌<◌, true, IsTrue, [], ◌∷◌, None, if◌then◌else◌}
 use Rattle.faulty_source.specs.Journal.{Reading, is_whole, IsFrom}
 use Rattle.faulty_source.specs.SourceChanges.{Reads, Loses}

@@ -1,4 +1,4 @@
--- The lines of warnings.
+-- The lines of warnings. For contracts and proofs: no promise uses it.
 use Rattle.std.specs.Prelude.{ℕ, List, [], ◌∷◌, ◌++◌, map, codes}
 use Rattle.std.specs.Fmt.{decimal}
 use Rattle.mapfile_text.specs.Printed.{shown_byte}

@@ -1,4 +1,4 @@
--- The text of a mapfile, as it is read piece by piece.
+-- The text of a mapfile, as it is read piece by piece. For contracts and proofs: no promise uses it.
 use Rattle.std.specs.Prelude.{◌≡◌, ◌≢◌, ⊤, ℕ, ◌<◌, ◌≤◌, List, [], length, Option, Some}
 use Rattle.mapfile_text.specs.declared.read.Mode.{Mode}
 use Rattle.mapfile_text.specs.declared.read.MapError.TheVariants.{TooLong, NoMemory as OutOfMemory}

@@ -1,4 +1,4 @@
--- What options ask of a run, and the line before it.
+-- What options ask of a run, and the line before it. For contracts and proofs: no promise uses it.
 use Rattle.std.specs.Prelude.{ℕ, List, [], ◌∷◌, Option, Some, None}
 use Rattle.rescue_core.specs.declared.settings.Settings.{Settings}
 use Rattle.ddrescue_words.specs.declared.options.Options.{Options}

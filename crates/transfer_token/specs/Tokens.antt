@@ -1,4 +1,4 @@
--- What a read is cut into, and what becomes of its parts.
+-- What a read is cut into, and what becomes of its parts. For contracts and proofs: no promise uses it.
 use Rattle.std.specs.Prelude.{◌≡◌, ⊤, ℕ, ◌+◌, ◌-◌, ◌<◌, ◌≤◌, true, false, IsTrue, List, [], ◌∷◌, length, take, slice_range}
 use Rattle.block_list.specs.declared.block.Range.{Range}
 use Rattle.block_list.specs.declared.status.Status.{Status}

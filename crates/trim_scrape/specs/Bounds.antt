@@ -1,4 +1,4 @@
--- How often a run asks for a position.
+-- How often a run asks for a position. For contracts, laws and proofs: no promise uses it.
 use Rattle.std.specs.Prelude.{◌≡◌, ℕ, Bool, true, false, List, slice_get, Some}
 use Rattle.block_list.specs.declared.status.Status.TheVariants.{Finished}
 use Rattle.block_list.specs.Map.{Has}

@@ -1,4 +1,4 @@
--- The passes after copying, one after another.
+-- The passes after copying, one after another. For contracts and proofs: no promise uses it.
 use Rattle.std.specs.Prelude.{◌≡◌, ⊤, ℕ, ◌≤◌, false, drop, None}
 use Rattle.block_list.specs.declared.status.Status.TheVariants.{NonTrimmed, NonScraped}
 use Rattle.rescue_rules.specs.declared.phase.Phase.{Phase}

@@ -1,4 +1,4 @@
--- A run between two of its phases.
+-- A run between two of its phases. For contracts, laws and proofs: no promise uses it.
 use Rattle.std.specs.Prelude.{◌≡◌, false, drop, None}
 use Rattle.rescue_rules.specs.declared.phase.Phase.{Phase}
 use Rattle.rescue_rules.specs.Setting.{IsSensible}

@@ -1,4 +1,4 @@
--- What answers work may have on one outside, whatever fails.
+-- What answers work may have on one outside, whatever fails. For contracts, laws and proofs: no promise uses it.
 use Rattle.std.specs.Prelude.{◌≡◌, ⊤, List, [], ◌∷◌}
 use Rattle.crash_site.specs.declared.site.SiteCall.{SiteCall}
 use Rattle.work_rules.specs.Work.{Deeds, Faults, WorkStep, Take, Look, Open, Make, Read, Works}
