@@ -29,7 +29,7 @@ use Rattle.program_promise.specs.Promise.{DoneFor, Worked}
 use Rattle.program_promise.specs.declared.operand.Operand.{Operand}
 use Rattle.task_files.specs.declared.ending.Ending.{Ending}
 use Rattle.task_files.specs.declared.ending.Ending.TheVariants.{Usage, SiteFault}
-use Rattle.task_files.specs.Names.{first_same, AreNamedApart, program_name}
+use Rattle.task_files.specs.Names.{first_same_with_optional_map, AreNamedApart, program_name}
 use Rattle.task_files.specs.Asked.{names_by}
 use Rattle.task_files.specs.Answers.{Causes, NameOneFileTwice, drafting_left, failure_after, files_of_task, row_of}
 use Rattle.task_files.specs.Steps.{IsChecked}
@@ -73,12 +73,12 @@ named_for ToGenerate c h = h.named
 -- a checked command that was made for a command that the words ask for
 pub is_checked_for : (words : List (List ℕ)) (aim : Aim) (checked : CheckedCommand) (c : Command) → IsAsked words (task_for aim c)
     → told_by checked.command ≡ c → checked.names ≡ names_by c → checked.heading ≡ heading_at (command_line program_name words) 0 0
-    → first_same c.infile c.outfile (names_by c) ≡ None → checked.heard ≡ not c.options.quiet → IsCheckedFor words aim checked
+    → first_same_with_optional_map c.infile c.outfile (names_by c) ≡ None → checked.heard ≡ not c.options.quiet → IsCheckedFor words aim checked
 is_checked_for words aim checked c asked is names heading different heard =
     let same : c ≡ told_by checked.command = sym is in
     record {
       asked = subst (λ (x : Command). IsAsked words (task_for aim x)) same asked;
-      different = subst (λ (x : Command). first_same x.infile x.outfile (names_by x) ≡ None) same different;
+      different = subst (λ (x : Command). first_same_with_optional_map x.infile x.outfile (names_by x) ≡ None) same different;
       names = names ∙ ap names_by same;
       heading = heading;
       heard = heard ∙ ap (λ (x : Command). not x.options.quiet) same;

@@ -7,7 +7,7 @@ use Rattle.ddrescue_words.specs.Command.{Command, Task, Rescue, Fill, Generate, 
 use Rattle.program_promise.specs.declared.operand.Operand.{Operand}
 use Rattle.task_files.specs.declared.ending.Ending.{Ending}
 use Rattle.task_files.specs.declared.ending.Ending.TheVariants.{Done, SameName, NoMemory}
-use Rattle.task_files.specs.Names.{first_same}
+use Rattle.task_files.specs.Names.{first_same_with_optional_map}
 use Rattle.task_files.specs.Asked.{names_by}
 
 -- Two modes are a conflict. Want of memory is no fault of words, and a place is checked later.
@@ -21,7 +21,7 @@ IsTaskFault PlaceTooLarge = ⊥
 
 -- the first two files of a command that have one name, in the order infile, outfile, mapfile, draft
 abbrev pub same_of : Command → Option (Operand × Operand)
-same_of c = first_same c.infile c.outfile (names_by c)
+same_of c = first_same_with_optional_map c.infile c.outfile (names_by c)
 
 -- Two files that have one name are answered, the first such pair, unless memory runs out before; and no others are.
 abbrev pub FitsNames : Option (Operand × Operand) → Ending → Type 0

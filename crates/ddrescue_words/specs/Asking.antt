@@ -9,7 +9,7 @@ use Rattle.option_words.specs.declared.fault.UsageFault.{UsageFault}
 use Rattle.option_words.specs.declared.fault.UsageFault.TheVariants.{BadValue, Conflict, Operands}
 use Rattle.option_words.specs.declared.command_error.CommandError.{CommandError}
 pub use Rattle.option_words.specs.Values.{IsWord, empty_operand}
-use Rattle.option_words.specs.Values.{is_given, is_of, last_of, last_value, quiet_letter, word_in}
+use Rattle.option_words.specs.Values.{domain_letter, is_given, is_of, last_of, last_value, quiet_letter, word_in}
 pub use Rattle.option_words.specs.Grammar.{Unread, Wrong, unless_empty, unread_error}
 use Rattle.option_words.specs.Grammar.{Grammar, AreOptionsOf, AskFor, AreRefusedBy, AskSilence, IsAskedWithin, IsRefusalBy, IsErrorBy}
 use Rattle.run_options.specs.Passes.{all_phases_once}
@@ -17,7 +17,7 @@ use Rattle.ddrescue_words.specs.declared.options.Options.{Options}
 use Rattle.ddrescue_words.specs.declared.command.Command.{Command as CommandCode}
 use Rattle.ddrescue_words.specs.declared.command.Task.{Task as TaskCode}
 use Rattle.ddrescue_words.specs.declared.command.Task.TheVariants.{Rescue as RescueCode, Fill as FillCode, Generate as GenerateCode, Sample as SampleCode}
-use Rattle.ddrescue_words.specs.Options.{cluster_letter, cluster_limit, cluster_of, domain_letter, fill_letter, generate_letter, in_sectors, no_options, option_meanings, options_in, sample_place, sectors_of, test_letter}
+use Rattle.ddrescue_words.specs.Options.{cluster_letter, cluster_limit, cluster_of, fill_letter, generate_letter, in_sectors, no_options, option_meanings, options_in, sample_place, sectors_of, test_letter}
 use Rattle.ddrescue_words.specs.Command.{Command, Task, Rescue, Fill, Generate, Sample}
 
 -- the command that the code hands on

@@ -5,7 +5,7 @@ use Rattle.size_suffixes.specs.Interval.{interval}
 use Rattle.block_list.specs.Types.{types_of}
 use Rattle.option_words.specs.declared.row.Takes.TheVariants.{Always}
 use Rattle.option_words.specs.declared.reading.Item.{Item}
-use Rattle.option_words.specs.Values.{Meaning, OptionRow, flag, is_empty_text, is_name, meanings_of, number_by, quiet_letter, sector_letter, size_by, valued, within_range}
+use Rattle.option_words.specs.Values.{Meaning, OptionRow, domain_letter, flag, is_empty_text, is_name, meanings_of, number_by, quiet_letter, sector_letter, size_by, valued, within_range}
 use Rattle.option_words.specs.Values.{options_in as options_by}
 use Rattle.run_options.specs.declared.limits.AreaLimit.{AreaLimit}
 use Rattle.run_options.specs.declared.limits.AreaLimit.TheVariants.{New, Total}
@@ -112,10 +112,6 @@ generate_letter = 71
 -- the letter of test mode (`-H`), which names a map
 abbrev pub test_letter : ℕ
 test_letter = 72
-
--- the letter of the option that names the domain map (`-m`)
-abbrev pub domain_letter : ℕ
-domain_letter = 109
 
 -- the options that have a letter, each with what it sets by the size of a sector and the text of its value
 abbrev pub lettered_rows : List (OptionRow Options)

@@ -1,5 +1,5 @@
 -- What a mode that reads finds and prints, as its work.
-use Rattle.std.proofs.Common.{◌≡◌, ◌≢◌, ◌⊎◌, ℕ, Bool, true, false, List, [], length, flat_map, Result, Ok, Err, OnOk, OnErr, IfOk, refl, sym, ap, ◌∙◌, inl, inr, subst}
+use Rattle.std.proofs.Common.{◌≡◌, ◌≢◌, ◌⊎◌, ℕ, Bool, true, false, List, [], length, flat_map, unwrap_or, Result, Ok, Err, OnOk, OnErr, IfOk, refl, sym, ap, ◌∙◌, inl, inr, subst}
 use Rattle.std.proofs.Math.Path.{fun_ext}
 use Rattle.std.proofs.lemmas.Bool.{both_ways}
 use Rattle.block_list.specs.declared.status.Status.{Status}
@@ -29,7 +29,7 @@ use Rattle.ddrescuelog_cli.specs.declared.load.LoadedMaps.{LoadedMaps}
 use Rattle.ddrescuelog_cli.specs.declared.ending.LogEnding.{LogEnding}
 use Rattle.ddrescuelog_cli.specs.declared.ending.LogEnding.TheVariants.{Done, Usage, ConsoleFault, NoMemory}
 use Rattle.ddrescuelog_cli.specs.Modes.{looks_at_places, prints}
-use Rattle.ddrescuelog_cli.specs.Maps.{Maps, output_from, shape_of, domain_of}
+use Rattle.ddrescuelog_cli.specs.Maps.{Maps, shape_of, domain_of}
 use Rattle.ddrescuelog_cli.specs.Results.{map_text, number_line, summary_text, text_of}
 use Rattle.ddrescuelog_cli.specs.Refusals.{PlacesRefused}
 use Rattle.work_rules.specs.Parts.{only_calls}
@@ -218,10 +218,12 @@ abbrev whole_of : Command → List Status → ℕ → Bool
 whole_of c statuses = whole_domain c.options.input_position c.options.size (length statuses)
 
 places_pass : (c : Command) (m : Maps)
-    → AreAllPlaced (whole_of c m.statuses) c.options.input_position (output_from c.options)
+    → AreAllPlaced (whole_of c m.statuses) c.options.input_position
+    (unwrap_or c.options.output_position c.options.input_position)
     → (e : LogEnding) → PlacesRefused c m e → ⊥
 places_pass c m placed e refused =
-    never_beyond (whole_of c m.statuses) c.options.input_position (output_from c.options) placed refused.beyond
+    never_beyond (whole_of c m.statuses) c.options.input_position
+    (unwrap_or c.options.output_position c.options.input_position) placed refused.beyond
 
 -- what is listed of what was loaded
 abbrev pub listed_in : Command → TypeSet → LoadedMaps → List ℕ
@@ -250,9 +252,11 @@ listed_is c types line m l is =
 
 list_ends : (c : Command) (types : TypeSet) (m : Maps) (e : LogEnding) → c.mode ≡ ListBlocks types
     → (IsPlaceRefused e
-    → IsAnyBeyond (whole_of c m.statuses) c.options.input_position (output_from c.options))
+    → IsAnyBeyond (whole_of c m.statuses) c.options.input_position
+    (unwrap_or c.options.output_position c.options.input_position))
     → ((IsPlaceRefused e → ⊥)
-    → AreAllPlaced (whole_of c m.statuses) c.options.input_position (output_from c.options))
+    → AreAllPlaced (whole_of c m.statuses) c.options.input_position
+    (unwrap_or c.options.output_position c.options.input_position))
     → IsPlaceRefused e ⊎ (e ≡ Done) ⊎ (e ≡ ConsoleFault) → (line list : List ℕ)
     → WorksOver c line list m e (only_calls [])
 list_ends c types m e is beyond fit (inl refused) line list =
@@ -272,18 +276,20 @@ list_ends c types m e is beyond fit (inr (inr broke)) line list =
 pub listed_found : (c : Command) (types : TypeSet) (h : HeadingLines) (m : Maps) (l : LoadedMaps) (e : LogEnding)
     (old new : ConsoleState) → c.mode ≡ ListBlocks types → IsLoadedAs c m l
     → (IsPlaceRefused e
-    → IsAnyBeyond (whole_of c l.tiles.statuses) c.options.input_position (output_from c.options))
+    → IsAnyBeyond (whole_of c l.tiles.statuses) c.options.input_position
+    (unwrap_or c.options.output_position c.options.input_position))
     → ((IsPlaceRefused e → ⊥)
-    → AreAllPlaced (whole_of c l.tiles.statuses) c.options.input_position (output_from c.options))
+    → AreAllPlaced (whole_of c l.tiles.statuses) c.options.input_position
+    (unwrap_or c.options.output_position c.options.input_position))
     → IsPlaceRefused e ⊎ (e ≡ Done) ⊎ (e ≡ ConsoleFault)
     → PutsAs true e (flat_map number_line (listed_in c types l)) old new → HasFound c h m e old new
 listed_found c types h m l e old new is loaded beyond fit answers put = record {
   ends = list_ends c types m e is
       (λ refused. subst (λ (s : List Status). IsAnyBeyond (whole_of c s) c.options.input_position
-      (output_from c.options))
+      (unwrap_or c.options.output_position c.options.input_position))
       loaded.statuses (beyond refused))
       (λ passed. subst (λ (s : List Status). AreAllPlaced (whole_of c s) c.options.input_position
-      (output_from c.options))
+      (unwrap_or c.options.output_position c.options.input_position))
       loaded.statuses (fit passed))
       answers;
   out = λ line heads.

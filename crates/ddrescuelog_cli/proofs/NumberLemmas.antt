@@ -1,5 +1,5 @@
 -- Numbers that are put one by one.
-use Rattle.std.proofs.Common.{◌≡◌, ℕ, ◌+◌, ◌-◌, ◌≤◌, ◌<◌, Bool, true, List, [], ◌∷◌, ◌++◌, length, flat_map, Result, Ok, Err, OnOk, OnErr, refl, sym, ap, ◌∙◌, subst, append_assoc, append-nil, arith, length-append}
+use Rattle.std.proofs.Common.{◌≡◌, ℕ, ◌+◌, ◌-◌, ◌≤◌, ◌<◌, Bool, true, List, [], ◌∷◌, ◌++◌, length, flat_map, unwrap_or, Result, Ok, Err, OnOk, OnErr, refl, sym, ap, ◌∙◌, subst, append_assoc, append-nil, arith, length-append}
 use Rattle.std.specs.Fmt.{decimal}
 use Rattle.block_list.specs.declared.status.Status.{Status}
 use Rattle.block_list.specs.declared.types.TypeSet.{TypeSet}
@@ -14,7 +14,7 @@ use Rattle.rescue_console.specs.declared.console.ConsoleFault.{ConsoleFault}
 use Rattle.ddrescuelog_cli.specs.Printing.{Adds}
 use Rattle.ddrescuelog_words.specs.declared.options.LogOptions.{LogOptions}
 use Rattle.ddrescuelog_cli.specs.declared.ending.LogEnding.{LogEnding}
-use Rattle.ddrescuelog_cli.specs.Maps.{output_from, shape_of}
+use Rattle.ddrescuelog_cli.specs.Maps.{shape_of}
 use Rattle.ddrescuelog_cli.specs.Printing.{PutsAs}
 use Rattle.ddrescuelog_cli.specs.Steps.{printed_as}
 use Rattle.ddrescuelog_cli.specs.Results.{number_line}
@@ -177,7 +177,7 @@ some_buffered w begun now buffer old new (Err e) p some = λ none.
 begun_as : (o : LogOptions) (types : TypeSet) (to : ℕ) (begun : ListingState) (domain : ℕ → Bool)
     (statuses : List Status)
     → begun ≡ record { types = types; shape = record { ipos = o.input_position; opos = to; size = o.block }; least = 0 }
-    → to ≡ output_from o
+    → to ≡ unwrap_or o.output_position o.input_position
     → wanted_of begun domain statuses
     ≡ record { domain = domain; types = types; shape = shape_of o; statuses = statuses }
 begun_as o types to begun domain statuses is at =
@@ -199,7 +199,7 @@ put_as (Err e) text old new puts broke some = (some, broke)
 pub listed_as : {T : Type 0} (o : LogOptions) (types : TypeSet) (to : ℕ) (begun : ListingState) (domain : ℕ → Bool)
     (statuses : List Status) (r : Result T ConsoleFault) (e : LogEnding) (old new : ConsoleState)
     → begun ≡ record { types = types; shape = record { ipos = o.input_position; opos = to; size = o.block }; least = 0 }
-    → to ≡ output_from o → e ≡ printed_as r
+    → to ≡ unwrap_or o.output_position o.input_position → e ≡ printed_as r
     → OnOk r (Puts Out (lines_of (listed (wanted_of begun domain statuses))) old new)
     → OnErr r (PutsPart Out (lines_of (listed (wanted_of begun domain statuses))) old new)
     → OnErr r (lines_of (listed (wanted_of begun domain statuses)) ≡ [] → ⊥)

@@ -1,7 +1,6 @@
 -- The row of each answer, from which follows what it says of the words, which count rose, its exit status and its
 -- message; to which commands it may be given; and what it leaves. No row stands for several answers.
 use Rattle.std.specs.Prelude.{◌≡◌, ◌≢◌, ◌⊎◌, ⊤, ℕ, ◌<◌, Bool, true, false, IsTrue, List, [], ◌++◌, length, is_some, codes}
-use Rattle.mapfile_text.specs.declared.read.MapError.{MapError}
 use Rattle.mapfile_text.specs.declared.read.MapError.TheVariants.{NoMemory as OutOfMemory}
 use Rattle.map_algebra.specs.Numbers.{list_limit}
 use Rattle.crash_site.specs.declared.site.SiteCall.{SiteCall}
@@ -31,10 +30,6 @@ which_text DomainMap = codes "domain mapfile"
 which_text RunMap = codes "mapfile"
 which_text OtherMap = codes "other mapfile"
 
--- why a map is refused
-abbrev pub map_error_text : Which → MapError → List ℕ
-map_error_text which error = which_text which ++ codes ": " ++ error_text error
-
 -- Want of memory isn't told as an error of a map.
 abbrev pub row_of : LogEnding → AnswerRow
 row_of Done = asked_row 0
@@ -43,7 +38,8 @@ row_of Differ = asked_row 1
 row_of (Usage fault) = usage_row fault
 row_of Exists = brought_row 1 (codes "mapfile exists, use --force")
 row_of (NoMap which) = brought_row 1 (which_text which ++ codes " does not exist")
-row_of (MapRefused which error) = only_where (brought_row 2 (map_error_text which error)) (error ≢ OutOfMemory)
+row_of (MapRefused which error) =
+    only_where (brought_row 2 (which_text which ++ codes ": " ++ error_text error)) (error ≢ OutOfMemory)
 row_of (BadNumber line) = brought_row 2 (at_line line (codes "not a block number"))
 row_of ListTooLong = brought_row 2 (codes "list too long")
 row_of (SiteFault call) = failed_row AtCall (fault_text call)

@@ -74,13 +74,9 @@ pub record AreAskedFor (c : Command) (m : Maps) : Type 0 where
   pub other : c.other ≡ None → m.other ≡ []
   pub domain : c.domain_map ≡ None → m.domain ≡ None
 
--- where the input position is in the output
-abbrev pub output_from : LogOptions → ℕ
-output_from o = unwrap_or o.output_position o.input_position
-
 -- the blocks of the output
 abbrev pub shape_of : LogOptions → Shape
-shape_of o = record { ipos = o.input_position; opos = output_from o; size = o.block }
+shape_of o = record { ipos = o.input_position; opos = unwrap_or o.output_position o.input_position; size = o.block }
 
 -- The domain of maps that end there: each position from the input position on, no more than the size, and of these
 -- what is finished in the domain map.

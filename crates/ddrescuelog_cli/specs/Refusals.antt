@@ -1,5 +1,5 @@
 -- The refusals after the words, one a row.
-use Rattle.std.specs.Prelude.{◌≡◌, ◌⊎◌, ℕ, ◌<◌, ◌≤◌, true, List, length, Option, None, is_some, Err}
+use Rattle.std.specs.Prelude.{◌≡◌, ◌⊎◌, ℕ, ◌<◌, ◌≤◌, true, List, length, Option, None, is_some, unwrap_or, Err}
 use Rattle.mapfile_text.specs.declared.read.Mode.{Mode}
 use Rattle.mapfile_text.specs.declared.read.MapError.{MapError}
 use Rattle.crash_site.specs.Files.{File}
@@ -14,7 +14,7 @@ use Rattle.ddrescuelog_cli.specs.declared.ending.Which.{Which}
 use Rattle.ddrescuelog_cli.specs.declared.ending.LogEnding.{LogEnding}
 use Rattle.ddrescuelog_cli.specs.declared.ending.LogEnding.TheVariants.{Usage, Exists, NoMap, MapRefused, BadNumber, ListTooLong}
 use Rattle.ddrescuelog_cli.specs.Modes.{looks_at_places}
-use Rattle.ddrescuelog_cli.specs.Maps.{Maps, output_from, shape_of}
+use Rattle.ddrescuelog_cli.specs.Maps.{Maps, shape_of}
 
 -- a map isn't there, or is no map, or is too long; one that says nothing is no map
 abbrev pub MapIsRefused : Which → Mode → (file : Option File) → LogEnding → Type 0
@@ -34,7 +34,7 @@ MapIsThere file e = (is_some file ≡ true) × (e ≡ Exists)
 pub record PlacesRefused (c : Command) (m : Maps) (e : LogEnding) : Type 0 where
   pub lists : looks_at_places c.mode ≡ true
   pub beyond : IsAnyBeyond (whole_domain c.options.input_position c.options.size (length m.statuses))
-      c.options.input_position (output_from c.options)
+      c.options.input_position (unwrap_or c.options.output_position c.options.input_position)
   pub is : e ≡ Usage PlaceTooLarge
 
 -- the list is too long, whatever it says; or it isn't, and a line of it is no block number

@@ -1,5 +1,5 @@
 //! Lists the blocks of the output in which positions of some types stand.
-ghost use Rattle.std.specs.Prelude.{◌≡◌, ◌⊎◌, ℕ, ◌<◌, ◌≤◌, ◌^◌, [], true, length, flat_map, OnOk, OnErr};
+ghost use Rattle.std.specs.Prelude.{◌≡◌, ◌⊎◌, ℕ, ◌<◌, ◌≤◌, ◌^◌, [], true, length, flat_map, unwrap_or, OnOk, OnErr};
 ghost use Rattle.rescue_console.specs.declared.console.Channel.TheVariants.{Out};
 ghost use Rattle.rescue_console.specs.ConsoleState.{Puts, PutsPart};
 ghost use Rattle.rescue_domain.specs.Parts.{covers};
@@ -7,14 +7,13 @@ ghost use Rattle.rescue_domain.specs.Domain.{whole_domain};
 ghost use Rattle.rescue_domain.specs.Places.{AreAllPlaced, IsAnyBeyond};
 ghost use Rattle.map_algebra.specs.At.{IsWithinMap};
 ghost use Rattle.map_algebra.specs.Listing.{listed, wanted_of};
-ghost use Rattle.ddrescuelog_cli.specs.Maps.{output_from, shape_of};
+ghost use Rattle.ddrescuelog_cli.specs.Maps.{shape_of};
 ghost use Rattle.ddrescuelog_cli.specs.Results.{number_line};
 ghost use Rattle.ddrescuelog_cli.specs.Printing.{PutsAs};
 
 use crate::ending::LogEnding;
 use crate::load::LoadedMaps;
 use crate::out::{Buffer, add_line, printed, put_rest};
-use crate::places::output_from;
 use block_list::tiles::Tiles;
 use block_list::types::TypeSet;
 use console_texts::message::{Message, add_number};
@@ -72,16 +71,16 @@ pub(crate) fn list_blocks<P: Console>(
     console: &mut P,
 ) -> LogEnding
     requires block { 0 < options.now.block }
-    requires to { output_from options.now < 2 ^ 63 }
+    requires to { unwrap_or options.now.output_position options.now.input_position < 2 ^ 63 }
     requires within { IsWithinMap (covers loaded.now.domain) loaded.now.tiles.statuses }
     requires inside { (x : ℕ) → covers loaded.now.domain x ≡ true
         → whole_domain options.now.input_position options.now.size (length loaded.now.tiles.statuses) x ≡ true }
     ensures beyond { result ≡ LogEnding.Usage UsageFault.PlaceTooLarge
         → IsAnyBeyond (whole_domain options.now.input_position options.now.size (length loaded.now.tiles.statuses))
-        options.now.input_position (output_from options.now) }
+        options.now.input_position (unwrap_or options.now.output_position options.now.input_position) }
     ensures fit { (result ≡ LogEnding.Usage UsageFault.PlaceTooLarge → ⊥)
         → AreAllPlaced (whole_domain options.now.input_position options.now.size (length loaded.now.tiles.statuses))
-        options.now.input_position (output_from options.now) }
+        options.now.input_position (unwrap_or options.now.output_position options.now.input_position) }
     ensures answers { (result ≡ LogEnding.Usage UsageFault.PlaceTooLarge) ⊎ (result ≡ LogEnding.Done)
         ⊎ (result ≡ LogEnding.ConsoleFault) }
     ensures put { PutsAs true result
@@ -93,7 +92,7 @@ pub(crate) fn list_blocks<P: Console>(
         }))) (P.state console.old) (P.state console.new) }
 {
     let from = options.input_position;
-    let to = output_from(options);
+    let to = options.output_position.unwrap_or(from);
     if !places_fit(from, options.size, to, loaded.tiles.end()) {
         return LogEnding::Usage(UsageFault::PlaceTooLarge);
     }

@@ -1,12 +1,11 @@
 //! The message on an answer, on standard error.
 ghost use Rattle.std.specs.Prelude.{◌≡◌, ◌+◌, ◌≤◌, ◌++◌};
 ghost use Rattle.arrayvec.specs.ArrayVec.{array_vec_len};
-ghost use Rattle.ddrescuelog_cli.specs.Answers.{is_silent, map_error_text, message, text_of_ending, which_text};
+ghost use Rattle.ddrescuelog_cli.specs.Answers.{is_silent, message, text_of_ending, which_text};
 
 use crate::ending::{LogEnding, Which};
 use console_texts::faults::{add_map_error, add_site_fault, add_usage};
 use console_texts::message::{Message, add, add_number, begin, end};
-use mapfile_text::read::MapError;
 use program_promise::answer::Answer;
 
 /// The program's name, which begins its command line and its messages.
@@ -25,17 +24,6 @@ fn add_which(message: &mut Message, which: Which)
     }
 }
 
-/// Adds why a map is refused.
-fn add_refusal(message: &mut Message, which: Which, error: MapError)
-    requires { array_vec_len message.old ≤ 20 }
-    ensures text { message.new.items ≡ message.old.items ++ map_error_text which error }
-    ensures len { array_vec_len message.new ≤ 120 }
-{
-    add_which(message, which);
-    add(message, ": ");
-    add_map_error(message, error);
-}
-
 /// Adds the message on an answer.
 fn add_ending(message: &mut Message, ending: LogEnding)
     requires { array_vec_len message.old ≤ 20 }
@@ -50,7 +38,11 @@ fn add_ending(message: &mut Message, ending: LogEnding)
             add_which(message, which);
             add(message, " does not exist");
         }
-        LogEnding::MapRefused { which, error } => add_refusal(message, which, error),
+        LogEnding::MapRefused { which, error } => {
+            add_which(message, which);
+            add(message, ": ");
+            add_map_error(message, error);
+        }
         LogEnding::BadNumber { line } => {
             add_number(message, "line ", line, ": not a block number");
         }

@@ -1,16 +1,9 @@
-//! Where positions are in the output, and in which blocks.
+//! The blocks of the output.
 ghost use Rattle.std.specs.Prelude.{◌≡◌};
-ghost use Rattle.ddrescuelog_cli.specs.Maps.{output_from, shape_of};
+ghost use Rattle.ddrescuelog_cli.specs.Maps.{shape_of};
 
 use ddrescuelog_words::options::LogOptions;
 use map_algebra::shape::Shape;
-
-/// Where what is examined begins in the output.
-pub(crate) fn output_from(options: &LogOptions) -> u64
-    ensures { result ≡ output_from options.now }
-{
-    options.output_position.unwrap_or(options.input_position)
-}
 
 /// The blocks of the output.
 pub(crate) fn shape_of(options: &LogOptions) -> Shape
@@ -18,7 +11,7 @@ pub(crate) fn shape_of(options: &LogOptions) -> Shape
 {
     Shape {
         ipos: options.input_position,
-        opos: output_from(options),
+        opos: options.output_position.unwrap_or(options.input_position),
         size: options.block,
     }
 }

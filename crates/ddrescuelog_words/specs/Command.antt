@@ -7,13 +7,13 @@ use Rattle.option_words.specs.declared.reading.WordReading.{WordReading}
 use Rattle.option_words.specs.declared.fault.UsageFault.{UsageFault}
 use Rattle.option_words.specs.declared.fault.UsageFault.TheVariants.{BadValue, Modes, Operands}
 use Rattle.option_words.specs.declared.command_error.CommandError.{CommandError}
-use Rattle.option_words.specs.Values.{empty_operand, is_given, is_name, last_of, last_value, quiet_letter, word_at}
+use Rattle.option_words.specs.Values.{domain_letter, empty_operand, is_given, is_name, last_of, last_value, quiet_letter, word_at}
 use Rattle.option_words.specs.Grammar.{Grammar, AreOptionsOf, AskFor, AreRefusedBy, AskSilence, IsAskedWithin, IsErrorBy, unless_empty}
 use Rattle.ddrescuelog_words.specs.declared.mode.LogMode.{LogMode}
 use Rattle.ddrescuelog_words.specs.declared.options.LogOptions.{LogOptions}
 use Rattle.ddrescuelog_words.specs.declared.command.Command.{Command as CommandCode}
 use Rattle.ddrescuelog_words.specs.Modes.{creates, has_other, other_letter}
-use Rattle.ddrescuelog_words.specs.Options.{domain_letter, ends_beyond, mode_letters, option_meanings, options_in, size_letter}
+use Rattle.ddrescuelog_words.specs.Options.{ends_beyond, mode_letters, option_meanings, options_in, size_letter}
 
 -- the mapfile's name, what is to be done, the names of the other map and of the domain map, if there are such, and what
 -- the options say

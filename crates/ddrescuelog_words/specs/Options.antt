@@ -4,7 +4,7 @@ use Rattle.block_list.specs.Types.{types_of}
 use Rattle.option_words.specs.declared.row.Takes.{Takes}
 use Rattle.option_words.specs.declared.row.Takes.TheVariants.{Never, Always, Optional}
 use Rattle.option_words.specs.declared.reading.Item.{Item}
-use Rattle.option_words.specs.Values.{Meaning, OptionRow, flag, is_name, meanings_of, quiet_letter, sector_letter, size_by, valued}
+use Rattle.option_words.specs.Values.{Meaning, OptionRow, domain_letter, flag, is_name, meanings_of, quiet_letter, sector_letter, size_by, valued}
 use Rattle.option_words.specs.Values.{options_in as options_by}
 use Rattle.map_algebra.specs.declared.combine.Op.TheVariants.{And, Or, Xor}
 use Rattle.map_algebra.specs.Change.{change_of, inverting}
@@ -23,10 +23,6 @@ as_mode o m = option_map (λ mode. record o { mode = Some mode }) m
 abbrev pub mode : (letter : ℕ) → List ℕ → Takes → (Option (List ℕ) → Option LogMode) → OptionRow LogOptions
 mode letter name takes read =
     record { letter = Some letter; name = name; takes = takes; sets = λ block o value. as_mode o (read value) }
-
--- the letter of `-m`, which names the map of the positions that are examined; it is read by itself
-abbrev pub domain_letter : ℕ
-domain_letter = 109
 
 -- the letter of `-s`, which is read by itself, and checked again after all others if a map is to be made
 abbrev pub size_letter : ℕ

@@ -1,5 +1,5 @@
 -- What is put of the lines of a rescue, step by step.
-use Rattle.std.proofs.Common.{◌≡◌, ◌≢◌, ◌⊎◌, ℕ, ◌+◌, ◌-◌, ◌<◌, ◌≤◌, eqb, Bool, true, false, cond, IsTrue, List, [], ◌∷◌, ◌++◌, length, map, take, drop, get_or, Option, Some, None, Result, Ok, Err, inl, inr, refl, sym, ap, subst, ◌∙◌, append_assoc, append-nil, length-append, take-append-drop, arith}
+use Rattle.std.proofs.Common.{◌≡◌, ◌≢◌, ◌⊎◌, ℕ, ◌+◌, ◌-◌, ◌<◌, ◌≤◌, eqb, Bool, true, false, cond, IsTrue, List, [], ◌∷◌, ◌++◌, length, map, take, drop, get_or, Some, None, Ok, Err, inl, inr, refl, sym, ap, subst, ◌∙◌, append_assoc, append-nil, length-append, take-append-drop, arith}
 use Rattle.std.specs.List.{All, flat_map, position, position_or_len}
 use Rattle.std.proofs.lemmas.List.{map-append, length-take, length-take-le, get_or-take, take_more, take-take}
 use Rattle.std.proofs.lemmas.List.Sums.{fails_before_first, passes_at_first}
@@ -22,7 +22,7 @@ use Rattle.ddrescueshow_cli.specs.declared.follower.Follower.{Follower}
 use Rattle.ddrescueshow_cli.specs.declared.follower.Known.{Known}
 use Rattle.ddrescueshow_cli.specs.Following.{HasCause, ending_of, is_heard, puts_after, takes_after}
 use Rattle.ddrescueshow_cli.specs.Progress.{IsSaid}
-use Rattle.ddrescueshow_cli.specs.PutLines.{AllLinesArePut, AreLines, AreWhole, BreaksOff, ComesToEnd, Ended, Follows, Goes, HasAllLines, HasNoNewline, IsUnfinished, IsWhole, Longest, PutLine, PutsLast, PutsLines, Stage, Takes, end_texts, first_stage, known_at_first, lines_of, longest, texts_of}
+use Rattle.ddrescueshow_cli.specs.PutLines.{AllLinesArePut, AreLines, AreWhole, BreaksOff, Ended, Follows, Goes, HasAllLines, HasNoNewline, IsUnfinished, IsWhole, Longest, PutLine, PutsLast, PutsLines, Stage, Takes, end_texts, first_stage, known_at_first, lines_of, longest, texts_of}
 use Rattle.ddrescueshow_cli.specs.FollowSteps.{Comes, Ends, Fills, Finishes, Fits, GoesOn, IsPart, IsTakeCause, Lacks, LosesText, PutsRest, PutsText, StopsIn, TakesSome, Unmade, Unput, stage_of}
 
 -- ---- a put

@@ -10,7 +10,8 @@ use block_list::areas::Count;
 use block_list::tiles::NoMemory;
 use itoa::Buffer;
 use mapfile_text::state::Current;
-use rescue_lines::lines::{Figures, Head, name_of, name_of_end};
+use rescue_lines::lines::{Figures, Head, name_of_end};
+use rescue_rules::report::phase_name;
 use std::alloc::Global;
 
 /// How many columns a line has at most.
@@ -31,7 +32,7 @@ fn phase_text(alloc: Global, current: Current, pass: u64) -> Result<Vec<u8>, NoM
     ensures { IfOk result (λ text. text.items ≡ phase_text current ++ codes " " ++ decimal pass) }
 {
     let mut text = Vec::new(alloc);
-    add(&mut text, name_of(current))?;
+    add(&mut text, phase_name(current))?;
     add(&mut text, " ")?;
     add(&mut text, Buffer::new().format(pass))?;
     Ok(text)

@@ -7,11 +7,11 @@ use Rattle.option_words.specs.declared.reading.WordReading.{WordReading}
 use Rattle.option_words.specs.declared.fault.UsageFault.{UsageFault}
 use Rattle.option_words.specs.declared.fault.UsageFault.TheVariants.{BadValue, Operands}
 use Rattle.option_words.specs.declared.command_error.CommandError.{CommandError}
-use Rattle.option_words.specs.Values.{empty_operand, last_value, quiet_letter}
+use Rattle.option_words.specs.Values.{domain_letter, empty_operand, last_value, quiet_letter}
 use Rattle.option_words.specs.Grammar.{Grammar, AreOptionsOf, AskFor, AreRefusedBy, AskSilence, IsAskedWithin, IsErrorBy, unless_empty}
 use Rattle.ddrescueshow_words.specs.declared.options.ShowOptions.{ShowOptions}
 use Rattle.ddrescueshow_words.specs.declared.command.Command.{Command as CommandCode}
-use Rattle.ddrescueshow_words.specs.Options.{domain_letter, option_meanings, options_in}
+use Rattle.ddrescueshow_words.specs.Options.{option_meanings, options_in}
 
 -- the names of the mapfile and of the domain map, if one is named, and what the options say
 pub record Command : Type 0 where

@@ -3,15 +3,11 @@ use Rattle.std.specs.Prelude.{ℕ, true, false, List, [], ◌∷◌, ◌++◌, O
 use Rattle.std.specs.Str.{bytes_eq}
 use Rattle.option_words.specs.declared.row.Takes.TheVariants.{Never, Always}
 use Rattle.option_words.specs.declared.reading.Item.{Item}
-use Rattle.option_words.specs.Values.{Meaning, OptionRow, flag, is_name, meanings_of, number_by, quiet_letter, sector_letter, size_by, valued, within_range}
+use Rattle.option_words.specs.Values.{Meaning, OptionRow, domain_letter, flag, is_name, meanings_of, number_by, quiet_letter, sector_letter, size_by, valued, within_range}
 use Rattle.option_words.specs.Values.{options_in as options_by}
 use Rattle.ddrescueshow_words.specs.declared.options.Coloring.{Coloring}
 use Rattle.ddrescueshow_words.specs.declared.options.Coloring.TheVariants.{Auto, Always as InAnyCase, Never as InNoCase}
 use Rattle.ddrescueshow_words.specs.declared.options.ShowOptions.{ShowOptions}
-
--- the letter of the option that names the domain map
-abbrev pub domain_letter : ℕ
-domain_letter = 109
 
 -- the number of cells in a row, or of rows, that a value gives
 abbrev pub count_by : Option (List ℕ) → Option ℕ

@@ -1,5 +1,5 @@
 -- What is compared of a loaded map.
-use Rattle.std.proofs.Common.{◌≡◌, ℕ, ◌+◌, ◌<◌, ◌≤◌, ◌^◌, ◌&&◌, Bool, true, false, List, length, Option, Result, Err, refl, sym, ap, ◌∙◌, subst, arith}
+use Rattle.std.proofs.Common.{◌≡◌, ℕ, ◌+◌, ◌<◌, ◌≤◌, ◌^◌, ◌&&◌, Bool, true, false, List, length, Option, unwrap_or, Result, Err, refl, sym, ap, ◌∙◌, subst, arith}
 use Rattle.std.proofs.Math.Path.{fun_ext}
 use Rattle.std.proofs.lemmas.Bool.Decides.{nat_tests}
 use Rattle.block_list.specs.declared.status.Status.{Status}
@@ -15,7 +15,7 @@ use Rattle.rescue_verify.specs.declared.tally.Tally.{Tally}
 use Rattle.rescue_verify.specs.Comparing.{Comparison, Compares, LossesRise as CountsCompared}
 use Rattle.ddrescueverify_words.specs.declared.options.VerifyOptions.{VerifyOptions}
 use Rattle.rescue_domain.proofs.PlaceLemmas.{whole_from, never_beyond}
-use Rattle.ddrescueverify_cli.specs.Asked.{IsBeyond, domain_asked, output_from, comparison_of}
+use Rattle.ddrescueverify_cli.specs.Asked.{IsBeyond, domain_asked, comparison_of}
 use Rattle.ddrescueverify_cli.specs.Counting.{StopCause}
 use Rattle.ddrescueverify_cli.specs.Work.{answer_of_halt}
 
@@ -26,13 +26,13 @@ first_of false b both = let no : false ≡ true = both in absurd (cc)
 below_end : (pos : ℕ) (size : Option ℕ) (end x : ℕ) → whole_domain pos size end x ≡ true → x < end
 below_end pos size end x h = grind (arith, nat_tests, h)
 
-pub near_by : (o : VerifyOptions) (end to : ℕ) → to ≡ output_from o
+pub near_by : (o : VerifyOptions) (end to : ℕ) → to ≡ unwrap_or o.output_position o.input_position
     → AreAllPlaced (domain_asked o end) o.input_position to → IsBeyond o end → ⊥
 near_by o end to at placed =
     subst (λ (t : ℕ). IsAnyBeyond (domain_asked o end) o.input_position t → ⊥) at
     (never_beyond (domain_asked o end) o.input_position to placed)
 
-pub far_by : (o : VerifyOptions) (end to : ℕ) → to ≡ output_from o
+pub far_by : (o : VerifyOptions) (end to : ℕ) → to ≡ unwrap_or o.output_position o.input_position
     → IsAnyBeyond (domain_asked o end) o.input_position to → IsBeyond o end
 far_by o end to at far = subst (λ (t : ℕ). IsAnyBeyond (domain_asked o end) o.input_position t) at far
 
@@ -59,7 +59,7 @@ module _ (o : VerifyOptions) (end : ℕ) (statuses : List Status) (covered : ℕ
       → AreAllPlaced covered o.input_position to
   are_placed to placed x held = placed x (is_asked x held)
 
-  pub comparison_is : (to : ℕ) → to ≡ output_from o
+  pub comparison_is : (to : ℕ) → to ≡ unwrap_or o.output_position o.input_position
       → record { compared = covered; sector = o.sector; from = o.input_position; to = to } ≡ comparison_of o end statuses
   comparison_is to at =
       ap (λ (f : ℕ → Bool). record { compared = f; sector = o.sector; from = o.input_position; to = to }) (fun_ext is)
@@ -70,8 +70,8 @@ module _ (o : VerifyOptions) (end : ℕ) (statuses : List Status) (covered : ℕ
         to = t;
       }) at
 
-  pub compares_as : (to : ℕ) → to ≡ output_from o → (now : List Status) (result : Result Tally Halt)
-      (source source' : SourceState) (site site' : SiteState)
+  pub compares_as : (to : ℕ) → to ≡ unwrap_or o.output_position o.input_position
+      → (now : List Status) (result : Result Tally Halt) (source source' : SourceState) (site site' : SiteState)
       → Compares (record { compared = covered; sector = o.sector; from = o.input_position; to = to }) statuses now result
       (across source source' site site')
       → Compares (comparison_of o end statuses) statuses now result (across source source' site site')

@@ -1,7 +1,6 @@
 -- The row of each answer, from which follows what it says of the words, which count rose, its exit status and its
 -- message; and whether a draft is left begun. No row stands for several answers.
 use Rattle.std.specs.Prelude.{◌≢◌, ℕ, Bool, true, false, List, ◌++◌, codes}
-use Rattle.mapfile_text.specs.declared.read.MapError.{MapError}
 use Rattle.mapfile_text.specs.declared.read.MapError.TheVariants.{NoStatusLine, NoMemory as OutOfMemory}
 use Rattle.save_resume.specs.Saving.{drafting_after_fault}
 use Rattle.console_texts.specs.Texts.{error_text, fault_text, message_of}
@@ -17,10 +16,6 @@ use Rattle.ddrescueverify_cli.specs.Names.{program_name}
 abbrev pub which_text : Which → List ℕ
 which_text RunMap = codes "mapfile"
 
--- why a map is refused
-abbrev pub map_error_text : Which → MapError → List ℕ
-map_error_text which error = which_text which ++ codes ": " ++ error_text error
-
 -- Want of memory isn't told as an error of the mapfile, nor is a mapfile refused that says nothing.
 abbrev pub row_of : VerifyEnding → AnswerRow
 row_of Done = asked_row 0
@@ -29,8 +24,8 @@ row_of (Usage fault) = usage_row fault
 row_of (SameName first second) = brought_row 1 (codes "two files have one name")
 row_of NoMap = brought_row 1 (which_text RunMap ++ codes " does not exist")
 row_of NoOutput = brought_row 1 (codes "output does not exist")
-row_of (MapRefused which error) =
-    only_where (brought_row 2 (map_error_text which error)) ((error ≢ NoStatusLine) × (error ≢ OutOfMemory))
+row_of (MapRefused which error) = only_where (brought_row 2 (which_text which ++ codes ": " ++ error_text error))
+    ((error ≢ NoStatusLine) × (error ≢ OutOfMemory))
 row_of SourceFault = failed_row AtOpen (codes "cannot open input")
 row_of SourceLost = failed_row AtRead (codes "input lost")
 row_of (SiteFault call) = failed_row AtCall (fault_text call)

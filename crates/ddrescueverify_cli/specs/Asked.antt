@@ -14,10 +14,6 @@ use Rattle.rescue_verify.specs.Verified.{judged_by}
 use Rattle.rescue_verify.specs.Comparing.{Comparison}
 use Rattle.ddrescueverify_words.specs.declared.options.VerifyOptions.{VerifyOptions}
 
--- where the comparison begins in the output
-abbrev pub output_from : VerifyOptions → ℕ
-output_from o = unwrap_or o.output_position o.input_position
-
 -- the positions that are compared of an input with this length: those from the input position on, and no more than the
 -- size
 abbrev pub domain_asked : VerifyOptions → (end : ℕ) → ℕ → Bool
@@ -25,7 +21,7 @@ domain_asked o end = whole_domain o.input_position o.size end
 
 -- one of the positions that are asked for would end in the output at 2^63 or past it
 abbrev pub IsBeyond : VerifyOptions → (end : ℕ) → Type 0
-IsBeyond o end = IsAnyBeyond (domain_asked o end) o.input_position (output_from o)
+IsBeyond o end = IsAnyBeyond (domain_asked o end) o.input_position (unwrap_or o.output_position o.input_position)
 
 -- what is compared, where the mapfile stands for this map: what it calls finished of the positions asked for
 abbrev pub comparison_of : VerifyOptions → (end : ℕ) → List Status → Comparison
@@ -33,7 +29,7 @@ comparison_of o end statuses = record {
   compared = compared_in (domain_asked o end) statuses;
   sector = o.sector;
   from = o.input_position;
-  to = output_from o;
+  to = unwrap_or o.output_position o.input_position;
 }
 
 -- What a saved map shows, by how many bytes differ: the first position, from which they are copied again, or what it

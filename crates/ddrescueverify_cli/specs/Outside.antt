@@ -1,5 +1,5 @@
 -- What a command finds outside of it, and that it is what the objects tell.
-use Rattle.std.specs.Prelude.{◌≡◌, ℕ, IsTrue, List, ◌++◌, length, map, All, Option}
+use Rattle.std.specs.Prelude.{◌≡◌, ℕ, IsTrue, List, ◌++◌, length, map, All, Option, unwrap_or}
 use Rattle.crash_site.specs.Files.{File, bytes_of}
 use Rattle.crash_site.specs.SiteState.{files_in}
 use Rattle.rescue_domain.specs.Places.{place_from}
@@ -9,7 +9,6 @@ use Rattle.rescue_verify.specs.Looks.{Look, reads_of, seen_in}
 use Rattle.faulty_source.specs.Journal.{IsFrom}
 use Rattle.ddrescueverify_words.specs.Command.{Command}
 use Rattle.work_rules.specs.Opens.{AreOpens}
-use Rattle.ddrescueverify_cli.specs.Asked.{output_from}
 
 -- the output and the mapfile, as the steps found them
 pub record Found : Type 0 where
@@ -22,7 +21,7 @@ found_in c files = record { output = files c.outfile; mapfile = files c.mapfile 
 
 -- where a position is in the output
 abbrev pub place_by : Command → ℕ → ℕ
-place_by c x = place_from c.options.input_position (output_from c.options) x
+place_by c x = place_from c.options.input_position (unwrap_or c.options.output_position c.options.input_position) x
 
 -- What was outside: the command line, the files, the input's length, and what each look at a piece saw.
 pub record Outside : Type 0 where

@@ -1,13 +1,12 @@
 //! The message on an answer, on standard error.
 ghost use Rattle.std.specs.Prelude.{◌≡◌, ◌+◌, ◌≤◌, ◌++◌};
 ghost use Rattle.arrayvec.specs.ArrayVec.{array_vec_len};
-ghost use Rattle.ddrescueverify_cli.specs.Answers.{is_silent, map_error_text, message, text_of_ending, which_text};
+ghost use Rattle.ddrescueverify_cli.specs.Answers.{is_silent, message, text_of_ending, which_text};
 
 use crate::checked::PROGRAM;
 use crate::ending::{VerifyEnding, Which};
 use console_texts::faults::{add_map_error, add_site_fault, add_usage};
 use console_texts::message::{Message, add, begin, end};
-use mapfile_text::read::MapError;
 use program_promise::answer::Answer;
 
 /// Adds which map an answer is about.
@@ -19,17 +18,6 @@ fn add_which(message: &mut Message, which: Which)
     match which {
         Which::RunMap => add(message, "mapfile"),
     }
-}
-
-/// Adds why a map is refused.
-fn add_refusal(message: &mut Message, which: Which, error: MapError)
-    requires { array_vec_len message.old ≤ 20 }
-    ensures text { message.new.items ≡ message.old.items ++ map_error_text which error }
-    ensures len { array_vec_len message.new ≤ 120 }
-{
-    add_which(message, which);
-    add(message, ": ");
-    add_map_error(message, error);
 }
 
 /// Adds the message on an answer.
@@ -47,7 +35,11 @@ fn add_ending(message: &mut Message, ending: VerifyEnding)
             add(message, " does not exist");
         }
         VerifyEnding::NoOutput => add(message, "output does not exist"),
-        VerifyEnding::MapRefused { which, error } => add_refusal(message, which, error),
+        VerifyEnding::MapRefused { which, error } => {
+            add_which(message, which);
+            add(message, ": ");
+            add_map_error(message, error);
+        }
         VerifyEnding::SourceFault => add(message, "cannot open input"),
         VerifyEnding::SourceLost => add(message, "input lost"),
         VerifyEnding::SiteFault { call } => add_site_fault(message, call),

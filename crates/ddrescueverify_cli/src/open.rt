@@ -7,13 +7,13 @@ ghost use Rattle.ddrescueverify_cli.specs.Steps.{LoadCause, Loads, OpensOutput, 
 
 use crate::ending::{VerifyEnding, Which};
 use block_list::plain_tiles::PlainTiles;
-use block_list::tiles::{NoMemory, Tiles};
+use block_list::tiles::NoMemory;
 use crash_site::site::{ImageKind, Site, SiteCall};
 use mapfile_text::read::ReadMap;
 use mapfile_text::state::MapState;
 use save_resume::load::ResumeFault;
 use save_resume::names::Names;
-use save_resume::resume::{Resumed, resume};
+use save_resume::resume::{Resumed, extend_map, resume};
 use std::alloc::Global;
 
 /// The map of a comparison.
@@ -44,19 +44,6 @@ pub(crate) struct LoadedMap {
     pub state: MapState,
 }
 
-/// Adds non-tried positions up to an end, if the map ends earlier.
-fn extend(tiles: &mut RunMap, end: u64) -> Result<(), NoMemory>
-    requires { end < 2 ^ 63 }
-    ensures extended { OnOk result (tiles.new.statuses ≡ extended tiles.old.statuses end) }
-    ensures long { OnOk result (end ≤ length tiles.new.statuses) }
-{
-    if tiles.end() < end {
-        tiles.reserve(1)?;
-        tiles.extend_to(end);
-    }
-    Ok(())
-}
-
 /// What a comparison begins with, by the mapfile's map.
 fn begin_with(map: ReadMap, end: u64) -> Result<LoadedMap, VerifyEnding>
     requires { end < 2 ^ 63 }
@@ -70,7 +57,7 @@ fn begin_with(map: ReadMap, end: u64) -> Result<LoadedMap, VerifyEnding>
         mut tiles,
         ..
     } = map;
-    match extend(&mut tiles, end) {
+    match extend_map(&mut tiles, end) {
         Ok(()) => Ok(LoadedMap { tiles, state }),
         Err(NoMemory) => Err(VerifyEnding::NoMemory),
     }

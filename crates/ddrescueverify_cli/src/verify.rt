@@ -8,7 +8,7 @@ ghost use Rattle.rescue_verify.specs.Comparing.{Compares};
 ghost use Rattle.ddrescueverify_words.specs.Command.{AreInLimits, AreRefused, told_by};
 ghost use Rattle.program_promise.specs.World.{told};
 ghost use Rattle.program_promise.specs.declared.operand.Operand.{Operand};
-ghost use Rattle.ddrescueverify_cli.specs.Asked.{IsBeyond, output_from, comparison_of};
+ghost use Rattle.ddrescueverify_cli.specs.Asked.{IsBeyond, comparison_of};
 ghost use Rattle.ddrescueverify_cli.specs.Counting.{WorkCause, drafting_after};
 ghost use Rattle.ddrescueverify_cli.specs.Ddrescueverify.{Ddrescueverify, VerifyDone, VerifyWorked, handed};
 ghost use Rattle.ddrescueverify_cli.specs.Refusals.{NameOneFileTwice, same_of};
@@ -36,13 +36,6 @@ use rescue_verify::halt::Halt;
 use rescue_verify::piece::Comparison;
 use rescue_verify::tally::Tally;
 use std::alloc::Global;
-
-/// Where the comparison begins in the output.
-fn output_from(options: &VerifyOptions) -> u64
-    ensures { result ≡ output_from options.now }
-{
-    options.output_position.unwrap_or(options.input_position)
-}
 
 /// The answer of a comparison that stopped.
 fn answer_of_halt(halt: Halt) -> VerifyEnding
@@ -84,7 +77,7 @@ fn compare_loaded<S: Source, D: Site>(
     ensures site { SiteStays (D.state site.old) (D.state site.new) }
 {
     let from = options.input_position;
-    let to = output_from(options);
+    let to = options.output_position.unwrap_or(from);
     if !places_fit(from, options.size, to, end) {
         return Err(VerifyEnding::Usage(UsageFault::PlaceTooLarge));
     }

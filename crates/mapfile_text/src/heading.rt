@@ -103,8 +103,8 @@ impl Heading {
     }
 }
 
-/// A byte of a command line, as it is printed.
-pub(crate) fn shown(byte: u8) -> u8
+/// A byte as it is printed: a control character becomes a question mark.
+pub fn shown_byte(byte: u8) -> u8
     ensures { result ≡ shown_byte byte }
 {
     if byte < 0x20 || byte == 0x7F {

@@ -9,7 +9,7 @@ ghost use Rattle.mapfile_text.specs.Printed.{printed, shown_byte};
 ghost use Rattle.mapfile_text.specs.Pieces.{pieces_of};
 ghost use Rattle.mapfile_text.specs.LeftOf.{heading_parts, number_of, position_of, map_lines, parts_from, left_of, IsAppended};
 
-use crate::heading::{Heading, shown};
+use crate::heading::{Heading, shown_byte};
 use crate::made_lines::{
     Line, append, append_block, append_now, append_program, append_start, append_state,
 };
@@ -201,7 +201,7 @@ fn append_words(out: &mut ArrayVec<u8, 4096>, words: &[u8], went: usize)
         ≡ out.old.items ++ take (4096 - array_vec_len out.old) (drop went (map shown_byte words.now)) }
 {
     for byte in fitting(words, went, out.remaining_capacity()) {
-        out.push(shown(*byte));
+        out.push(shown_byte(*byte));
     }
 }
 

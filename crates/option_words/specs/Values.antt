@@ -39,6 +39,10 @@ sector_letter = 98
 abbrev pub quiet_letter : ℕ
 quiet_letter = 113
 
+-- the letter of the option that names the domain map (`-m`), in every program that has one; it is read by itself
+abbrev pub domain_letter : ℕ
+domain_letter = 109
+
 -- an option's letter, its long name, and whether it takes a value
 abbrev pub Meaning : Type 0
 Meaning = Option ℕ × List ℕ × Takes

@@ -9,6 +9,7 @@ use crate::cause::{Cause, Named};
 use crate::texts::{doing_text, fact_text, hint_text, option_text, role_text, stream_text};
 use arrayvec::ArrayVec;
 use itoa::Buffer;
+use mapfile_text::heading::shown_byte;
 
 /// A line on standard error.
 pub type Line = ArrayVec<u8, 512>;
@@ -200,17 +201,6 @@ fn add_cause(line: &mut Line, cause: Cause<'_>)
     }
 }
 
-/// A byte as it is printed.
-fn shown(byte: u8) -> u8
-    ensures { result ≡ shown_byte byte }
-{
-    if byte < 0x20 || byte == 0x7F {
-        b'?'
-    } else {
-        byte
-    }
-}
-
 /// Adds bytes as they are printed.
 fn add_shown(line: &mut Line, bytes: &[u8])
     requires { array_vec_len line.old + length bytes.now ≤ 511 }
@@ -218,7 +208,7 @@ fn add_shown(line: &mut Line, bytes: &[u8])
     ensures len { array_vec_len line.new ≡ array_vec_len line.old + length bytes.now }
 {
     for byte in bytes {
-        line.push(shown(*byte));
+        line.push(shown_byte(*byte));
     }
 }
 

@@ -3,13 +3,12 @@ ghost use Rattle.std.specs.Prelude.{◌≡◌, ◌+◌, ◌≤◌, true, [], ◌
 ghost use Rattle.std.specs.Fmt.{decimal};
 ghost use Rattle.arrayvec.specs.ArrayVec.{array_vec_len};
 ghost use Rattle.rescue_console.specs.Speaking.{SpeaksOn, out_pieces};
-ghost use Rattle.rescue_rules.specs.Lines.{phase_front, last_front, phase_text, rate_of, report_text};
+ghost use Rattle.rescue_rules.specs.Lines.{phase_front, last_front, rate_of, report_text};
 
 use arrayvec::ArrayVec;
 use itoa::Buffer;
-use mapfile_text::state::Current;
 use rescue_console::console::{Channel, Console};
-use rescue_rules::report::Report;
+use rescue_rules::report::{Report, phase_name};
 
 /// A line.
 type Line = ArrayVec<u8, 512>;
@@ -30,22 +29,6 @@ fn add_number(line: &mut Line, text: &str, n: u64)
 {
     add(line, text);
     add(line, Buffer::new().format(n));
-}
-
-/// What is done in a phase.
-fn name_of(current: Current) -> &'static str
-    ensures text { result.now ≡ phase_text current }
-    ensures short { length result.now ≤ 10 }
-{
-    match current {
-        Current::Copying => "copying",
-        Current::Trimming => "trimming",
-        Current::Scraping => "scraping",
-        Current::Retrying => "retrying",
-        Current::Filling => "filling",
-        Current::Generating => "generating",
-        Current::Finished => "finished",
-    }
 }
 
 /// Adds how many bytes a second are written, if `written` bytes take `taken` milliseconds.
@@ -83,7 +66,7 @@ fn phase_line(report: &Report) -> Line
     ensures { result.items ≡ report_text (phase_front report.now.shown) report.now }
 {
     let mut line = Line::new();
-    add(&mut line, name_of(report.shown.current));
+    add(&mut line, phase_name(report.shown.current));
     add_number(&mut line, " pass ", u64::from(report.shown.pass));
     add_report(&mut line, report);
     line

@@ -1,12 +1,13 @@
 //! The lines of a rescue, as they are read.
 ghost use Rattle.std.specs.Prelude.{◌≡◌, ℕ, ◌<◌, ◌^◌, ◌++◌, List, Some, IfSome, slice_index_or};
 ghost use Rattle.rescue_rules.specs.declared.report.Report.{Report};
-ghost use Rattle.rescue_rules.specs.Lines.{last_front, phase_text, report_text};
+ghost use Rattle.rescue_rules.specs.Lines.{last_front, report_text};
 ghost use Rattle.rescue_lines.specs.Lines.{IsHead, IsReport, StripsHead, figures_line, figures_of, head_text, opening_front, start_by, start_of, start_with};
 
 use crate::cursor::Cursor;
 use block_list::areas::Count;
 use mapfile_text::state::Current;
+use rescue_rules::report::phase_name;
 
 /// What a line of a rescue begins with.
 #[derive(Clone, Copy, Debug, PartialEq, Eq)]
@@ -65,21 +66,6 @@ fn start_by(first: u8, third: u8, ninth: u8) -> Start
     }
 }
 
-/// The name of a phase.
-pub fn name_of(current: Current) -> &'static str
-    ensures { result.now ≡ phase_text current }
-{
-    match current {
-        Current::Copying => "copying",
-        Current::Trimming => "trimming",
-        Current::Scraping => "scraping",
-        Current::Retrying => "retrying",
-        Current::Filling => "filling",
-        Current::Generating => "generating",
-        Current::Finished => "finished",
-    }
-}
-
 /// How the last line of a run begins.
 pub fn name_of_end(done: bool) -> &'static str
     ensures { result.now ≡ last_front done }
@@ -91,7 +77,7 @@ pub fn name_of_end(done: bool) -> &'static str
 fn read_phase(cursor: &mut Cursor<'_>, current: Current) -> Head
     ensures { StripsHead (λ h. IsHead h × (start_with h ≡ Start.InPhase current)) result cursor.old cursor.new }
 {
-    cursor.read(name_of(current));
+    cursor.read(phase_name(current));
     cursor.read(" pass ");
     let pass = cursor.read_number(": position ");
     Head::Phase { current, pass }

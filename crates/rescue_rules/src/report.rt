@@ -1,4 +1,7 @@
 //! What a status line says.
+ghost use Rattle.std.specs.Prelude.{◌≡◌, ◌≤◌, length};
+ghost use Rattle.rescue_rules.specs.Lines.{phase_text};
+
 use block_list::areas::Count;
 use mapfile_text::state::{Current, MapState};
 
@@ -30,4 +33,20 @@ pub struct Report {
     pub taken: u64,
     /// How many bytes the run has written.
     pub written: u64,
+}
+
+/// The name of a phase.
+pub fn phase_name(current: Current) -> &'static str
+    ensures text { result.now ≡ phase_text current }
+    ensures short { length result.now ≤ 10 }
+{
+    match current {
+        Current::Copying => "copying",
+        Current::Trimming => "trimming",
+        Current::Scraping => "scraping",
+        Current::Retrying => "retrying",
+        Current::Filling => "filling",
+        Current::Generating => "generating",
+        Current::Finished => "finished",
+    }
 }

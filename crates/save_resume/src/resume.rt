@@ -1,5 +1,6 @@
 //! Resumes from a mapfile, after a barrier.
-ghost use Rattle.std.specs.Prelude.{◌≡◌, ◌≢◌, IsTrue, OnOk, IfErr};
+ghost use Rattle.std.specs.Prelude.{◌≡◌, ◌≢◌, ◌<◌, ◌≤◌, ◌^◌, IsTrue, length, OnOk, IfErr};
+ghost use Rattle.block_list.specs.Map.{extended};
 ghost use Rattle.mapfile_text.specs.declared.read.MapError.TheVariants.{NoStatusLine as Nothing};
 ghost use Rattle.crash_site.specs.SiteState.{files_in};
 ghost use Rattle.crash_site.specs.SiteChanges.{Makes, Breaks, Stays};
@@ -8,6 +9,8 @@ ghost use Rattle.save_resume.specs.Resuming.{barrier_calls, IsResumeCall, resume
 
 use crate::load::{ResumeFault, load_map};
 use crate::names::Names;
+use block_list::plain_tiles::PlainTiles;
+use block_list::tiles::{NoMemory, Tiles};
 use crash_site::site::{Site, SiteCall};
 use mapfile_text::read::{MapError, Mode, ReadMap};
 use std::alloc::Global;
@@ -66,4 +69,18 @@ pub fn resume<D: Site>(alloc: Global, site: &mut D, names: &Names) -> Result<Res
         return Err(ResumeFault::Site(call));
     }
     answer(load_map(alloc, site, names.map(), Mode::Tight))
+}
+
+/// Adds non-tried positions up to an end, if the map ends earlier.
+pub fn extend_map(tiles: &mut PlainTiles, end: u64) -> Result<(), NoMemory>
+    requires { end < 2 ^ 63 }
+    ensures extended { OnOk result (tiles.new.statuses ≡ extended tiles.old.statuses end) }
+    ensures long { OnOk result (end ≤ length tiles.new.statuses) }
+    ensures short { OnOk result (length tiles.new.statuses < 2 ^ 63) }
+{
+    if tiles.end() < end {
+        tiles.reserve(1)?;
+        tiles.extend_to(end);
+    }
+    Ok(())
 }

@@ -1,7 +1,6 @@
 -- The row of each answer: from it follow its exit status, its message, what it says of the words, and which count rose.
 -- No row stands for several answers.
 use Rattle.std.specs.Prelude.{◌≡◌, ◌≢◌, ⊤, ℕ, Bool, false, List, [], ◌++◌, Option, Some, None, IfSome, codes}
-use Rattle.mapfile_text.specs.declared.read.MapError.{MapError}
 use Rattle.mapfile_text.specs.declared.read.MapError.TheVariants.{NoStatusLine, NoMemory as OutOfMemory}
 use Rattle.faulty_source.specs.SourceState.{SourceState}
 use Rattle.crash_site.specs.declared.site.SiteCall.{SiteCall}
@@ -23,7 +22,7 @@ use Rattle.task_files.specs.declared.ending.Ending.{Ending}
 use Rattle.task_files.specs.declared.ending.Ending.TheVariants.{Done, Usage, SameName, NoMap, SourceFault, NotRegular, MapRefused, SourceLost, EmptyPattern, PatternUnread, NoOutput, SiteFault, LimitMet, NoMemory}
 use Rattle.ddrescue_words.specs.Command.{Command, Task, Rescue, Fill, Generate, Sample}
 use Rattle.ddrescue_words.specs.Asking.{AskTask}
-use Rattle.task_files.specs.Names.{first_same, program_name}
+use Rattle.task_files.specs.Names.{first_same_with_optional_map, program_name}
 use Rattle.task_files.specs.Asked.{names_by}
 
 -- the files that a task is over, if it is over files
@@ -43,7 +42,7 @@ pub record AskForFiles (words : List (List ℕ)) (command : Command) : Type 0 wh
 pub record NameOneFileTwice (words : List (List ℕ)) (first second : Operand) : Type 0 where
   pub command : Command
   pub asks : AskForFiles words command
-  pub same : first_same command.infile command.outfile (names_by command) ≡ Some (first, second)
+  pub same : first_same_with_optional_map command.infile command.outfile (names_by command) ≡ Some (first, second)
 
 -- ---- the row
 
@@ -52,10 +51,6 @@ abbrev pub which_text : Which → List ℕ
 which_text DomainMap = codes "domain mapfile"
 which_text TestMap = codes "test mapfile"
 which_text RunMap = codes "mapfile"
-
--- why a map is refused
-abbrev pub map_error_text : Which → MapError → List ℕ
-map_error_text which error = which_text which ++ codes ": " ++ error_text error
 
 -- a limit that a run met
 abbrev pub limit_text : Limit → List ℕ
@@ -92,7 +87,7 @@ row_of (SameName first second) = brought_row 1 (codes "two files have one name")
 row_of (NoMap which) = brought_row 1 (which_text which ++ codes " does not exist")
 row_of SourceFault = failed_row AtOpen (codes "cannot open input")
 row_of NotRegular = brought_row 1 (codes "output is not a regular file, use --force")
-row_of (MapRefused which error) = only_where (brought_row 2 (map_error_text which error))
+row_of (MapRefused which error) = only_where (brought_row 2 (which_text which ++ codes ": " ++ error_text error))
     ((which ≡ RunMap → error ≢ NoStatusLine) × (error ≢ OutOfMemory))
 row_of SourceLost = failed_row AtRead (codes "input lost")
 row_of EmptyPattern = brought_row 1 (codes "input is empty")

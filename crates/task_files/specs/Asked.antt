@@ -11,21 +11,19 @@ use Rattle.ddrescue_words.specs.declared.options.Options.{Options}
 use Rattle.ddrescue_words.specs.Options.{cluster_of, in_sectors}
 use Rattle.ddrescue_words.specs.Command.{Command}
 
--- where the rescue begins in the output
-abbrev pub output_from : Options → ℕ
-output_from o = unwrap_or o.output_position o.input_position
-
 -- the place of a position in the output
 abbrev pub place_by : Options → ℕ → ℕ
-place_by o x = place_from o.input_position (output_from o) x
+place_by o x = place_from o.input_position (unwrap_or o.output_position o.input_position) x
 
 -- each position that is asked for of an input with this length ends in the output below 2^63
 abbrev pub ArePlacedBy : Options → (end : ℕ) → Type 0
-ArePlacedBy o end = AreAllPlaced (whole_domain o.input_position o.size end) o.input_position (output_from o)
+ArePlacedBy o end = AreAllPlaced (whole_domain o.input_position o.size end) o.input_position
+    (unwrap_or o.output_position o.input_position)
 
 -- a position that is asked for of an input with this length would end in the output at 2^63 or past it
 abbrev pub IsBeyond : Options → (end : ℕ) → Type 0
-IsBeyond o end = IsAnyBeyond (whole_domain o.input_position o.size end) o.input_position (output_from o)
+IsBeyond o end = IsAnyBeyond (whole_domain o.input_position o.size end) o.input_position
+    (unwrap_or o.output_position o.input_position)
 
 -- What maps say of the positions that are to be rescued: the statuses of the domain map and of the test map, if they
 -- are named. If only the positions that the mapfile lists are to be rescued: where these begin and end.
@@ -66,7 +64,7 @@ setting_asked infile outfile names line o end maps = record {
   end = end;
   domain = domain_asked o end maps;
   input_position = o.input_position;
-  output_position = output_from o;
+  output_position = unwrap_or o.output_position o.input_position;
   try_again = o.try_again;
   retrim = o.retrim;
   sector = o.sector;

@@ -4,12 +4,12 @@ use Rattle.std.specs.Str.{bytes_eq}
 use Rattle.save_resume.specs.MapNames.{MapNames}
 use Rattle.program_promise.specs.declared.operand.Operand.{Operand}
 use Rattle.program_promise.specs.declared.operand.Operand.TheVariants.{Infile, Outfile}
-use Rattle.program_promise.specs.Operands.{first_same as first_same_with}
+use Rattle.program_promise.specs.Operands.{first_same}
 
 -- the first two of an infile and an outfile, and of a mapfile and its draft if there is one, that have one name
-abbrev pub first_same : (i o : List ℕ) → Option MapNames → Option (Operand × Operand)
-first_same i o None = if bytes_eq i o then Some (Infile, Outfile) else None
-first_same i o (Some n) = first_same_with i o n
+abbrev pub first_same_with_optional_map : (i o : List ℕ) → Option MapNames → Option (Operand × Operand)
+first_same_with_optional_map i o None = if bytes_eq i o then Some (Infile, Outfile) else None
+first_same_with_optional_map i o (Some n) = first_same i o n
 
 -- an outfile has another name than a mapfile and its draft
 abbrev pub AreNamedApart : (outfile : List ℕ) → Option MapNames → Type 0

@@ -14,13 +14,13 @@ use Rattle.task_files.specs.declared.ending.Ending.{Ending}
 use Rattle.task_files.specs.declared.ending.Ending.TheVariants.{Usage, SameName, NoMap, NotRegular, MapRefused, EmptyPattern, NoOutput}
 use Rattle.ddrescue_words.specs.declared.options.Options.{Options}
 use Rattle.ddrescue_words.specs.Command.{Command}
-use Rattle.task_files.specs.Names.{first_same}
+use Rattle.task_files.specs.Names.{first_same_with_optional_map}
 use Rattle.task_files.specs.Asked.{names_by, IsBeyond}
 
 -- two files have one name
 abbrev pub NamesRefused : Command → Ending → Type 0
 NamesRefused c e =
-    (first second : Operand) × (first_same c.infile c.outfile (names_by c) ≡ Some (first, second))
+    (first second : Operand) × (first_same_with_optional_map c.infile c.outfile (names_by c) ≡ Some (first, second))
     × (e ≡ SameName first second)
 
 -- a map that an option names isn't there, or is no map, or is too long

@@ -1,9 +1,9 @@
 -- What options ask of a run, and the line before it. For contracts and proofs: no promise uses it.
-use Rattle.std.specs.Prelude.{ℕ, List, [], ◌∷◌, Option, Some, None}
+use Rattle.std.specs.Prelude.{ℕ, List, [], ◌∷◌, Option, Some, None, unwrap_or}
 use Rattle.rescue_core.specs.declared.settings.Settings.{Settings}
 use Rattle.ddrescue_words.specs.declared.options.Options.{Options}
 use Rattle.ddrescue_words.specs.Options.{cluster_of}
-use Rattle.task_files.specs.Asked.{output_from, skips_asked}
+use Rattle.task_files.specs.Asked.{skips_asked}
 
 -- what options ask of a run
 abbrev pub settings_by : Options → Settings
@@ -11,7 +11,7 @@ settings_by o = record {
   sector = o.sector;
   cluster = cluster_of o;
   input_position = o.input_position;
-  output_position = output_from o;
+  output_position = unwrap_or o.output_position o.input_position;
   skips = skips_asked o;
   passes = o.passes;
   limits = o.limits;

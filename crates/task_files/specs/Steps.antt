@@ -37,7 +37,7 @@ use Rattle.task_files.specs.declared.ending.Which.TheVariants.{RunMap}
 use Rattle.task_files.specs.declared.ending.Ended.{Ended}
 use Rattle.task_files.specs.declared.ending.Ending.{Ending}
 use Rattle.task_files.specs.declared.ending.Ending.TheVariants.{NoMap, NotRegular, MapRefused, NoOutput, SiteFault, NoMemory}
-use Rattle.task_files.specs.Names.{AreNamedApart, first_same}
+use Rattle.task_files.specs.Names.{AreNamedApart, first_same_with_optional_map}
 use Rattle.task_files.specs.Asked.{ArePlacedBy, Maps, names_by, setting_of}
 use Rattle.task_files.specs.Maps.{Found, AreAskedFor, AreMapsIn, IsListing, MapfileLists, mapfile_of}
 use Rattle.task_files.specs.Outside.{Outside, HasGainedReads, Agrees}
@@ -59,7 +59,7 @@ heard_after heard (Err e) = heard
 pub record IsChecked (checked : CheckedCommand) : Type 0 where
   pub names : checked.names ≡ names_by (told_by checked.command)
   pub apart : AreNamedApart (told_by checked.command).outfile checked.names
-  pub different : first_same (told_by checked.command).infile (told_by checked.command).outfile
+  pub different : first_same_with_optional_map (told_by checked.command).infile (told_by checked.command).outfile
       (names_by (told_by checked.command)) ≡ None
   pub heading : checked.heading ≡ heading_at checked.heading.line 0 0
   pub limits : AreInLimits checked.command.options

@@ -4,7 +4,7 @@ ghost use Rattle.rescue_rules.specs.Snapshots.{heading_at};
 ghost use Rattle.save_resume.specs.MapNames.{names_of};
 ghost use Rattle.ddrescue_words.specs.Asking.{told_by};
 ghost use Rattle.option_words.specs.Words.{command_line};
-ghost use Rattle.task_files.specs.Names.{first_same, program_name};
+ghost use Rattle.task_files.specs.Names.{first_same_with_optional_map, program_name};
 ghost use Rattle.task_files.specs.Asked.{names_by};
 ghost use Rattle.task_files.specs.Refusals.{NamesRefused};
 ghost use Rattle.task_files.specs.declared.ending.Ending.TheVariants.{NoMemory as OutOfMemory};
@@ -15,19 +15,23 @@ use ddrescue_words::command::Command;
 use mapfile_text::heading::{Heading, Program};
 use option_words::words::Words;
 use program_promise::heading::make_heading;
-use program_promise::operand::{self, Operand};
+use program_promise::operand::{Operand, find_same};
 use save_resume::names::Names;
 use std::alloc::Global;
 
 /// The program's name, which begins its command line and its messages.
 pub const PROGRAM: &str = "ddrescue";
 
-/// The first two files that have one name.
-fn find_same(infile: &str, outfile: &str, names: &Option<Names>) -> Option<(Operand, Operand)>
-    ensures { result ≡ first_same infile.now outfile.now names.now }
+/// The first two files that have one name, of a command with or without a mapfile.
+fn find_same_with_optional_map(
+    infile: &str,
+    outfile: &str,
+    names: &Option<Names>,
+) -> Option<(Operand, Operand)>
+    ensures { result ≡ first_same_with_optional_map infile.now outfile.now names.now }
 {
     match names {
-        Some(names) => operand::find_same(infile, outfile, names),
+        Some(names) => find_same(infile, outfile, names),
         None => {
             if infile == outfile {
                 Some((Operand::Infile, Operand::Outfile))
@@ -71,14 +75,18 @@ pub fn check_command<'a>(
     ensures names { IfOk result (λ p. p.names ≡ names_by (told_by command.entry)) }
     ensures heading { IfOk result (λ p. p.heading ≡ heading_at (command_line program_name words.now) 0 0) }
     ensures heard { IfOk result (λ p. p.heard ≡ not (told_by command.entry).options.quiet) }
-    ensures different { OnOk result (first_same (told_by command.entry).infile (told_by command.entry).outfile
-        (names_by (told_by command.entry)) ≡ None) }
+    ensures different { OnOk result (first_same_with_optional_map (told_by command.entry).infile
+        (told_by command.entry).outfile (names_by (told_by command.entry)) ≡ None) }
     ensures refused { IfErr result (λ e. NamesRefused (told_by command.entry) e ⊎ (e ≡ OutOfMemory)) }
 {
     let Ok(names) = make_names(alloc, command.mapfile) else {
         return Err(Ending::NoMemory);
     };
-    if let Some((first, second)) = find_same(command.infile, command.outfile, &names) {
+    if let Some((first, second)) = find_same_with_optional_map(
+        command.infile,
+        command.outfile,
+        &names,
+    ) {
         return Err(Ending::SameName { first, second });
     }
     let Ok(heading) = make_heading(alloc, PROGRAM, words, Program::Ddrescue) else {

@@ -8,14 +8,14 @@ ghost use Rattle.task_files.specs.Steps.{SuitsInput, LoadCause, Loads, mapfile_b
 
 use crate::ending::{Ending, Which};
 use block_list::plain_tiles::PlainTiles;
-use block_list::tiles::{NoMemory, Tiles};
+use block_list::tiles::Tiles;
 use crash_site::site::Site;
 use mapfile_text::read::ReadMap;
 use mapfile_text::state::MapState;
 use paged_blocks::paged_tiles::PagedTiles;
 use save_resume::load::ResumeFault;
 use save_resume::names::Names;
-use save_resume::resume::{Resumed, resume};
+use save_resume::resume::{Resumed, extend_map, resume};
 use std::alloc::Global;
 
 /// The map of a run.
@@ -42,20 +42,6 @@ pub struct LoadedFiles {
     pub end: u64,
 }
 
-/// Adds non-tried positions up to an end, if the map ends earlier.
-fn extend(tiles: &mut PlainTiles, end: u64) -> Result<(), NoMemory>
-    requires { end < 2 ^ 63 }
-    ensures extended { OnOk result (tiles.new.statuses ≡ extended tiles.old.statuses end) }
-    ensures long { OnOk result (end ≤ length tiles.new.statuses) }
-    ensures short { OnOk result (length tiles.new.statuses < 2 ^ 63) }
-{
-    if tiles.end() < end {
-        tiles.reserve(1)?;
-        tiles.extend_to(end);
-    }
-    Ok(())
-}
-
 /// The map of a run: that of a list, and non-tried positions up to an end, if it ends earlier.
 fn run_map(alloc: Global, mut tiles: PlainTiles, end: u64) -> Result<RunMap, Ending>
     requires { end < 2 ^ 63 }
@@ -64,7 +50,7 @@ fn run_map(alloc: Global, mut tiles: PlainTiles, end: u64) -> Result<RunMap, End
     ensures short { IfOk result (λ map. length map.statuses < 2 ^ 63) }
     ensures starved { IfErr result (λ e. e ≡ OutOfMemory) }
 {
-    extend(&mut tiles, end).map_err(|_| Ending::NoMemory)?;
+    extend_map(&mut tiles, end).map_err(|_| Ending::NoMemory)?;
     PagedTiles::from_plain(alloc, &tiles).map_err(|_| Ending::NoMemory)
 }
 

@@ -1,13 +1,12 @@
 //! The message on an answer, on the console.
 ghost use Rattle.std.specs.Prelude.{◌≡◌, ◌+◌, ◌≤◌, ◌++◌};
 ghost use Rattle.arrayvec.specs.ArrayVec.{array_vec_len};
-ghost use Rattle.task_files.specs.Answers.{which_text, map_error_text, after_text, limit_text, is_silent, text_of_ending, message};
+ghost use Rattle.task_files.specs.Answers.{which_text, after_text, limit_text, is_silent, text_of_ending, message};
 
 use crate::checked::PROGRAM;
 use crate::ending::{Ending, Which};
 use console_texts::faults::{add_map_error, add_site_fault, add_usage};
 use console_texts::message::{Message, add, add_number, begin, end};
-use mapfile_text::read::MapError;
 use program_promise::answer::Answer;
 use rescue_rules::stop::{Limit, Stop};
 
@@ -22,17 +21,6 @@ fn add_which(message: &mut Message, which: Which)
         Which::TestMap => add(message, "test mapfile"),
         Which::RunMap => add(message, "mapfile"),
     }
-}
-
-/// Adds why a mapfile is refused.
-fn add_refusal(message: &mut Message, which: Which, error: MapError)
-    requires { array_vec_len message.old ≤ 20 }
-    ensures text { message.new.items ≡ message.old.items ++ map_error_text which error }
-    ensures len { array_vec_len message.new ≤ 120 }
-{
-    add_which(message, which);
-    add(message, ": ");
-    add_map_error(message, error);
 }
 
 /// Adds which limit a run met.
@@ -80,7 +68,11 @@ fn add_ending(message: &mut Message, ending: Ending)
         }
         Ending::SourceFault => add(message, "cannot open input"),
         Ending::NotRegular => add(message, "output is not a regular file, use --force"),
-        Ending::MapRefused { which, error } => add_refusal(message, which, error),
+        Ending::MapRefused { which, error } => {
+            add_which(message, which);
+            add(message, ": ");
+            add_map_error(message, error);
+        }
         Ending::SourceLost => add(message, "input lost"),
         Ending::EmptyPattern => add(message, "input is empty"),
         Ending::PatternUnread => add(message, "input cannot be read"),

@@ -7,27 +7,17 @@ ghost use Rattle.task_files.specs.Settings.{lines_in};
 
 use block_list::tiles::NoMemory;
 use itoa::Buffer;
+use mapfile_text::heading::shown_byte;
 use rescue_console::console::{Channel, Console};
 use rescue_sample::line::add;
 use std::alloc::Global;
-
-/// A byte of a name, as the line has it.
-fn shown(byte: u8) -> u8
-    ensures { result ≡ shown_byte byte }
-{
-    if byte < 0x20 || byte == 0x7F {
-        b'?'
-    } else {
-        byte
-    }
-}
 
 /// Adds a name.
 fn add_name(line: &mut Vec<u8>, name: &str) -> Result<(), NoMemory>
     ensures { OnOk result (line.new.items ≡ line.old.items ++ map shown_byte name.now) }
 {
     for byte in name.as_bytes() {
-        line.push(shown(*byte)).map_err(|_| NoMemory)?;
+        line.push(shown_byte(*byte)).map_err(|_| NoMemory)?;
     }
     Ok(())
 }

@@ -1,17 +1,10 @@
 //! Whether each position of the domain has a place in the output.
 ghost use Rattle.std.specs.Prelude.{◌≡◌, ◌<◌, ◌^◌, true, false};
 ghost use Rattle.ddrescue_words.specs.Asking.{AreInLimits};
-ghost use Rattle.task_files.specs.Asked.{output_from, ArePlacedBy, IsBeyond};
+ghost use Rattle.task_files.specs.Asked.{ArePlacedBy, IsBeyond};
 
 use ddrescue_words::options::Options;
 use rescue_domain::places;
-
-/// Where the rescue begins in the output.
-pub fn output_from(options: &Options) -> u64
-    ensures { result ≡ output_from options.now }
-{
-    options.output_position.unwrap_or(options.input_position)
-}
 
 /// Whether the positions that are asked for of an input of this length all end in the output below 2^63.
 pub fn places_fit(options: &Options, end: u64) -> bool
@@ -20,6 +13,7 @@ pub fn places_fit(options: &Options, end: u64) -> bool
     ensures fit { result ≡ true → ArePlacedBy options.now end }
     ensures beyond { result ≡ false → IsBeyond options.now end }
 {
-    let to = output_from(options);
-    places::places_fit(options.input_position, options.size, to, end)
+    let from = options.input_position;
+    let to = options.output_position.unwrap_or(from);
+    places::places_fit(from, options.size, to, end)
 }

@@ -7,7 +7,6 @@ ghost use Rattle.task_files.specs.Asked.{Maps, domain_asked, setting_of};
 ghost use Rattle.task_files.specs.Settings.{lines_in, settings_by};
 
 use crate::opening::opening_line;
-use crate::places::output_from;
 use block_list::tiles::NoMemory;
 use ddrescue_words::command::Command;
 use ddrescue_words::options::Options;
@@ -25,7 +24,7 @@ pub fn settings_for(options: &Options) -> Settings
         sector: options.sector,
         cluster: options.cluster(),
         input_position: options.input_position,
-        output_position: output_from(options),
+        output_position: options.output_position.unwrap_or(options.input_position),
         skips: Skips {
             first: options.first_skip(),
             most: options.largest_skip(),

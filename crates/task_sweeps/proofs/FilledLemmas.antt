@@ -33,7 +33,7 @@ use Rattle.task_files.specs.declared.ending.Ending.{Ending}
 use Rattle.task_files.specs.declared.ending.Ending.TheVariants.{Usage, SourceFault, EmptyPattern, NoMemory}
 use Rattle.task_files.specs.declared.ending.Which.TheVariants.{DomainMap}
 use Rattle.task_files.specs.declared.load.LoadedMap.{LoadedMap}
-use Rattle.task_files.specs.Names.{first_same}
+use Rattle.task_files.specs.Names.{first_same_with_optional_map}
 use Rattle.task_files.specs.Asked.{names_by, ArePlacedBy, IsBeyond}
 use Rattle.task_files.specs.Outside.{Outside}
 use Rattle.task_files.specs.Refusals.{PatternEmpty}
@@ -171,7 +171,7 @@ Patterned types c line w top buffer pieces end =
     ThenPattern (cluster_of c.options) w.end buffer (Onward types c line w top buffer pieces end)
 
 module _ (types : TypeSet) (c : Command) (line : List ℕ) (heard : Bool)
-    (different : first_same c.infile c.outfile (names_by c) ≡ None) where
+    (different : first_same_with_optional_map c.infile c.outfile (names_by c) ≡ None) where
   -- at the read of the map that an option names
   pub fill_unread : (e : Ending) (source : SourceState) (old new : SiteState) (clock : ClockState) (x : ConsoleState)
       → ReadsMap DomainMap (mode_by c) c.domain_map (Err e) old new

@@ -30,7 +30,7 @@ use Rattle.task_files.specs.declared.ending.Ending.{Ending}
 use Rattle.task_files.specs.declared.ending.Ending.TheVariants.{Usage, SourceFault, NoOutput}
 use Rattle.task_files.specs.declared.ending.Which.TheVariants.{DomainMap}
 use Rattle.task_files.specs.declared.load.LoadedMap.{LoadedMap}
-use Rattle.task_files.specs.Names.{first_same}
+use Rattle.task_files.specs.Names.{first_same_with_optional_map}
 use Rattle.task_files.specs.Asked.{names_by, setting_of, ArePlacedBy, IsBeyond}
 use Rattle.task_files.specs.Outside.{Outside}
 use Rattle.task_files.specs.Work.{rescue_faults, files_rows}
@@ -96,7 +96,8 @@ output_apart s d three image name is =
 
 -- ---- where it ended
 
-module _ (c : Command) (line : List ℕ) (heard : Bool) (different : first_same c.infile c.outfile (names_by c) ≡ None) where
+module _ (c : Command) (line : List ℕ) (heard : Bool)
+    (different : first_same_with_optional_map c.infile c.outfile (names_by c) ≡ None) where
   -- at the read of the map that an option names
   pub generate_unread : (e : Ending) (source : SourceState) (old new : SiteState) (clock : ClockState) (x : ConsoleState)
       → ReadsMap DomainMap (mode_by c) c.domain_map (Err e) old new

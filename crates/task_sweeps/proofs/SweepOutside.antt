@@ -20,7 +20,7 @@ use Rattle.work_rules.proofs.PartLemmas.{stopped_more, through_then}
 use Rattle.ddrescue_words.specs.Command.{Command}
 use Rattle.task_files.specs.declared.ending.Which.TheVariants.{DomainMap}
 use Rattle.task_files.specs.declared.ending.Ending.{Ending}
-use Rattle.task_files.specs.Names.{first_same}
+use Rattle.task_files.specs.Names.{first_same_with_optional_map}
 use Rattle.task_files.specs.Asked.{names_by}
 use Rattle.task_files.specs.Maps.{Found, found_in, mapfile_of}
 use Rattle.task_files.specs.Outside.{Outside}
@@ -103,7 +103,7 @@ module _ (c : Command) (domain : Option Tiled) (s0 s1 : SourceState) (old mid la
       }
 
   -- the steps before what was done after it
-  pub named_then : first_same c.infile c.outfile (names_by c) ≡ None → (more : List (WorkStep Ending))
+  pub named_then : first_same_with_optional_map c.infile c.outfile (names_by c) ≡ None → (more : List (WorkStep Ending))
       (run : Ending → Deeds → Type 0) (e : Ending) → Works rescue_faults more run e b.did
       → Works rescue_faults (named_rows c outside_after.found ++ more) run e outside_after.did
   named_then different more run e w =
@@ -159,7 +159,7 @@ module _ (c : Command) (e : Ending) (source : SourceState) (old new : SiteState)
         fit = All-nil (λ t. t < 2 ^ 64);
       }
 
-  pub named_stops : first_same c.infile c.outfile (names_by c) ≡ None → (more : List (WorkStep Ending))
+  pub named_stops : first_same_with_optional_map c.infile c.outfile (names_by c) ≡ None → (more : List (WorkStep Ending))
       (run : Ending → Deeds → Type 0)
       → Works rescue_faults (named_rows c unread_found ++ more) run e (only_calls r.calls)
   named_stops different more run =

@@ -7,11 +7,11 @@ use Rattle.ddrescueverify_cli.proofs.verify.compare_loaded.Goals as goal
 
 pub returns-then-not-places_fit-clause-stops : goal.returns-then-not-places_fit-clause-stops
 returns-then-not-places_fit-clause-stops g c =
-    Beyond (far_by c.args.options.now c.args.end _ c.output_from-to.ensures (c.if-not-places_fit.ensures.beyond refl)) refl refl refl
+    Beyond (far_by c.args.options.now c.args.end _ c.unwrap_or-to.ensures (c.if-not-places_fit.ensures.beyond refl)) refl refl refl
 
 pub returns-in_default-clause-stops : goal.returns-in_default-clause-stops
 returns-in_default-clause-stops g c =
-    Starved (near_by c.args.options.now c.args.end _ c.output_from-to.ensures (c.if-not-places_fit.ensures.fit refl)) refl refl refl
+    Starved (near_by c.args.options.now c.args.end _ c.unwrap_or-to.ensures (c.if-not-places_fit.ensures.fit refl)) refl refl refl
 
 pub compare-requires-clause-sound : goal.compare-requires-clause-sound
 compare-requires-clause-sound g c =
@@ -38,15 +38,15 @@ returns-in_default-clause-source g c = stays_self _
 pub returns-in-Ok-compare-clause-compares : goal.returns-in-Ok-compare-clause-compares
 returns-in-Ok-compare-clause-compares g c =
     compares_as c.args.options.now c.args.end c.args.loaded.now.tiles.statuses _ c.in-Ok.ensures _
-    c.output_from-to.ensures _ _ _ _ _ _ c.in-Ok-compare.ensures.compares
+    c.unwrap_or-to.ensures _ _ _ _ _ _ c.in-Ok-compare.ensures.compares
 
 pub returns-clause-stops : goal.returns-clause-stops
 returns-clause-stops g c =
     Halted c.in-Err.halt
-    (near_by c.args.options.now c.args.end _ c.output_from-to.ensures (c.if-not-places_fit.ensures.fit refl))
+    (near_by c.args.options.now c.args.end _ c.unwrap_or-to.ensures (c.if-not-places_fit.ensures.fit refl))
     c.answer_of_halt.ensures
     (compares_as c.args.options.now c.args.end c.args.loaded.now.tiles.statuses _ c.in-Ok.ensures _
-    c.output_from-to.ensures _ _ _ _ _ _ c.in-Err.ensures.compares)
+    c.unwrap_or-to.ensures _ _ _ _ _ _ c.in-Err.ensures.compares)
 
 pub returns-clause-cause : goal.returns-clause-cause
 returns-clause-cause g c =

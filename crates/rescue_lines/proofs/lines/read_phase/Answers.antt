@@ -3,5 +3,5 @@ use Rattle.rescue_lines.proofs.lines.read_phase.Goals as goal
 
 pub returns : goal.returns
 returns c =
-    phase_strips c.args.current _ _ _ _ _ _ c.name_of.ensures c.read.ensures c.read-2.ensures
+    phase_strips c.args.current _ _ _ _ _ _ c.phase_name.ensures.text c.read.ensures c.read-2.ensures
     c.read_number-pass.ensures
