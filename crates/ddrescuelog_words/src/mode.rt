@@ -12,7 +12,7 @@ use map_algebra::combine::Op;
 pub enum LogMode {
     /// The map is printed with types changed.
     Change(TypeChange),
-    /// The map is printed, made one with another map.
+    /// The map is printed, combined with another map.
     Combine(Op),
     /// The map is printed, with the gaps between its blocks filled by a status.
     Complete(Status),

@@ -111,7 +111,7 @@ pub fn advise(
     Some(line_of(PROGRAM, cause))
 }
 
-/// The line that the message of a call that follows a rescue is followed by, if one helps. `fed` and `put` are the
+/// The line to print after the message of a call that follows a rescue, if a line helps. `fed` and `put` are the
 /// errors of standard input and output.
 pub fn advise_follower(
     ending: FollowEnding,

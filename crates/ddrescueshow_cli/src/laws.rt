@@ -58,7 +58,7 @@ pub fn maps_have_one_verdict()
     ensures { HasOneVerdict }
 {}
 
-/// A call leaves every file as it read.
+/// After a call every file reads as it did before.
 pub fn files_stand()
     ensures { FilesStand }
 {}

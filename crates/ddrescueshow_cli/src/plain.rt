@@ -96,7 +96,7 @@ fn add_tried(text: &mut Vec<u8>) -> Result<(), NoMemory>
     add_meaning(text, Status::NonTried, " non-tried, ")
 }
 
-/// Adds what the colors of failed cells mean, and what a blank cell does.
+/// Adds what the colors of failed cells mean, and what a blank cell means.
 fn add_failed(text: &mut Vec<u8>) -> Result<(), NoMemory>
     ensures { OnOk result (text.new.items ≡ text.old.items ++ failed_colors) }
 {

@@ -153,7 +153,7 @@ fn left_by(alloc: Global, size: u64, rescued: u64, rate: u64) -> Result<Vec<u8>,
     }
 }
 
-/// In which time the rest of the domain is rescued, if there is a rest and the size and the rate are known.
+/// How long the rest of the domain takes. Empty without a rest, a known size, or a known rate other than 0.
 fn left_text(
     alloc: Global,
     size: Option<u64>,

@@ -19,7 +19,8 @@ pub enum Which {
 pub enum VerifyEnding {
     /// The outfile has all that the infile gave, and the map was saved.
     Done,
-    /// The outfile hasn't all that the infile gave: pieces of this many bytes became non-tried, and the map was saved.
+    /// The outfile lacks some of what the infile gave: pieces with this many bytes in all became non-tried, and the
+    /// map was saved.
     Differs { bytes: u64 },
     /// The words ask for nothing that can be done.
     Usage(UsageFault),

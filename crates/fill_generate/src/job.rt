@@ -17,7 +17,7 @@ pub struct Job<T: Tiles> {
     /// What the mapfile showed, if it was there: a sweep of the same kind resumes from its position.
     pub loaded: Option<MapState>,
     pub names: Names,
-    /// The heading of saved maps, whose times are set when the map is saved.
+    /// The heading of each saved map. The times of the heading are set when the map is saved.
     pub heading: Heading,
     /// The start, in milliseconds since 1970.
     pub moment: u64,

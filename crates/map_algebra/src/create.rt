@@ -16,7 +16,7 @@ use block_list::tiles::{NoMemory, Tiles};
 use rescue_domain::domain::Domain;
 use std::alloc::Global;
 
-/// Some numbers in ascending order.
+/// All the given numbers in ascending order.
 fn sorted(alloc: Global, numbers: &[u64]) -> Result<Vec<u64>, NoMemory>
     ensures order { IfOk result (λ sorted. IsNonDecreasing sorted.items) }
     ensures same { IfOk result (λ sorted. IsPermutation numbers.now sorted.items) }

@@ -67,7 +67,7 @@ pub(crate) fn append_program(line: &mut Line, program: Program)
     append(line, b"\n");
 }
 
-/// Appends the line of the start time, which a mapfile of ddrescue alone has.
+/// Appends the line of the start time, which only a mapfile of ddrescue has.
 pub(crate) fn append_start(line: &mut Line, heading: &Heading)
     requires { line.old.items ≡ [] }
     ensures { line.new.items ≡ start_line heading.now.program heading.now.start_s }
@@ -82,7 +82,7 @@ pub(crate) fn append_start(line: &mut Line, heading: &Heading)
     }
 }
 
-/// Appends the line of the current time, which a mapfile of ddrescue alone has.
+/// Appends the line of the current time, which only a mapfile of ddrescue has.
 pub(crate) fn append_now(line: &mut Line, heading: &Heading)
     requires { line.old.items ≡ [] }
     ensures { line.new.items ≡ now_line heading.now.program heading.now.now_s }

@@ -90,7 +90,7 @@ fn set_item<O: OptionValues>(
         .ok_or(value_word(item))
 }
 
-/// What the options of a reading set on top of others, in their order, or the word of the first bad value.
+/// What options set on top of `none`, in their order, or the word of the first bad value.
 pub fn read_settings<O: OptionValues>(
     words: &Words,
     items: &[Item],

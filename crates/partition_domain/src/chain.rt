@@ -22,9 +22,9 @@ pub struct Chain {
     pub base: u32,
     /// The sector of the record that comes next.
     pub at: u64,
-    /// How many partitions the records before that one gave.
+    /// How many partitions the records before the next one gave.
     pub given: u64,
-    /// How many records there are before that one.
+    /// How many records there are before the next one.
     pub read: u64,
 }
 

@@ -31,7 +31,7 @@ use save_resume::names::Names;
 pub struct Keeper {
     /// The names of the mapfile and of its draft, if there is a mapfile.
     pub names: Option<Names>,
-    /// The heading of saved maps, whose times are set when the map is saved.
+    /// The heading of each saved map. The times of the heading are set when the map is saved.
     pub heading: Heading,
     pub tally: Tally,
     /// Whether lines are asked for, and each was put so far.

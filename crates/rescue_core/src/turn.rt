@@ -63,7 +63,7 @@ impl Turn {
         !self.whole && !self.ended
     }
 
-    /// Whether the read was whole, and not slow.
+    /// Whether the read was whole and not slow, and the input didn't end after it.
     pub(crate) fn is_plain(&self) -> bool
         ensures whole { result ≡ true → self.now.whole ≡ true }
         ensures slow { result ≡ true → self.now.slow ≡ false }

@@ -29,7 +29,7 @@ impl Live<'_> {
         before && self.domain.holds(x)
     }
 
-    /// The first live position at or after `from`, and the end of the live ones there.
+    /// The first live position at or after `from`, and the end of the run of live positions that begins there.
     pub fn next_in(self, from: u64) -> Option<Range>
         ensures first { IfSome result (λ range. IsFirst (IsIn (lives self.entry)) from range.from) }
         ensures range { IfSome result (λ range. IsRangeUp (IsIn (lives self.entry)) range.from range.to) }
@@ -46,7 +46,8 @@ impl Live<'_> {
         }
     }
 
-    /// The greatest end at or before `before` right below which a live position lies, and where the live ones begin.
+    /// The greatest end at or before `before` right below which a live position lies, and where the run of live
+    /// positions up to that end begins.
     pub fn last_in(self, before: u64) -> Option<Range>
         ensures last { IfSome result (λ range. IsLast (IsIn (lives self.entry)) before range.to) }
         ensures range { IfSome result (λ range. IsRangeDown (IsIn (lives self.entry)) range.from range.to) }

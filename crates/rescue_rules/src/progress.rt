@@ -6,8 +6,9 @@ use crate::stop::TrimMode;
 pub struct Progress {
     /// The pass, counted from 1 within its phase.
     pub pass: u32,
+    /// Where the next search begins, except in trimming.
     pub cursor: u64,
-    /// How trimming goes on.
+    /// Where trimming stands.
     pub mode: TrimMode,
     /// How far copying jumps next.
     pub skip: u64,

@@ -117,7 +117,7 @@ impl Scene {
         Ok(())
     }
 
-    /// States the input's bytes, unless the scene states too many.
+    /// States the input's bytes, unless the scene would then state too many.
     pub(crate) fn set_source(&mut self, bytes: Vec<u8>) -> Result<(), Refusal> {
         self.count_bytes(bytes.len())?;
         self.stated.set_bytes(bytes);
@@ -125,14 +125,14 @@ impl Scene {
         Ok(())
     }
 
-    /// Lets reads meet the end at this position, which lies within the input's bytes.
+    /// Lets reads meet the end at this position, unless it lies past the input's bytes.
     pub(crate) fn set_end(&mut self, at: u64) -> Result<(), Refusal> {
         self.stated.set_end(at)?;
         self.source = None;
         Ok(())
     }
 
-    /// Adds a bad range past the others.
+    /// Adds a bad range, if it isn't empty and lies past the others.
     pub(crate) fn add_bad(&mut self, range: BadRange) -> Result<(), Refusal> {
         self.stated.add_bad(range)?;
         self.source = None;
@@ -146,7 +146,7 @@ impl Scene {
         Ok(())
     }
 
-    /// Has the calls of an object with these numbers fail.
+    /// Makes an object's calls of these numbers fail.
     pub(crate) fn fail_calls(&mut self, object: Object, numbers: &[u64]) -> Result<(), Refusal> {
         match object {
             Object::Source => {
@@ -166,7 +166,7 @@ impl Scene {
         }
     }
 
-    /// States what the next run of ddrescuelog takes from its feed.
+    /// States what the next run of ddrescuelog takes from its feed, unless the scene would then state too many bytes.
     pub(crate) fn set_feed(&mut self, bytes: Vec<u8>) -> Result<(), Refusal> {
         self.count_bytes(bytes.len())?;
         self.feed = bytes;
@@ -185,7 +185,7 @@ impl Scene {
         Ok(())
     }
 
-    /// Puts a file there, unless the scene has too many files or states too many bytes then.
+    /// Puts a file under a name, unless the scene would then have too many files or state too many bytes.
     pub(crate) fn put_file(
         &mut self,
         name: &str,

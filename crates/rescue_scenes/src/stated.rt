@@ -97,7 +97,7 @@ impl Stated {
         self.end = None;
     }
 
-    /// Lets reads meet the end at this position, which lies within the bytes.
+    /// Lets reads meet the end at this position, unless it lies past the bytes.
     pub(crate) fn set_end(&mut self, at: u64) -> Result<(), Refusal> {
         if at > self.bytes.len() as u64 {
             return Err(Refusal::NotUnderstood);
@@ -106,7 +106,7 @@ impl Stated {
         Ok(())
     }
 
-    /// Adds a bad range past the others.
+    /// Adds a bad range, if it isn't empty and lies past the others.
     pub(crate) fn add_bad(&mut self, range: BadRange) -> Result<(), Refusal> {
         self.bad.push(range)
     }
@@ -120,7 +120,7 @@ impl Stated {
         Ok(())
     }
 
-    /// Has the source's calls with these numbers fail.
+    /// Makes the source's calls of these numbers fail.
     pub(crate) fn fail_calls(&mut self, numbers: &[u64]) -> Result<(), Refusal> {
         self.failing.extend_from_slice(numbers)?;
         Ok(())

@@ -88,7 +88,7 @@ fn run<S: Source, D: Site, K: Clock, C: Console>(
     }
 }
 
-/// Runs the rescue in test mode if there is a test map: then the input gives what is finished in that map alone.
+/// Runs the rescue. If there is a test map, it runs in test mode: the input gives only what is finished in that map.
 fn run_tested<S: Source, D: Site, K: Clock, C: Console>(
     checked: CheckedCommand<'_>,
     files: TestedFiles,

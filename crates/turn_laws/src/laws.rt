@@ -10,7 +10,7 @@ pub fn a_run_begins_safe()
     ensures { RestIsSafe }
 {}
 
-/// Where a run is safe, what is held is held.
+/// Where a run is safe, what may be found is held.
 pub fn what_is_safe_is_held()
     ensures { SafeIsHeld }
 {}
@@ -20,7 +20,7 @@ pub fn a_run_stays_safe()
     ensures { RunStaysSafe }
 {}
 
-/// At each stop of a safe run's calls, and of the calls of the run's end, what is held is held.
+/// At each stop of a safe run's calls, and of the calls of the run's end, what may be found is held.
 pub fn a_run_is_held()
     ensures { RunIsHeld }
 {}
@@ -30,12 +30,12 @@ pub fn a_turn_stays_safe()
     ensures { TurnStaysSafe }
 {}
 
-/// At each stop within a turn what is held is held.
+/// At each stop within a turn of a safe run, what may be found is held.
 pub fn a_turn_is_held()
     ensures { TurnIsHeld }
 {}
 
-/// At each stop within a turn that stopped what is held is held.
+/// At each stop within a turn of a safe run that stopped, what may be found is held.
 pub fn a_halted_turn_is_held()
     ensures { HaltedTurnIsHeld }
 {}
@@ -55,7 +55,7 @@ pub fn a_phase_stays_safe()
     ensures { PhaseStaysSafe }
 {}
 
-/// At each stop within whole turns of a safe run what is held is held.
+/// At each stop within whole turns of a safe run, what may be found is held.
 pub fn a_phase_is_held()
     ensures { PhaseIsHeld }
 {}
@@ -65,12 +65,12 @@ pub fn stopped_turns_stay_safe()
     ensures { StoppedTurnsStaySafe }
 {}
 
-/// At each stop within turns up to one that stopped, wherever they stopped, what is held is held.
+/// At each stop within turns of a safe run up to one that stopped, for whatever cause, what may be found is held.
 pub fn stopped_turns_are_held()
     ensures { StoppedTurnsAreHeld }
 {}
 
-/// At each stop within the close of a safe run, however it ended, what is held is held.
+/// At each stop within the close of a safe run, however it ended, what may be found is held.
 pub fn a_close_is_held()
     ensures { CloseIsHeld }
 {}
@@ -85,32 +85,32 @@ pub fn a_run_begins_safe_now()
     ensures { RestIsSafeNow }
 {}
 
-/// Events with all their calls leave the files as `IsSafeNow` says.
+/// Files that are as `IsSafeNow` says stay so over events with all their calls.
 pub fn a_run_stays_safe_now()
     ensures { RunStaysSafeNow }
 {}
 
-/// A whole turn leaves the files as `IsSafeNow` says.
+/// Files that are as `IsSafeNow` says stay so over a whole turn.
 pub fn a_turn_stays_safe_now()
     ensures { TurnStaysSafeNow }
 {}
 
-/// A turn that stopped leaves the files as `IsSafeNow` says, also at a call on the files that failed.
+/// Files that are as `IsSafeNow` says stay so over a turn that stopped, also at a call on the files that failed.
 pub fn a_halted_turn_stays_safe_now()
     ensures { HaltedStaysSafeNow }
 {}
 
-/// The whole turns of a phase leave the files as `IsSafeNow` says.
+/// Files that are as `IsSafeNow` says stay so over the whole turns of a phase.
 pub fn a_phase_stays_safe_now()
     ensures { PhaseStaysSafeNow }
 {}
 
-/// Turns up to one that stopped leave the files as `IsSafeNow` says, for whatever cause it stopped.
+/// Files that are as `IsSafeNow` says stay so over turns up to one that stopped, for whatever cause it stopped.
 pub fn stopped_turns_stay_safe_now()
     ensures { StoppedStaysSafeNow }
 {}
 
-/// The last save leaves the files as `IsSafeNow` says, whole or stopped at whatever call.
+/// Files that are as `IsSafeNow` says stay so over the last save, whole or stopped at whatever call.
 pub fn a_close_stays_safe_now()
     ensures { CloseStaysSafeNow }
 {}
@@ -141,8 +141,8 @@ pub fn what_is_well_since_the_start_is_well()
     ensures { SinceStartIsWell }
 {}
 
-/// Whole turns of a run that is under way, to past the last phase, and the close after them leave no request, each
-/// position left well, and the last map saved.
+/// Whole turns of a run that is under way, to past the last phase, and the close after them, if it answers that the
+/// run is done, leave no request, each position left well, and the last map saved.
 pub fn phases_end_well()
     ensures { PhasesEndWell }
 {}
@@ -152,12 +152,13 @@ pub fn a_done_run_ends_well()
     ensures { DoneEndsWell }
 {}
 
-/// A whole run that stopped, but not at a call on the files, saved its map as it was.
+/// A whole run that stopped, but not at a call on the files, saved its map as it was or, without a mapfile, synced
+/// its output.
 pub fn a_stopped_run_is_saved()
     ensures { StoppedIsSaved }
 {}
 
-/// At each stop within a whole run of a safe beginning, however it ends, what is held is held.
+/// At each stop within a whole run of a safe beginning, however it ends, what may be found is held.
 pub fn a_whole_run_is_held()
     ensures { WholeRunIsHeld }
 {}
@@ -173,7 +174,8 @@ pub fn spent_passes_lead_past()
     ensures { SpentLeadsPast }
 {}
 
-/// By what its type knows, a run that is in copying still may be handed to the phase that takes its type.
+/// By what its type knows, a run that is still copying may be handed, over spent passes, to the phase that takes its
+/// type.
 pub fn a_typed_run_leads_past()
     ensures { TypedLeadsPast }
 {}

@@ -12,7 +12,7 @@ pub(super) struct Apart<'a> {
 }
 
 impl<'a> Apart<'a> {
-    /// The files to keep apart, of which either may not be open.
+    /// The files to keep apart: the open input and the open image, if there are any.
     pub fn new(input: &'a Option<OpenInput>, image: &'a Option<OpenImage>) -> Apart<'a> {
         Apart { input, image }
     }

@@ -145,7 +145,7 @@ impl MemoryFolder {
         let _ = take_file(&mut self.places, name);
     }
 
-    /// Whether a file has a name.
+    /// Whether there is a file of this name.
     pub(crate) fn has(&self, name: &[u8]) -> bool
         ensures { result ≡ is_some ((folder_of self.now).files name.now) }
     {
@@ -180,7 +180,7 @@ impl MemoryFolder {
         Ok(())
     }
 
-    /// Opens the file that has a name as the image, and makes an absent one if that is asked for.
+    /// Opens the file of a name as the image. An absent file is made if that is asked for.
     pub(crate) fn open(&mut self, name: &[u8], make: bool) -> Result<ImageKind, AllocError>
         ensures kind { IfOk result (λ kind. kind ≡ kind_of ((folder_of self.old).files name.now) make) }
         ensures opened { OnOk result (folder_of self.new
