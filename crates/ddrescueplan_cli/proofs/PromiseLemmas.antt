@@ -9,7 +9,7 @@ use Rattle.option_words.specs.declared.fault.UsageFault.{UsageFault}
 use Rattle.option_words.specs.declared.fault.UsageFault.TheVariants.{BadValue}
 use Rattle.option_words.specs.declared.reading.Item.{Item}
 use Rattle.option_words.specs.Values.{is_empty_text}
-use Rattle.ddrescue_words.specs.Asking.{is_too_large, cluster_word}
+use Rattle.ddrescue_words.specs.Asking.{is_too_large}
 use Rattle.work_rules.specs.Work.{Deeds}
 use Rattle.work_rules.specs.Verdicts.{IsOnce}
 use Rattle.program_promise.specs.World.{WorldState}
@@ -25,7 +25,7 @@ use Rattle.rescue_plan.specs.declared.run.PlanEnd.{PlanEnd}
 use Rattle.rescue_plan.specs.declared.run.PlanEnd.TheVariants.{Whole, Lost}
 use Rattle.ddrescueplan_words.specs.declared.options.PlanOptions.{PlanOptions}
 use Rattle.ddrescueplan_words.specs.Options.{options_in}
-use Rattle.ddrescueplan_words.specs.Command.{Command, IsAsked, length_by, with_length, command_with, command_by, command_in}
+use Rattle.ddrescueplan_words.specs.Command.{Command, IsAsked, length_by, with_length, command_with, command_by, command_in, cluster_word}
 use Rattle.ddrescueplan_cli.specs.declared.ending.PlanEnding.{PlanEnding}
 use Rattle.ddrescueplan_cli.specs.declared.ending.PlanEnding.TheVariants.{Done, MapRefused}
 use Rattle.ddrescueplan_cli.specs.Answers.{ending_of, row_of}

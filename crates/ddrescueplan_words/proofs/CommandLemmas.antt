@@ -10,11 +10,11 @@ use Rattle.option_words.specs.Values.{is_empty_text, size_by}
 use Rattle.option_words.proofs.MeaningLemmas.{asked_within}
 use Rattle.option_words.proofs.ResultLemmas.{untested_part}
 use Rattle.option_words.proofs.ValueLemmas.{in_range}
-use Rattle.ddrescue_words.specs.Asking.{is_too_large, cluster_word}
+use Rattle.ddrescue_words.specs.Asking.{is_too_large}
 use Rattle.ddrescue_words.proofs.CommandLemmas.{in_limits}
 use Rattle.ddrescueplan_words.specs.declared.options.PlanOptions.{PlanOptions}
 use Rattle.ddrescueplan_words.specs.Options.{options_in}
-use Rattle.ddrescueplan_words.specs.Command.{Command, AreInLimits, AreOptions, IsAsked, command_with, command_by, command_in, length_by, length_limit, with_length, plan_grammar}
+use Rattle.ddrescueplan_words.specs.Command.{Command, AreInLimits, AreOptions, IsAsked, command_with, command_by, command_in, length_by, length_limit, with_length, plan_grammar, cluster_word}
 use Rattle.ddrescueplan_words.proofs.OptionLemmas.{options_keep}
 
 abbrev told : Command → Result Command UsageFault

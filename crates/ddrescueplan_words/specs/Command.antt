@@ -7,11 +7,12 @@ use Rattle.option_words.specs.declared.reading.WordReading.{WordReading}
 use Rattle.option_words.specs.declared.fault.UsageFault.{UsageFault}
 use Rattle.option_words.specs.declared.fault.UsageFault.TheVariants.{BadValue, Operands}
 use Rattle.option_words.specs.declared.command_error.CommandError.{CommandError}
-use Rattle.option_words.specs.Values.{is_empty_text, quiet_letter, size_by, within_range}
+use Rattle.option_words.specs.Values.{is_empty_text, last_of, quiet_letter, size_by, within_range, word_in}
 use Rattle.option_words.specs.Grammar.{Grammar, AreOptionsOf, AskFor, AreRefusedBy, AskSilence, IsAskedWithin, IsErrorBy}
 use Rattle.run_options.specs.Limits.{no_limits}
 use Rattle.ddrescue_words.specs.declared.options.Options.{Options}
-use Rattle.ddrescue_words.specs.Asking.{is_too_large, AreInLimits as AreRescueLimits, cluster_word}
+use Rattle.ddrescue_words.specs.Options.{cluster_letter}
+use Rattle.ddrescue_words.specs.Asking.{is_too_large, AreInLimits as AreRescueLimits}
 use Rattle.ddrescueplan_words.specs.declared.options.PlanOptions.{PlanOptions}
 use Rattle.ddrescueplan_words.specs.declared.command.Command.{Command as CommandCode}
 use Rattle.ddrescueplan_words.specs.Options.{option_meanings, options_in}
@@ -46,6 +47,10 @@ command_with words o [] = Err (Operands 0)
 command_with words o (n ∷ []) = Err (Operands 1)
 command_with words o (n ∷ m ∷ []) = with_length (length_by o.rescue.sector (word words n)) n m (word words m) o
 command_with words o (n ∷ m ∷ third ∷ more) = Err (Operands (length (n ∷ m ∷ third ∷ more)))
+
+-- the word of the option that gives the cluster, among the options of `ddrescueplan`
+abbrev pub cluster_word : List Item → ℕ
+cluster_word items = word_in (last_of option_meanings cluster_letter items)
 
 -- What a reading of the words asks for, or its first fault: a bad value, then a cluster that is too large, then the
 -- operands.
