@@ -19,17 +19,32 @@ impl Identity {
     /// The file of which this was found.
     pub fn of(found: &Metadata) -> Identity {
         if found.file_type().is_block_device() {
-            return Identity {
-                device: found.rdev(),
-                number: 0,
-                is_device: true,
-            };
+            return Identity::of_device(found.rdev());
         }
         Identity {
             device: found.dev(),
             number: found.ino(),
             is_device: false,
         }
+    }
+
+    /// The block device with this number.
+    pub fn of_device(device: u64) -> Identity {
+        Identity {
+            device,
+            number: 0,
+            is_device: true,
+        }
+    }
+
+    /// The number of the block device, or of the file system on which the file lies.
+    pub fn device(&self) -> u64 {
+        self.device
+    }
+
+    /// Whether this is a block device.
+    pub fn is_device(&self) -> bool {
+        self.is_device
     }
 }
 
@@ -57,6 +72,11 @@ impl OpenInput {
     /// Notes which input is open from here on.
     pub fn note(&self, input: Option<Identity>) {
         self.noted.set(input);
+    }
+
+    /// The open input, if one is noted.
+    pub fn noted(&self) -> Option<Identity> {
+        self.noted.get()
     }
 
     /// Whether this file is the open input.

@@ -2,6 +2,7 @@
 //! a name reaches, and whether a device is mounted.
 #![tactic(auto)]
 
+pub mod devices;
 pub mod file_cursor;
 pub mod identity;
 pub mod mounts;

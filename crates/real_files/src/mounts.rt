@@ -1,7 +1,9 @@
-//! The table of mounts as the kernel prints it, and what it tells of a block device.
-use std::fs::{self, Metadata};
+//! The table of mounts as the kernel prints it.
+ghost use Rattle.std.specs.Prelude.{◌≡◌, ◌≢◌, Ok, None, Some, IsErr, IfOk, IfErr};
+ghost use Rattle.std.specs.IoError.{error_kind};
+
+use std::fs;
 use std::io::{self, ErrorKind};
-use std::os::unix::fs::{FileTypeExt, MetadataExt};
 
 /// The table of mounts.
 const MOUNTS: &str = "/proc/self/mountinfo";
@@ -9,6 +11,8 @@ const MOUNTS: &str = "/proc/self/mountinfo";
 /// A line of the table of mounts.
 #[derive(Clone, Copy)]
 pub struct MountLine<'a> {
+    /// The number of the mount.
+    pub number: &'a str,
     /// The numbers of the device, as `8:1`.
     pub device: &'a str,
     /// The kind of its file system.
@@ -21,11 +25,11 @@ pub struct MountLine<'a> {
 
 impl<'a> MountLine<'a> {
     /// Reads a line: six fields and some that are optional, a hyphen, and three fields.
-    fn read(line: &'a [u8]) -> Option<MountLine<'a>> {
+    pub(crate) fn read(line: &'a [u8]) -> Option<MountLine<'a>> {
         let line = str::from_utf8(line).ok()?;
         let (front, back) = line.split_once(" - ")?;
         let mut fields = front.split_ascii_whitespace();
-        let _mount = fields.next()?;
+        let number = fields.next()?;
         let _parent = fields.next()?;
         let device = fields.next()?;
         let mut fields = back.split_ascii_whitespace();
@@ -33,6 +37,7 @@ impl<'a> MountLine<'a> {
         let source = fields.next()?;
         let options = fields.next()?;
         Some(MountLine {
+            number,
             device,
             kind,
             source,
@@ -51,18 +56,39 @@ pub fn device_text(rt: &HostRuntime, number: u64) -> io::Result<String> {
     }
 }
 
-/// What a file of the kernel's tells, if it can be read.
-fn read_if_told(rt: &HostRuntime, name: &str) -> io::Result<Option<Vec<u8>>> {
-    match fs::read(rt, name) {
-        Ok(text) => Ok(Some(text)),
+/// What the kernel told, and None where it didn't tell. That memory was short stays an error.
+pub(crate) fn if_told<T>(outcome: io::Result<T>) -> io::Result<Option<T>>
+    ensures told { IfOk outcome (λ value. result ≡ Ok (Some value)) }
+    ensures memory { IfErr outcome (λ e. error_kind e ≡ ErrorKind.OutOfMemory → IsErr result) }
+    ensures other { IfErr outcome (λ e. error_kind e ≢ ErrorKind.OutOfMemory → result ≡ Ok None) }
+{
+    match outcome {
+        Ok(value) => Ok(Some(value)),
         Err(error) if error.kind() == ErrorKind::OutOfMemory => Err(error),
         Err(_) => Ok(None),
     }
 }
 
+/// What a file of the kernel's tells, if it can be read.
+pub(crate) fn read_if_told(rt: &HostRuntime, name: &str) -> io::Result<Option<Vec<u8>>> {
+    if_told(fs::read(rt, name))
+}
+
 /// The table of mounts, if it can be read.
 pub fn read_mounts(rt: &HostRuntime) -> io::Result<Option<Vec<u8>>> {
     read_if_told(rt, MOUNTS)
+}
+
+/// The line of a table about the mount with this number.
+pub(crate) fn find_mount_by_number<'a>(table: &'a [u8], number: &str) -> Option<MountLine<'a>> {
+    for line in table.split(|byte| *byte == b'\n') {
+        if let Some(mount) = MountLine::read(line) {
+            if mount.number == number {
+                return Some(mount);
+            }
+        }
+    }
+    None
 }
 
 /// The first line of a table about a device.
@@ -75,50 +101,4 @@ pub fn find_mount<'a>(table: &'a [u8], device: &str) -> Option<MountLine<'a>> {
         }
     }
     None
-}
-
-/// Whether a device is a partition of a disk.
-fn is_part_of(rt: &HostRuntime, device: &str, disk: &str) -> io::Result<bool> {
-    let Ok(name) = format!(in rt.alloc(); "/sys/dev/block/{device}/../dev") else {
-        return Err(ErrorKind::OutOfMemory.into());
-    };
-    match read_if_told(rt, name.as_str())? {
-        Some(told) => Ok(told.trim_ascii() == disk.as_bytes()),
-        None => Ok(false),
-    }
-}
-
-/// Whether a mount's source is the device with this number. Some file systems have a number of their own.
-fn is_source(rt: &HostRuntime, source: &str, number: u64) -> bool {
-    if !source.starts_with("/dev/") {
-        return false;
-    }
-    match fs::metadata(rt, source) {
-        Ok(found) => found.file_type().is_block_device() && found.rdev() == number,
-        Err(_) => false,
-    }
-}
-
-/// Whether this is a block device that is known to be mounted, or a disk of which a partition is.
-pub fn is_mounted(rt: &HostRuntime, found: &Metadata) -> io::Result<bool> {
-    if !found.file_type().is_block_device() {
-        return Ok(false);
-    }
-    let number = found.rdev();
-    let device = device_text(rt, number)?;
-    let Some(table) = read_mounts(rt)? else {
-        return Ok(false);
-    };
-    for line in table.split(|byte| *byte == b'\n') {
-        let Some(mount) = MountLine::read(line) else {
-            continue;
-        };
-        if mount.device == device.as_str()
-            || is_part_of(rt, mount.device, device.as_str())?
-            || is_source(rt, mount.source, number)
-        {
-            return Ok(true);
-        }
-    }
-    Ok(false)
 }

@@ -1,7 +1,9 @@
-//! The files that no mapfile and no draft may be.
+//! The files that no mapfile and no draft may be, and what may not be written since it is the infile's.
 use crate::folder::image::OpenImage;
+use crate::folder::names::folder_of;
+use real_files::devices::{find_under, find_under_open};
 use real_files::identity::{Identity, OpenInput};
-use std::fs::Metadata;
+use std::fs::{File, Metadata};
 use std::io::{self, ErrorKind};
 
 /// The files that no mapfile and no draft may be: the open input and the open image.
@@ -26,12 +28,60 @@ impl<'a> Apart<'a> {
             _ => Ok(()),
         }
     }
+
+    /// Refuses a mapfile whose folder lies on the input.
+    pub fn check_folder(&self, rt: &HostRuntime, name: &str) -> io::Result<()> {
+        check_folder(rt, self.input, name)
+    }
+}
+
+/// The open input, if there is one.
+fn noted(input: &Option<OpenInput>) -> Option<Identity> {
+    match input {
+        Some(input) => input.noted(),
+        None => None,
+    }
 }
 
 /// Refuses a file that is the input.
 pub(super) fn check_input(input: &Option<OpenInput>, identity: Identity) -> io::Result<()> {
     match input {
         Some(input) if input.is(identity) => Err(ErrorKind::ResourceBusy.into()),
+        _ => Ok(()),
+    }
+}
+
+/// Refuses what lies on the input, and what the input lies on. Two regular files that aren't one lie apart.
+pub(super) fn check_overlap(
+    rt: &HostRuntime,
+    input: &Option<OpenInput>,
+    file: &File,
+) -> io::Result<()> {
+    let Some(input) = noted(input) else {
+        return Ok(());
+    };
+    let written = Identity::of(&file.metadata()?);
+    if !input.is_device() && !written.is_device() {
+        return Ok(());
+    }
+    if find_under_open(rt, file)?.as_slice().contains(&input)
+        || find_under(rt, input)?.as_slice().contains(&written)
+    {
+        return Err(ErrorKind::CrossesDevices.into());
+    }
+    Ok(())
+}
+
+/// Refuses a new file in a folder that lies on the input.
+pub(super) fn check_folder(
+    rt: &HostRuntime,
+    input: &Option<OpenInput>,
+    name: &str,
+) -> io::Result<()> {
+    match noted(input) {
+        Some(device) if device.is_device() => {
+            check_overlap(rt, input, &File::open(rt, folder_of(name))?)
+        }
         _ => Ok(()),
     }
 }

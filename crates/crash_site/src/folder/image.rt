@@ -4,15 +4,15 @@ ghost use Rattle.std.specs.Io.KnownBytes.{Appends};
 ghost use Rattle.real_files.specs.Ahead.{nothing_held};
 ghost use Rattle.crash_site.specs.FileAnswers.{is_absent};
 
-use crate::folder::apart::check_input;
+use crate::folder::apart::{check_folder, check_input, check_overlap};
 use crate::folder::names::{folder_for, folder_of, open_with, sync_both};
 use crate::site::ImageKind;
+use real_files::devices::{DeviceUse, find_use};
 use real_files::file_cursor::put;
 use real_files::identity::{Identity, OpenInput};
-use real_files::mounts::is_mounted;
 use real_files::outcome::{if_there, not_held};
 use real_files::read_ahead::ReadAhead;
-use std::fs::{self, File, Metadata, OpenOptions};
+use std::fs::{self, File, OpenOptions};
 use std::io::{self, ErrorKind, Write};
 
 /// An open image, and the folder in which it lies, if that could be opened.
@@ -42,12 +42,19 @@ impl OpenImage {
     }
 }
 
-/// Refuses a device whose file system is in use.
-fn check_unmounted(rt: &HostRuntime, found: &Metadata) -> io::Result<()> {
-    if is_mounted(rt, found)? {
-        return Err(ErrorKind::PermissionDenied.into());
+/// The kernel's number of the error that says that a device is in use.
+const EBUSY: i32 = 16;
+
+/// Refuses a device that is in use. One that is mounted is told apart from one that is held.
+fn check_unused(rt: &HostRuntime, identity: Identity) -> io::Result<()> {
+    if !identity.is_device() {
+        return Ok(());
     }
-    Ok(())
+    match find_use(rt, identity.device())? {
+        Some(DeviceUse::Mounted) => Err(ErrorKind::PermissionDenied.into()),
+        Some(DeviceUse::Held) => Err(io::Error::from_raw_os_error(EBUSY)),
+        None => Ok(()),
+    }
 }
 
 /// Opens a file as the image, and its folder. None if the file is absent and isn't to be made. A missing folder is
@@ -70,12 +77,16 @@ pub(super) fn open_image(
             fs::metadata(rt, folder_of(name))?;
             return Ok(None);
         }
-        None => rights.create(true).open(rt, name)?,
+        None => {
+            check_folder(rt, input, name)?;
+            rights.create(true).open(rt, name)?
+        }
     };
     let found = file.metadata()?;
     let identity = Identity::of(&found);
     check_input(input, identity)?;
-    check_unmounted(rt, &found)?;
+    check_overlap(rt, input, &file)?;
+    check_unused(rt, identity)?;
     not_held(file.try_lock())?;
     Ok(Some(OpenImage {
         folder: folder_for(rt, name, made)?,

@@ -9,7 +9,7 @@ use std::io::{self, ErrorKind};
 
 /// Makes the entries of a mapfile's folder durable, and then the mapfile itself if it is there. A saved draft was
 /// synced before its rename, so that its name alone can still be lost. Locks the mapfile first; and if more saves are
-/// to come, asks whether it can be saved.
+/// to come, asks whether it can be saved, and before the first one whether it lies on the input.
 pub(super) fn settle(
     rt: &HostRuntime,
     apart: &Apart<'_>,
@@ -17,6 +17,9 @@ pub(super) fn settle(
     name: &str,
     saves: bool,
 ) -> io::Result<()> {
+    if saves && held.is_none() {
+        apart.check_folder(rt, name)?;
+    }
     hold_map(rt, apart, held, name)?;
     if saves {
         ask_for_saves(rt, apart, name)?;

@@ -1,0 +1,384 @@
+//! What the kernel says of a block device: what it lies on, what uses it, and whether it is gone. What can't be read
+//! isn't known.
+ghost use Rattle.std.specs.Prelude.{◌≡◌, ◌^◌, ◌<◌};
+ghost use Rattle.real_files.specs.Devices.{is_lost_state, major_of, minor_of};
+
+use crate::identity::Identity;
+use crate::mounts::{
+    MountLine, device_text, find_mount, find_mount_by_number, if_told, read_if_told, read_mounts,
+};
+use std::fs::{self, File};
+use std::io;
+use std::os::fd::AsRawFd;
+
+/// The folder in which the kernel has an entry for each block device, under its number.
+const DEVICES: &str = "/sys/dev/block";
+
+/// The folder in which the kernel has an entry for each disk, under its name.
+const DISKS: &str = "/sys/block";
+
+/// The table of swap space.
+const SWAPS: &str = "/proc/swaps";
+
+/// The first number past the kernel's major numbers.
+const MAJORS: u64 = 1 << 12;
+
+/// The first number past the kernel's minor numbers.
+const MINORS: u64 = 1 << 20;
+
+/// How many devices and files one answer takes into account.
+const MOST: usize = 256;
+
+/// What keeps a device from being written.
+#[derive(Clone, Copy, Debug, PartialEq, Eq)]
+pub enum DeviceUse {
+    /// The device is mounted, or a partition of it is.
+    Mounted,
+    /// The device, a partition of it or its disk is swap space, or another device is made of it; or its disk is
+    /// mounted.
+    Held,
+}
+
+/// The number of a device by its major and its minor number.
+fn device_number(major: u64, minor: u64) -> u64
+    requires major { major < 2 ^ 12 }
+    requires minor { minor < 2 ^ 20 }
+    ensures major { major_of result ≡ major }
+    ensures minor { minor_of result ≡ minor }
+{
+    (minor / 256) * MINORS + major * 256 + minor % 256
+}
+
+/// Reads a device's number as the kernel prints it, as `8:1`.
+fn read_number(text: &[u8]) -> Option<u64> {
+    let text = str::from_utf8(text).ok()?;
+    let (major, minor) = text.trim_ascii().split_once(":")?;
+    let major: u64 = major.parse().ok()?;
+    let minor: u64 = minor.parse().ok()?;
+    if major >= MAJORS || minor >= MINORS {
+        return None;
+    }
+    Some(device_number(major, minor))
+}
+
+/// Whether a number is a file system's own, and no device's.
+fn is_anonymous(number: u64) -> bool {
+    (number / 256) % MAJORS == 0
+}
+
+/// Whether a disk in this state answers no more, in the words of SCSI and of NVMe.
+fn is_lost(state: &str) -> bool
+    ensures { result ≡ is_lost_state state.now }
+{
+    state == "offline"
+        || state == "transport-offline"
+        || state == "cancel"
+        || state == "deleted"
+        || state == "dead"
+        || state == "deleting"
+        || state == "deleting (no IO)"
+}
+
+/// The name of swap space, by its line in the kernel's table.
+fn swap_name(line: &[u8]) -> Option<&str> {
+    let line = str::from_utf8(line).ok()?;
+    line.split_ascii_whitespace().next()
+}
+
+/// The number of the mount through which a file was opened, by what the kernel tells of the open file.
+fn mount_number(told: &[u8]) -> Option<&str> {
+    let told = str::from_utf8(told).ok()?;
+    let (_, rest) = told.split_once("mnt_id:")?;
+    rest.split_ascii_whitespace().next()
+}
+
+/// The name of a file that the kernel has of a device.
+fn name_of(rt: &HostRuntime, number: u64, what: &str) -> io::Result<String> {
+    let device = device_text(rt, number)?;
+    Ok(format!(in rt.alloc(); "{DEVICES}/{device}/{what}")?)
+}
+
+/// The number that a file of the kernel's holds.
+fn number_in(rt: &HostRuntime, name: &str) -> io::Result<Option<u64>> {
+    match read_if_told(rt, name)? {
+        Some(text) => Ok(read_number(text.as_slice())),
+        None => Ok(None),
+    }
+}
+
+/// The block device or file that has a name.
+fn found_as(rt: &HostRuntime, name: &str) -> io::Result<Option<Identity>> {
+    match if_told(fs::metadata(rt, name))? {
+        Some(found) => Ok(Some(Identity::of(&found))),
+        None => Ok(None),
+    }
+}
+
+fn add(found: &mut Vec<Identity>, one: Identity) -> io::Result<()> {
+    if found.len() < MOST && !found.as_slice().contains(&one) {
+        found.push(one)?;
+    }
+    Ok(())
+}
+
+fn add_found(found: &mut Vec<Identity>, one: Option<Identity>) -> io::Result<()> {
+    match one {
+        Some(one) => add(found, one),
+        None => Ok(()),
+    }
+}
+
+/// Adds the devices that a folder of the kernel's has. Each has an entry there, which has a file of this name.
+fn add_listed(
+    rt: &HostRuntime,
+    folder: &str,
+    mark: &str,
+    found: &mut Vec<Identity>,
+) -> io::Result<()> {
+    let Some(entries) = if_told(fs::read_dir(rt, folder))? else {
+        return Ok(());
+    };
+    for entry in entries {
+        let Some(entry) = if_told(entry)? else {
+            return Ok(());
+        };
+        let entry = entry.path().as_str();
+        let marked = format!(in rt.alloc(); "{entry}/{mark}")?;
+        if found_as(rt, marked.as_str())?.is_none() {
+            continue;
+        }
+        let numbered = format!(in rt.alloc(); "{entry}/dev")?;
+        if let Some(number) = number_in(rt, numbered.as_str())? {
+            add(found, Identity::of_device(number))?;
+        }
+    }
+    Ok(())
+}
+
+/// The disk of which a device is a partition.
+fn disk_of(rt: &HostRuntime, number: u64) -> io::Result<Option<u64>> {
+    if found_as(rt, name_of(rt, number, "partition")?.as_str())?.is_none() {
+        return Ok(None);
+    }
+    number_in(rt, name_of(rt, number, "../dev")?.as_str())
+}
+
+/// The file or device of which a loop device is made. `entry` is what the kernel has of that device.
+fn backing_of(rt: &HostRuntime, entry: &str) -> io::Result<Option<Identity>> {
+    let name = format!(in rt.alloc(); "{entry}/loop/backing_file")?;
+    let Some(text) = read_if_told(rt, name.as_str())? else {
+        return Ok(None);
+    };
+    match str::from_utf8(text.as_slice()) {
+        Ok(backing) => found_as(rt, backing.trim_ascii()),
+        Err(_) => Ok(None),
+    }
+}
+
+/// The device on which a mount's file system lies. Some file systems have a number of their own, and name the device.
+fn device_of_mount(rt: &HostRuntime, mount: MountLine<'_>) -> io::Result<Option<Identity>> {
+    match read_number(mount.device.as_bytes()) {
+        Some(number) if !is_anonymous(number) => return Ok(Some(Identity::of_device(number))),
+        _ => {}
+    }
+    if !mount.source.starts_with("/dev/") {
+        return Ok(None);
+    }
+    match found_as(rt, mount.source)? {
+        Some(source) if source.is_device() => Ok(Some(source)),
+        _ => Ok(None),
+    }
+}
+
+/// Adds the device on which the file system with this number lies.
+fn add_file_system(rt: &HostRuntime, number: u64, found: &mut Vec<Identity>) -> io::Result<()> {
+    if !is_anonymous(number) {
+        return add(found, Identity::of_device(number));
+    }
+    let device = device_text(rt, number)?;
+    let Some(table) = read_mounts(rt)? else {
+        return Ok(());
+    };
+    match find_mount(table.as_slice(), device.as_str()) {
+        Some(mount) => add_found(found, device_of_mount(rt, mount)?),
+        None => Ok(()),
+    }
+}
+
+/// Adds the device on which the file system lies through which a file was opened.
+fn add_mount(rt: &HostRuntime, file: &File, found: &mut Vec<Identity>) -> io::Result<()> {
+    let descriptor = file.as_raw_fd();
+    let name = format!(in rt.alloc(); "/proc/self/fdinfo/{descriptor}")?;
+    let Some(told) = read_if_told(rt, name.as_str())? else {
+        return Ok(());
+    };
+    let Some(number) = mount_number(told.as_slice()) else {
+        return Ok(());
+    };
+    let Some(table) = read_mounts(rt)? else {
+        return Ok(());
+    };
+    match find_mount_by_number(table.as_slice(), number) {
+        Some(mount) => add_found(found, device_of_mount(rt, mount)?),
+        None => Ok(()),
+    }
+}
+
+/// Adds what a file or a device lies on, one step down.
+fn add_under(rt: &HostRuntime, one: Identity, found: &mut Vec<Identity>) -> io::Result<()> {
+    let number = one.device();
+    if !one.is_device() {
+        return add_file_system(rt, number, found);
+    }
+    if let Some(disk) = disk_of(rt, number)? {
+        add(found, Identity::of_device(disk))?;
+    }
+    add_listed(rt, name_of(rt, number, "slaves")?.as_str(), "dev", found)?;
+    add_found(found, backing_of(rt, name_of(rt, number, "")?.as_str())?)
+}
+
+/// Adds all that lies below what was found.
+fn add_all_under(rt: &HostRuntime, found: &mut Vec<Identity>) -> io::Result<()> {
+    for place in 0..MOST {
+        let Some(one) = found.as_slice().get(place).copied() else {
+            return Ok(());
+        };
+        add_under(rt, one, found)?;
+    }
+    Ok(())
+}
+
+/// A file or a block device, and what it lies on, down to disks: a partition's disk, the devices of which another one
+/// is made, the file of a loop device, and the device of a file's file system.
+pub fn find_under(rt: &HostRuntime, one: Identity) -> io::Result<Vec<Identity>> {
+    let mut found = Vec::new(rt.alloc());
+    add(&mut found, one)?;
+    add_all_under(rt, &mut found)?;
+    Ok(found)
+}
+
+/// The same of an open file, whose mount the kernel tells.
+pub fn find_under_open(rt: &HostRuntime, file: &File) -> io::Result<Vec<Identity>> {
+    let mut found = Vec::new(rt.alloc());
+    let one = Identity::of(&file.metadata()?);
+    add(&mut found, one)?;
+    if !one.is_device() {
+        add_mount(rt, file, &mut found)?;
+    }
+    add_all_under(rt, &mut found)?;
+    Ok(found)
+}
+
+/// Whether one of these devices is mounted.
+fn is_any_mounted(rt: &HostRuntime, devices: &[Identity]) -> io::Result<bool> {
+    let Some(table) = read_mounts(rt)? else {
+        return Ok(false);
+    };
+    for line in table.split(|byte| *byte == b'\n') {
+        let Some(mount) = MountLine::read(line) else {
+            continue;
+        };
+        if let Some(device) = device_of_mount(rt, mount)? {
+            if devices.contains(&device) {
+                return Ok(true);
+            }
+        }
+    }
+    Ok(false)
+}
+
+/// Whether one of these devices is swap space.
+fn is_any_swap(rt: &HostRuntime, devices: &[Identity]) -> io::Result<bool> {
+    let Some(table) = read_if_told(rt, SWAPS)? else {
+        return Ok(false);
+    };
+    for line in table.split(|byte| *byte == b'\n') {
+        let Some(name) = swap_name(line) else {
+            continue;
+        };
+        if let Some(space) = found_as(rt, name)? {
+            if devices.contains(&space) {
+                return Ok(true);
+            }
+        }
+    }
+    Ok(false)
+}
+
+/// Whether another device is made of one of these.
+fn is_any_held(rt: &HostRuntime, devices: &[Identity]) -> io::Result<bool> {
+    let mut holders = Vec::new(rt.alloc());
+    for device in devices {
+        let folder = name_of(rt, device.device(), "holders")?;
+        add_listed(rt, folder.as_str(), "dev", &mut holders)?;
+    }
+    Ok(!holders.is_empty())
+}
+
+/// Whether a loop device is made of one of these.
+fn is_any_looped(rt: &HostRuntime, devices: &[Identity]) -> io::Result<bool> {
+    let Some(entries) = if_told(fs::read_dir(rt, DISKS))? else {
+        return Ok(false);
+    };
+    for entry in entries {
+        let Some(entry) = if_told(entry)? else {
+            return Ok(false);
+        };
+        if let Some(backing) = backing_of(rt, entry.path().as_str())? {
+            if devices.contains(&backing) {
+                return Ok(true);
+            }
+        }
+    }
+    Ok(false)
+}
+
+/// What keeps a block device from being written, if that is known.
+pub fn find_use(rt: &HostRuntime, number: u64) -> io::Result<Option<DeviceUse>> {
+    let mut devices = Vec::new(rt.alloc());
+    add(&mut devices, Identity::of_device(number))?;
+    let entry = name_of(rt, number, "")?;
+    add_listed(rt, entry.as_str(), "partition", &mut devices)?;
+    if is_any_mounted(rt, devices.as_slice())? {
+        return Ok(Some(DeviceUse::Mounted));
+    }
+    if let Some(disk) = disk_of(rt, number)? {
+        add(&mut devices, Identity::of_device(disk))?;
+    }
+    let devices = devices.as_slice();
+    if is_any_mounted(rt, devices)?
+        || is_any_swap(rt, devices)?
+        || is_any_held(rt, devices)?
+        || is_any_looped(rt, devices)?
+    {
+        return Ok(Some(DeviceUse::Held));
+    }
+    Ok(None)
+}
+
+/// The state of a device's disk, in the kernel's words.
+fn state_of(rt: &HostRuntime, number: u64) -> io::Result<Option<Vec<u8>>> {
+    let name = match disk_of(rt, number)? {
+        Some(_) => name_of(rt, number, "../device/state")?,
+        None => name_of(rt, number, "device/state")?,
+    };
+    read_if_told(rt, name.as_str())
+}
+
+/// Whether a block device is known to be gone: the kernel knows no device with this number any more, or says that its
+/// disk answers no more.
+pub fn is_gone(rt: &HostRuntime, number: u64) -> bool {
+    let Ok(entry) = name_of(rt, number, "") else {
+        return false;
+    };
+    if matches!(fs::exists(rt, entry.as_str()), Ok(false)) {
+        return matches!(fs::exists(rt, DEVICES), Ok(true));
+    }
+    match state_of(rt, number) {
+        Ok(Some(state)) => match str::from_utf8(state.as_slice()) {
+            Ok(state) => is_lost(state.trim_ascii()),
+            Err(_) => false,
+        },
+        _ => false,
+    }
+}
