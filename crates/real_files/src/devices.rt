@@ -1,8 +1,6 @@
 //! What the kernel says of a block device: what it lies on, what uses it, and whether it is gone. What can't be read
 //! isn't known.
-ghost use Rattle.std.specs.Prelude.{◌≡◌, ◌^◌, ◌<◌};
-ghost use Rattle.real_files.specs.Devices.{is_lost_state, major_of, minor_of};
-
+use crate::device_texts::{is_anonymous, is_lost, mount_number, read_number, swap_name};
 use crate::identity::Identity;
 use crate::mounts::{
     MountLine, device_text, find_mount, find_mount_by_number, if_told, read_if_told, read_mounts,
@@ -20,12 +18,6 @@ const DISKS: &str = "/sys/block";
 /// The table of swap space.
 const SWAPS: &str = "/proc/swaps";
 
-/// The first number past the kernel's major numbers.
-const MAJORS: u64 = 1 << 12;
-
-/// The first number past the kernel's minor numbers.
-const MINORS: u64 = 1 << 20;
-
 /// How many devices and files one answer takes into account.
 const MOST: usize = 256;
 
@@ -37,59 +29,6 @@ pub enum DeviceUse {
     /// The device, a partition of it or its disk is swap space, or another device is made of it; or its disk is
     /// mounted.
     Held,
-}
-
-/// The number of a device by its major and its minor number.
-fn device_number(major: u64, minor: u64) -> u64
-    requires major { major < 2 ^ 12 }
-    requires minor { minor < 2 ^ 20 }
-    ensures major { major_of result ≡ major }
-    ensures minor { minor_of result ≡ minor }
-{
-    (minor / 256) * MINORS + major * 256 + minor % 256
-}
-
-/// Reads a device's number as the kernel prints it, as `8:1`.
-fn read_number(text: &[u8]) -> Option<u64> {
-    let text = str::from_utf8(text).ok()?;
-    let (major, minor) = text.trim_ascii().split_once(":")?;
-    let major: u64 = major.parse().ok()?;
-    let minor: u64 = minor.parse().ok()?;
-    if major >= MAJORS || minor >= MINORS {
-        return None;
-    }
-    Some(device_number(major, minor))
-}
-
-/// Whether a number is a file system's own, and no device's.
-fn is_anonymous(number: u64) -> bool {
-    (number / 256) % MAJORS == 0
-}
-
-/// Whether a disk in this state answers no more, in the words of SCSI and of NVMe.
-fn is_lost(state: &str) -> bool
-    ensures { result ≡ is_lost_state state.now }
-{
-    state == "offline"
-        || state == "transport-offline"
-        || state == "cancel"
-        || state == "deleted"
-        || state == "dead"
-        || state == "deleting"
-        || state == "deleting (no IO)"
-}
-
-/// The name of swap space, by its line in the kernel's table.
-fn swap_name(line: &[u8]) -> Option<&str> {
-    let line = str::from_utf8(line).ok()?;
-    line.split_ascii_whitespace().next()
-}
-
-/// The number of the mount through which a file was opened, by what the kernel tells of the open file.
-fn mount_number(told: &[u8]) -> Option<&str> {
-    let told = str::from_utf8(told).ok()?;
-    let (_, rest) = told.split_once("mnt_id:")?;
-    rest.split_ascii_whitespace().next()
 }
 
 /// The name of a file that the kernel has of a device.
@@ -163,14 +102,14 @@ fn disk_of(rt: &HostRuntime, number: u64) -> io::Result<Option<u64>> {
     number_in(rt, name_of(rt, number, "../dev")?.as_str())
 }
 
-/// The file or device of which a loop device is made. `entry` is what the kernel has of that device.
-fn backing_of(rt: &HostRuntime, entry: &str) -> io::Result<Option<Identity>> {
-    let name = format!(in rt.alloc(); "{entry}/loop/backing_file")?;
+/// The name of the file or device of which a loop device is made. The kernel has this folder about the loop device.
+fn backing_name(rt: &HostRuntime, folder: &str) -> io::Result<Option<String>> {
+    let name = format!(in rt.alloc(); "{folder}/loop/backing_file")?;
     let Some(text) = read_if_told(rt, name.as_str())? else {
         return Ok(None);
     };
     match str::from_utf8(text.as_slice()) {
-        Ok(backing) => found_as(rt, backing.trim_ascii()),
+        Ok(backing) => Ok(Some(String::from_str(rt.alloc(), backing.trim_ascii())?)),
         Err(_) => Ok(None),
     }
 }
@@ -224,6 +163,24 @@ fn add_mount(rt: &HostRuntime, file: &File, found: &mut Vec<Identity>) -> io::Re
     }
 }
 
+/// Adds the file or device of which a loop device is made, and the device on which such a file lies.
+fn add_backing(rt: &HostRuntime, number: u64, found: &mut Vec<Identity>) -> io::Result<()> {
+    let Some(name) = backing_name(rt, name_of(rt, number, "")?.as_str())? else {
+        return Ok(());
+    };
+    let Some(backing) = found_as(rt, name.as_str())? else {
+        return Ok(());
+    };
+    add(found, backing)?;
+    if backing.is_device() {
+        return Ok(());
+    }
+    match if_told(File::open(rt, name.as_str()))? {
+        Some(file) => add_mount(rt, &file, found),
+        None => Ok(()),
+    }
+}
+
 /// Adds what a file or a device lies on, one step down.
 fn add_under(rt: &HostRuntime, one: Identity, found: &mut Vec<Identity>) -> io::Result<()> {
     let number = one.device();
@@ -234,7 +191,7 @@ fn add_under(rt: &HostRuntime, one: Identity, found: &mut Vec<Identity>) -> io::
         add(found, Identity::of_device(disk))?;
     }
     add_listed(rt, name_of(rt, number, "slaves")?.as_str(), "dev", found)?;
-    add_found(found, backing_of(rt, name_of(rt, number, "")?.as_str())?)
+    add_backing(rt, number, found)
 }
 
 /// Adds all that lies below what was found.
@@ -324,7 +281,10 @@ fn is_any_looped(rt: &HostRuntime, devices: &[Identity]) -> io::Result<bool> {
         let Some(entry) = if_told(entry)? else {
             return Ok(false);
         };
-        if let Some(backing) = backing_of(rt, entry.path().as_str())? {
+        let Some(name) = backing_name(rt, entry.path().as_str())? else {
+            continue;
+        };
+        if let Some(backing) = found_as(rt, name.as_str())? {
             if devices.contains(&backing) {
                 return Ok(true);
             }
