@@ -46,6 +46,9 @@ pub fn reason_text(error: &io::Error) -> &'static str
         ErrorKind::BrokenPipe => "Broken pipe",
         ErrorKind::OutOfMemory => "Cannot allocate memory",
         ErrorKind::Unsupported => "Operation not supported",
+        ErrorKind::CrossesDevices if error.raw_os_error().is_none() => {
+            "it overlaps the infile, or lies on it"
+        }
         _ => number_text(error.raw_os_error()),
     }
 }
