@@ -1,3 +1,4 @@
+# SPDX-License-Identifier: Apache-2.0
 # The usual ways into the repository. `make` proves and builds the programs, and `make bin/ddrescue` one of them, with a
 # proof on each processor (`make -j2` takes two). An interrupted build goes on where it was. `make scenes` builds the
 # player of scenes, `make check` runs the gate, and `make install` and `make uninstall` put programs, manual pages,
@@ -6,7 +7,7 @@
 # from a folder, and prove and build nothing.
 PREFIX ?= /usr/local
 PROGRAMS := ddrescue ddrescuelog ddrescuepart ddrescueverify ddrescueplan ddrescueshow
-DOCUMENTS := NEWS.md $(shell find docs -name "*.md" -o -name "*.svg")
+DOCUMENTS := LICENSE NEWS.md $(shell find docs -name "*.md" -o -name "*.svg")
 SHARE := $(PREFIX)/share
 MANUAL := $(SHARE)/man/man1
 BASH := $(SHARE)/bash-completion/completions
