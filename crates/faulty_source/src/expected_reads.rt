@@ -56,7 +56,7 @@ impl ExpectedReads {
     fn most_at(&self, pos: u64) -> u64
         ensures { result ≡ most_ahead self.now.ahead self.now.from self.now.to pos }
     {
-        if self.ahead.is_whole() && self.from <= pos {
+        if (self.ahead.is_whole() || self.ahead.asked_to() <= pos) && self.from <= pos {
             self.to.saturating_sub(pos)
         } else {
             0
@@ -65,7 +65,8 @@ impl ExpectedReads {
 
     /// Fills a buffer with the bytes at a position: with those that were read ahead, or else by one read ahead of what
     /// is expected from there. It leaves the buffer as it was if no more than the buffer takes may be read ahead, or if
-    /// that gives too few. The first read ahead that doesn't come whole is the last one. The reader is at the position.
+    /// that gives too few. After a read ahead that doesn't come whole nothing is read ahead up to where it asked. The
+    /// reader is at the position.
     pub fn give<R: Read>(&mut self, reader: &mut R, pos: u64, buf: &mut [u8]) -> bool
         requires place { pos + length buf.old < 2 ^ 63 }
         ensures held { holds self.old.ahead pos (length buf.old) ≡ true
@@ -77,7 +78,7 @@ impl ExpectedReads {
             → length buf.old < asked_ahead self.old.ahead (most_ahead self.old.ahead self.old.from self.old.to pos)
             → ReadsAhead pos (most_ahead self.old.ahead self.old.from self.old.to pos) result
             (R.remaining reader.old) (R.remaining reader.new) buf.old buf.new self.old.ahead self.new.ahead }
-        ensures off { self.old.ahead.is_whole ≡ false
+        ensures off { self.old.ahead.is_whole ≡ false → pos < self.old.ahead.asked_to
             → (reader.new ≡ reader.old) × (self.new.ahead.is_whole ≡ false) }
     {
         let most = self.most_at(pos);

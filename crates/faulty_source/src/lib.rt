@@ -5,4 +5,5 @@ pub mod bad_range;
 mod expected_reads;
 pub mod file;
 pub mod journal;
+mod opening;
 pub mod source;

@@ -40,16 +40,21 @@ split_at at pos n bytes same =
     cut_at (pos - at) (pos - at + n) n (pos - at + n - (pos - at)) bytes (omega arith) (omega arith) (omega arith)
 
 -- what the room holds from one of its places up to another, from a position on
-abbrev pub in_room : (pos begin end : ℕ) → Bool → List ℕ → Ahead
-in_room pos begin end whole room =
-    record { pos = pos; bytes = slice_range room begin end; room = length room; is_whole = whole }
+abbrev pub in_room : (pos begin end : ℕ) → Bool → (asked_to : ℕ) → List ℕ → Ahead
+in_room pos begin end whole asked_to room = record {
+  pos = pos;
+  bytes = slice_range room begin end;
+  room = length room;
+  is_whole = whole;
+  asked_to = asked_to;
+}
 
 -- A piece that was copied from its place in the room was held.
-pub gives_held : (at pos begin end n : ℕ) (whole : Bool) (buf room : List ℕ) (old : Ahead)
-    → old ≡ in_room at begin end whole room → at ≤ pos → n ≡ length buf → begin + (pos - at) + n ≤ end
+pub gives_held : (at pos begin end n : ℕ) (whole : Bool) (asked_to : ℕ) (buf room : List ℕ) (old : Ahead)
+    → old ≡ in_room at begin end whole asked_to room → at ≤ pos → n ≡ length buf → begin + (pos - at) + n ≤ end
     → buf ≡ slice_range room (begin + (pos - at)) (begin + (pos - at) + n)
-    → GivesHeld pos buf old (in_room (pos + length buf) (begin + (pos - at) + n) end whole room)
-gives_held at pos begin end n whole buf room old is later long within copied =
+    → GivesHeld pos buf old (in_room (pos + length buf) (begin + (pos - at) + n) end whole asked_to room)
+gives_held at pos begin end n whole asked_to buf room old is later long within copied =
     let skip = pos - at in
     let place : begin + (skip + length buf) ≡ begin + skip + n = omega arith in
     let held : slice_range (slice_range room begin end) skip (skip + length buf) ≡ buf =
@@ -58,21 +63,24 @@ gives_held at pos begin end n whole buf room old is later long within copied =
     let rest : slice_range room (begin + skip + n) end ≡ drop (skip + length buf) (slice_range room begin end) =
     ap (λ k. slice_range room k end) (sym place)
     ∙ sym (drop-slice_range room begin end (skip + length buf) (omega arith)) in
-    subst (λ (o : Ahead). GivesHeld pos buf o (in_room (pos + length buf) (begin + skip + n) end whole room)) (sym is)
+    subst
+    (λ (o : Ahead). GivesHeld pos buf o (in_room (pos + length buf) (begin + skip + n) end whole asked_to room)) (sym is)
     (record {
       given = sym held;
       after = ap
-          (λ (bytes : List ℕ). record (in_room at begin end whole room) { pos = pos + length buf; bytes = bytes }) rest;
+          (λ (bytes : List ℕ).
+          record (in_room at begin end whole asked_to room) { pos = pos + length buf; bytes = bytes }) rest;
     })
 
 -- What a read ahead held gave the piece.
 pub read_gives : (pos most : ℕ) (given : Bool) (before after : Option (List ℕ)) (buf buf' : List ℕ)
     (old read new : Ahead) → read.pos ≡ pos → Consumes before after read.bytes
     → length read.bytes ≤ asked_ahead old most
-    → read.is_whole ≡ nat_eq (length read.bytes) (asked_ahead old most) → read.room ≡ old.room
+    → read.is_whole ≡ nat_eq (length read.bytes) (asked_ahead old most)
+    → read.asked_to ≡ pos + asked_ahead old most → read.room ≡ old.room
     → given ≡ holds read pos (length buf) → given ≡ true → GivesHeld pos buf' read new → length buf' ≡ length buf
     → ReadsAhead pos most given before after buf buf' old new
-read_gives pos most given before after buf buf' old read new at came few whole room held is gives long =
+read_gives pos most given before after buf buf' old read new at came few whole up_to room held is gives long =
     let piece : held_at read pos (length buf') ≡ buf' = sym gives.given in
     let rest : drop (pos - read.pos + length buf') read.bytes ≡ new.bytes =
     sym (ap (λ (a : Ahead). a.bytes) gives.after) in
@@ -81,6 +89,7 @@ read_gives pos most given before after buf buf' old read new at came few whole r
       consumes = came;
       few = few;
       whole = ap (λ (a : Ahead). a.is_whole) gives.after ∙ whole;
+      up_to = ap (λ (a : Ahead). a.asked_to) gives.after ∙ up_to;
       reach = grind (arith, nat_tests);
       pieces = λ yes. (
         split_at read.pos pos (length buf') read.bytes at ∙ (λ i. piece i ++ rest i),

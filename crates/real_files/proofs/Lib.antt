@@ -1,1 +1,2 @@
 mod AheadLemmas
+mod DirectLemmas

@@ -2,13 +2,14 @@
 use Rattle.std.specs.Prelude.{◌≡◌, ℕ, ◌+◌, ◌-◌, ◌≤◌, min, Bool, true, false, ◌&&◌, nat_eq, nat_le, List, [], ◌++◌, length, drop, slice_range, Option}
 use Rattle.std.specs.Io.KnownBytes.{Consumes}
 
--- the bytes that were read ahead and weren't given yet, the position of the first one, how many there is room for, and
--- whether the last read ahead came whole
+-- the bytes that were read ahead and weren't given yet, the position of the first one, how many there is room for,
+-- whether the last read ahead came whole, and the position up to which it asked
 pub record Ahead : Type 0 where
   pub pos : ℕ
   pub bytes : List ℕ
   pub room : ℕ
   pub is_whole : Bool
+  pub asked_to : ℕ
 
 -- this number of bytes from a position on are held
 abbrev pub holds : Ahead → (pos asked : ℕ) → Bool
@@ -24,7 +25,7 @@ held_after a pos asked = record a { pos = pos + asked; bytes = drop (pos - a.pos
 
 -- nothing is held, as at the beginning
 abbrev pub nothing_held : (room : ℕ) → Ahead
-nothing_held room = record { pos = 0; bytes = []; room = room; is_whole = true }
+nothing_held room = record { pos = 0; bytes = []; room = room; is_whole = true; asked_to = 0 }
 
 -- how many bytes a read ahead asks for: as many as there is room for, but not more than these
 abbrev pub asked_ahead : Ahead → (most : ℕ) → ℕ
@@ -43,6 +44,7 @@ pub record ReadsAhead (pos most : ℕ) (given : Bool) (before after : Option (Li
   pub consumes : Consumes before after came
   pub few : length came ≤ asked_ahead old most
   pub whole : new.is_whole ≡ nat_eq (length came) (asked_ahead old most)
+  pub up_to : new.asked_to ≡ pos + asked_ahead old most
   pub reach : given ≡ nat_le (length buf) (length came)
   pub pieces : given ≡ true → (came ≡ buf' ++ new.bytes) × (new.pos ≡ pos + length buf)
   pub dropped : given ≡ false → (buf' ≡ buf) × (new.bytes ≡ [])

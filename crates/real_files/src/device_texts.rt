@@ -67,3 +67,10 @@ pub(crate) fn mount_number(told: &[u8]) -> Option<&str> {
     let (_, rest) = told.split_once("mnt_id:")?;
     rest.split_ascii_whitespace().next()
 }
+
+/// The name of a device's node below `/dev`, by what the kernel tells of the device.
+pub(crate) fn node_name(told: &[u8]) -> Option<&str> {
+    let told = str::from_utf8(told).ok()?;
+    let (_, rest) = told.split_once("DEVNAME=")?;
+    rest.split_ascii_whitespace().next()
+}

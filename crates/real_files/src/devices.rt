@@ -1,6 +1,6 @@
 //! What the kernel says of a block device: what it lies on, what uses it, and whether it is gone. What can't be read
 //! isn't known.
-use crate::device_texts::{is_anonymous, is_lost, mount_number, read_number, swap_name};
+use crate::device_texts::{is_anonymous, is_lost, mount_number, node_name, read_number, swap_name};
 use crate::identity::Identity;
 use crate::mounts::{
     MountLine, device_text, find_mount, find_mount_by_number, if_told, read_if_told, read_mounts,
@@ -21,14 +21,29 @@ const SWAPS: &str = "/proc/swaps";
 /// How many devices and files one answer takes into account.
 const MOST: usize = 256;
 
-/// What keeps a device from being written.
+/// What uses a device.
+#[derive(Drop)]
+pub enum User {
+    /// The file system on the device is mounted in this folder.
+    Mount(String),
+    /// The device is swap space.
+    Swap,
+    /// The device of this name is made of it.
+    Device(String),
+}
+
+/// A device that is in use. Names of devices begin with `/dev/`.
+#[derive(Drop)]
+pub struct DeviceUse {
+    pub device: String,
+    pub user: User,
+}
+
+/// How a file system is mounted.
 #[derive(Clone, Copy, Debug, PartialEq, Eq)]
-pub enum DeviceUse {
-    /// The device is mounted, or a partition of it is.
-    Mounted,
-    /// The device, a partition of it or its disk is swap space, or another device is made of it; or its disk is
-    /// mounted.
-    Held,
+pub enum Mounting {
+    ReadOnly,
+    Writable,
 }
 
 /// The name of a file that the kernel has of a device.
@@ -92,6 +107,16 @@ fn add_listed(
         }
     }
     Ok(())
+}
+
+/// The name of a device's node, or its number if the kernel doesn't tell the name.
+fn node_of(rt: &HostRuntime, number: u64) -> io::Result<String> {
+    if let Some(told) = read_if_told(rt, name_of(rt, number, "uevent")?.as_str())? {
+        if let Some(name) = node_name(told.as_slice()) {
+            return Ok(format!(in rt.alloc(); "/dev/{name}")?);
+        }
+    }
+    device_text(rt, number)
 }
 
 /// The disk of which a device is a partition.
@@ -226,94 +251,197 @@ pub fn find_under_open(rt: &HostRuntime, file: &File) -> io::Result<Vec<Identity
     Ok(found)
 }
 
-/// Whether one of these devices is mounted.
-fn is_any_mounted(rt: &HostRuntime, devices: &[Identity]) -> io::Result<bool> {
-    let Some(table) = read_mounts(rt)? else {
-        return Ok(false);
-    };
+/// Adds a device's partitions, the devices that are made of it, and so on to their ends.
+fn add_above(rt: &HostRuntime, found: &mut Vec<Identity>) -> io::Result<()> {
+    for place in 0..MOST {
+        let Some(one) = found.as_slice().get(place).copied() else {
+            return Ok(());
+        };
+        let entry = name_of(rt, one.device(), "")?;
+        add_listed(rt, entry.as_str(), "partition", found)?;
+        let holders = name_of(rt, one.device(), "holders")?;
+        add_listed(rt, holders.as_str(), "dev", found)?;
+    }
+    Ok(())
+}
+
+/// A block device, its partitions, and the devices that are made of these.
+fn find_above(rt: &HostRuntime, number: u64) -> io::Result<Vec<Identity>> {
+    let mut found = Vec::new(rt.alloc());
+    add(&mut found, Identity::of_device(number))?;
+    add_above(rt, &mut found)?;
+    Ok(found)
+}
+
+/// The mount of one of these devices that a table tells first.
+fn find_mounted(
+    rt: &HostRuntime,
+    table: &[u8],
+    devices: &[Identity],
+) -> io::Result<Option<DeviceUse>> {
     for line in table.split(|byte| *byte == b'\n') {
         let Some(mount) = MountLine::read(line) else {
             continue;
         };
-        if let Some(device) = device_of_mount(rt, mount)? {
-            if devices.contains(&device) {
-                return Ok(true);
-            }
+        let Some(device) = device_of_mount(rt, mount)? else {
+            continue;
+        };
+        if devices.contains(&device) {
+            return Ok(Some(DeviceUse {
+                device: node_of(rt, device.device())?,
+                user: User::Mount(String::from_str(rt.alloc(), mount.folder)?),
+            }));
         }
     }
-    Ok(false)
+    Ok(None)
 }
 
-/// Whether one of these devices is swap space.
-fn is_any_swap(rt: &HostRuntime, devices: &[Identity]) -> io::Result<bool> {
+/// One of these devices that is swap space.
+fn find_swap(rt: &HostRuntime, devices: &[Identity]) -> io::Result<Option<DeviceUse>> {
     let Some(table) = read_if_told(rt, SWAPS)? else {
-        return Ok(false);
+        return Ok(None);
     };
     for line in table.split(|byte| *byte == b'\n') {
         let Some(name) = swap_name(line) else {
             continue;
         };
-        if let Some(space) = found_as(rt, name)? {
-            if devices.contains(&space) {
-                return Ok(true);
-            }
+        let Some(space) = found_as(rt, name)? else {
+            continue;
+        };
+        if devices.contains(&space) {
+            return Ok(Some(DeviceUse {
+                device: String::from_str(rt.alloc(), name)?,
+                user: User::Swap,
+            }));
         }
     }
-    Ok(false)
+    Ok(None)
 }
 
-/// Whether another device is made of one of these.
-fn is_any_held(rt: &HostRuntime, devices: &[Identity]) -> io::Result<bool> {
-    let mut holders = Vec::new(rt.alloc());
+/// One of these devices of which another one is made, by what the kernel lists as its holders.
+fn find_holder(rt: &HostRuntime, devices: &[Identity]) -> io::Result<Option<DeviceUse>> {
     for device in devices {
-        let folder = name_of(rt, device.device(), "holders")?;
+        let number = device.device();
+        let mut holders = Vec::new(rt.alloc());
+        let folder = name_of(rt, number, "holders")?;
         add_listed(rt, folder.as_str(), "dev", &mut holders)?;
+        if let Some(holder) = holders.as_slice().first().copied() {
+            return Ok(Some(DeviceUse {
+                device: node_of(rt, number)?,
+                user: User::Device(node_of(rt, holder.device())?),
+            }));
+        }
     }
-    Ok(!holders.is_empty())
+    Ok(None)
 }
 
-/// Whether a loop device is made of one of these.
-fn is_any_looped(rt: &HostRuntime, devices: &[Identity]) -> io::Result<bool> {
+/// A loop device that is made of one of these, about which the kernel has this folder.
+fn looped_in(
+    rt: &HostRuntime,
+    folder: &str,
+    devices: &[Identity],
+) -> io::Result<Option<DeviceUse>> {
+    let Some(name) = backing_name(rt, folder)? else {
+        return Ok(None);
+    };
+    let Some(backing) = found_as(rt, name.as_str())? else {
+        return Ok(None);
+    };
+    if !devices.contains(&backing) {
+        return Ok(None);
+    }
+    let numbered = format!(in rt.alloc(); "{folder}/dev")?;
+    let Some(number) = number_in(rt, numbered.as_str())? else {
+        return Ok(None);
+    };
+    Ok(Some(DeviceUse {
+        device: name,
+        user: User::Device(node_of(rt, number)?),
+    }))
+}
+
+/// One of these devices of which a loop device is made.
+fn find_looped(rt: &HostRuntime, devices: &[Identity]) -> io::Result<Option<DeviceUse>> {
     let Some(entries) = if_told(fs::read_dir(rt, DISKS))? else {
-        return Ok(false);
+        return Ok(None);
     };
     for entry in entries {
         let Some(entry) = if_told(entry)? else {
-            return Ok(false);
+            return Ok(None);
         };
-        let Some(name) = backing_name(rt, entry.path().as_str())? else {
-            continue;
-        };
-        if let Some(backing) = found_as(rt, name.as_str())? {
-            if devices.contains(&backing) {
-                return Ok(true);
-            }
+        let found = looped_in(rt, entry.path().as_str(), devices)?;
+        if found.is_some() {
+            return Ok(found);
         }
     }
-    Ok(false)
+    Ok(None)
 }
 
-/// What keeps a block device from being written, if that is known.
+/// What uses one of these devices, if that is known.
+fn find_use_of(rt: &HostRuntime, devices: &[Identity]) -> io::Result<Option<DeviceUse>> {
+    let found = match read_mounts(rt)? {
+        Some(table) => find_mounted(rt, table.as_slice(), devices)?,
+        None => None,
+    };
+    if found.is_some() {
+        return Ok(found);
+    }
+    let found = find_swap(rt, devices)?;
+    if found.is_some() {
+        return Ok(found);
+    }
+    let found = find_holder(rt, devices)?;
+    if found.is_some() {
+        return Ok(found);
+    }
+    find_looped(rt, devices)
+}
+
+/// What keeps a block device from being written, if that is known: what uses it, a partition of it, its disk, or a
+/// device that is made of these.
 pub fn find_use(rt: &HostRuntime, number: u64) -> io::Result<Option<DeviceUse>> {
-    let mut devices = Vec::new(rt.alloc());
-    add(&mut devices, Identity::of_device(number))?;
-    let entry = name_of(rt, number, "")?;
-    add_listed(rt, entry.as_str(), "partition", &mut devices)?;
-    if is_any_mounted(rt, devices.as_slice())? {
-        return Ok(Some(DeviceUse::Mounted));
+    let devices = find_above(rt, number)?;
+    let found = find_use_of(rt, devices.as_slice())?;
+    if found.is_some() {
+        return Ok(found);
     }
-    if let Some(disk) = disk_of(rt, number)? {
-        add(&mut devices, Identity::of_device(disk))?;
+    match disk_of(rt, number)? {
+        Some(disk) => find_use_of(rt, &[Identity::of_device(disk)]),
+        None => Ok(None),
     }
-    let devices = devices.as_slice();
-    if is_any_mounted(rt, devices)?
-        || is_any_swap(rt, devices)?
-        || is_any_held(rt, devices)?
-        || is_any_looped(rt, devices)?
-    {
-        return Ok(Some(DeviceUse::Held));
+}
+
+/// How one of these devices is mounted: for writing, if one of the mounts is.
+fn mounting_of(
+    rt: &HostRuntime,
+    table: &[u8],
+    devices: &[Identity],
+) -> io::Result<Option<Mounting>> {
+    let mut found = None;
+    for line in table.split(|byte| *byte == b'\n') {
+        let Some(mount) = MountLine::read(line) else {
+            continue;
+        };
+        let Some(device) = device_of_mount(rt, mount)? else {
+            continue;
+        };
+        if devices.contains(&device) {
+            if mount.is_writable() {
+                return Ok(Some(Mounting::Writable));
+            }
+            found = Some(Mounting::ReadOnly);
+        }
     }
-    Ok(None)
+    Ok(found)
+}
+
+/// How a block device, a partition of it or a device that is made of these is mounted, if one is known to be.
+pub fn find_mounting(rt: &HostRuntime, number: u64) -> io::Result<Option<Mounting>> {
+    let devices = find_above(rt, number)?;
+    match read_mounts(rt)? {
+        Some(table) => mounting_of(rt, table.as_slice(), devices.as_slice()),
+        None => Ok(None),
+    }
 }
 
 /// The state of a device's disk, in the kernel's words.

@@ -15,6 +15,8 @@ pub struct MountLine<'a> {
     pub number: &'a str,
     /// The numbers of the device, as `8:1`.
     pub device: &'a str,
+    /// The folder in which it is mounted, with a space as `\040`.
+    pub folder: &'a str,
     /// The kind of its file system.
     pub kind: &'a str,
     /// What was mounted.
@@ -32,6 +34,8 @@ impl<'a> MountLine<'a> {
         let number = fields.next()?;
         let _parent = fields.next()?;
         let device = fields.next()?;
+        let _root = fields.next()?;
+        let folder = fields.next()?;
         let mut fields = back.split_ascii_whitespace();
         let kind = fields.next()?;
         let source = fields.next()?;
@@ -39,10 +43,16 @@ impl<'a> MountLine<'a> {
         Some(MountLine {
             number,
             device,
+            folder,
             kind,
             source,
             options,
         })
+    }
+
+    /// Whether the file system is mounted for writing.
+    pub(crate) fn is_writable(&self) -> bool {
+        self.options == "rw" || self.options.starts_with("rw,")
     }
 }
 

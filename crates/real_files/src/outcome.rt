@@ -78,12 +78,29 @@ const ETIMEDOUT: i32 = 110;
 
 const EREMOTEIO: i32 = 121;
 
-/// Whether a read failed at its medium, so that others may go on, and not since the file or device is gone.
-pub fn is_of_medium(error: &io::Error) -> bool
-    ensures { result ≡ is_medium_code (raw_os_error error.now) }
+/// Those of a driver, which only a read past the kernel's cache meets on a block device. The device is busy or has no
+/// room to note a sector, another computer has reserved it, its link failed, it gives a command less time than it takes,
+/// or it doesn't know the command there. A file system means something else by them.
+const EBUSY: i32 = 16;
+
+const ENOSPC: i32 = 28;
+
+const EBADE: i32 = 52;
+
+const ETIME: i32 = 62;
+
+const ENOLINK: i32 = 67;
+
+const EOPNOTSUPP: i32 = 95;
+
+/// Whether a read failed at its medium, so that others may go on, and not since the file or device is gone. `is_direct`
+/// says of the read whether it went past the kernel's cache.
+pub fn is_of_medium(error: &io::Error, is_direct: bool) -> bool
+    ensures { result ≡ is_medium_code is_direct (raw_os_error error.now) }
 {
-    matches!(
-        error.raw_os_error(),
-        Some(EIO | ENODATA | EILSEQ | ETIMEDOUT | EREMOTEIO)
-    )
+    match error.raw_os_error() {
+        Some(EIO | ENODATA | EILSEQ | ETIMEDOUT | EREMOTEIO) => true,
+        Some(EBUSY | ENOSPC | EBADE | ETIME | ENOLINK | EOPNOTSUPP) => is_direct,
+        _ => false,
+    }
 }

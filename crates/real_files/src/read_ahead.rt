@@ -17,6 +17,8 @@ pub struct ReadAhead {
     begin: usize,
     end: usize,
     is_whole: bool,
+    /// The position up to which the last read ahead asked.
+    asked_to: u64,
 }
 
 impl Model for ReadAhead {
@@ -30,6 +32,7 @@ impl Model for ReadAhead {
       bytes = slice_range a.room.items a.begin a.end;
       room = length a.room.items;
       is_whole = a.is_whole;
+      asked_to = a.asked_to;
     } };
 
     ghost invariant = { λ a. (a.begin ≤ a.end) × (a.end ≤ length a.room.items) };
@@ -46,6 +49,7 @@ impl ReadAhead {
             begin: 0,
             end: 0,
             is_whole: true,
+            asked_to: 0,
         }
     }
 
@@ -57,6 +61,7 @@ impl ReadAhead {
         self.begin = 0;
         self.end = 0;
         self.is_whole = true;
+        self.asked_to = 0;
     }
 
     /// How many bytes there is room for.
@@ -71,6 +76,13 @@ impl ReadAhead {
         ensures { result ≡ self.now.is_whole }
     {
         self.is_whole
+    }
+
+    /// The position up to which the last read ahead asked.
+    pub fn asked_to(&self) -> u64
+        ensures { result ≡ self.now.asked_to }
+    {
+        self.asked_to
     }
 
     /// Fills a buffer with the bytes at a position: with those that are held, or else by one read ahead from there, of
@@ -126,11 +138,13 @@ impl ReadAhead {
 
     /// Holds what one read of `asked` bytes from a position on gives.
     fn read<R: Read>(&mut self, reader: &mut R, pos: u64, asked: usize)
-        requires { asked ≤ self.old.room }
+        requires room { asked ≤ self.old.room }
+        requires place { pos < 2 ^ 63 }
         ensures place { self.new.pos ≡ pos }
         ensures came { Consumes (R.remaining reader.old) (R.remaining reader.new) self.new.bytes }
         ensures few { length self.new.bytes ≤ asked }
         ensures whole { self.new.is_whole ≡ nat_eq (length self.new.bytes) asked }
+        ensures up_to { self.new.asked_to ≡ pos + asked }
         ensures room { self.new.room ≡ self.old.room }
     {
         let came = read_front(reader, &mut self.room, asked);
@@ -138,6 +152,7 @@ impl ReadAhead {
         self.begin = 0;
         self.end = came;
         self.is_whole = came == asked;
+        self.asked_to = pos + asked as u64;
     }
 }
 

@@ -3,6 +3,8 @@
 #![tactic(auto)]
 
 #[cfg(test)]
+mod direct;
+#[cfg(test)]
 mod files;
 #[cfg(test)]
 mod maps;

@@ -29,11 +29,15 @@ fn is_held(held: &Option<HeldMap>, found: &Metadata) -> bool {
     }
 }
 
-/// A file as its lock is asked for. None if it can't be opened: what else is done with it says why.
+/// A file as its lock is asked for. NFS locks only a file that is open for writing, so that is tried first. None if it
+/// can't be opened: what else is done with it says why.
 fn open_to_lock(rt: &HostRuntime, name: &str) -> Option<File> {
     let mut rights = OpenOptions::new();
-    rights.read(true);
-    open_with(rt, &rights, name).ok()
+    rights.read(true).write(true);
+    match open_with(rt, &rights, name) {
+        Ok(file) => Some(file),
+        Err(_) => File::open(rt, name).ok(),
+    }
 }
 
 /// Refuses a regular file that another run has locked.

@@ -7,7 +7,7 @@ ghost use Rattle.crash_site.specs.FileAnswers.{is_absent};
 use crate::folder::apart::{check_folder, check_input, check_overlap};
 use crate::folder::names::{folder_for, folder_of, open_with, sync_both};
 use crate::site::ImageKind;
-use real_files::devices::{DeviceUse, find_use};
+use real_files::devices::find_use;
 use real_files::file_cursor::put;
 use real_files::identity::{Identity, OpenInput};
 use real_files::outcome::{if_there, not_held};
@@ -45,16 +45,12 @@ impl OpenImage {
 /// The kernel's number of the error that says that a device is in use.
 const EBUSY: i32 = 16;
 
-/// Refuses a device that is in use. One that is mounted is told apart from one that is held.
+/// Refuses a device that is in use.
 fn check_unused(rt: &HostRuntime, identity: Identity) -> io::Result<()> {
-    if !identity.is_device() {
-        return Ok(());
+    if identity.is_device() && find_use(rt, identity.device())?.is_some() {
+        return Err(io::Error::from_raw_os_error(EBUSY));
     }
-    match find_use(rt, identity.device())? {
-        Some(DeviceUse::Mounted) => Err(ErrorKind::PermissionDenied.into()),
-        Some(DeviceUse::Held) => Err(io::Error::from_raw_os_error(EBUSY)),
-        None => Ok(()),
-    }
+    Ok(())
 }
 
 /// Opens a file as the image, and its folder. None if the file is absent and isn't to be made. A missing folder is

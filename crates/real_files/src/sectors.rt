@@ -1,0 +1,36 @@
+//! The sizes of a device's sectors, as the kernel tells them.
+use crate::mounts::device_text;
+use std::fs;
+
+/// A number that the kernel tells of a device's queue. A partition has that of its disk.
+fn queue_number(rt: &HostRuntime, number: u64, what: &str) -> Option<u64> {
+    let device = device_text(rt, number).ok()?;
+    let device = device.as_str();
+    let own = format!(in rt.alloc(); "/sys/dev/block/{device}/queue/{what}").ok()?;
+    let text = match fs::read_to_string(rt, own.as_str()) {
+        Ok(text) => text,
+        Err(_) => {
+            let disk = format!(in rt.alloc(); "/sys/dev/block/{device}/../queue/{what}").ok()?;
+            fs::read_to_string(rt, disk.as_str()).ok()?
+        }
+    };
+    text.as_str().trim_ascii().parse().ok()
+}
+
+/// The kernel's major number of optical drives.
+const OPTICAL: u64 = 11;
+
+/// Whether a block device with this number is an optical drive, which looks at its disc at each open.
+pub fn is_optical(number: u64) -> bool {
+    (number / 256) % 4096 == OPTICAL
+}
+
+/// The least unit in bytes that a block device with this number can be asked for, if it is known.
+pub fn logical_sector(rt: &HostRuntime, number: u64) -> Option<u64> {
+    queue_number(rt, number, "logical_block_size")
+}
+
+/// The least unit in bytes that the medium of a block device with this number holds, if it is known.
+pub fn physical_sector(rt: &HostRuntime, number: u64) -> Option<u64> {
+    queue_number(rt, number, "physical_block_size")
+}
