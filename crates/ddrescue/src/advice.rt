@@ -1,15 +1,18 @@
-//! The line after the message: why an answer came, by the files that the arguments name.
+//! The line after the message: why an answer came, by the files that the arguments name. After the run there may be
+//! a line on reads past the kernel's cache.
 use crash_site::folder::FolderSite;
+use crash_site::site::SiteCall;
 use ddrescue_words::command::{Command, Task, read_command};
 use ddrescue_words::options::ROWS;
 use faulty_source::file::FileSource;
 use option_words::words::Words;
 use program_advice::cause::{Cause, Fact, Hint, LimitOption, Named, Role};
+use program_advice::direct::cached_line;
 use program_advice::files::{open_cause, same_name_cause};
 use program_advice::left::left_by;
 use program_advice::line::{Line, line_of};
 use program_advice::mapfile::{line_on_map, line_on_memory};
-use program_advice::site::{SiteFiles, fault_cause};
+use program_advice::site::{SiteFiles, fault_cause, find_outfile_use};
 use program_advice::usage::{Manual, line_on_words};
 use program_promise::operand::Operand;
 use rescue_rules::stop::Limit;
@@ -62,13 +65,22 @@ fn unread_map<'a>(command: &Command<'a>, site: &FolderSite) -> Named<'a> {
     }
 }
 
-/// The files that a command's calls reach.
-fn files_of<'a>(command: &Command<'a>, site: &FolderSite) -> SiteFiles<'a> {
-    SiteFiles {
+/// The line on a call on the files that failed. What uses an outfile that is a device in use is looked up.
+fn line_on_fault(
+    rt: &HostRuntime,
+    command: &Command<'_>,
+    site: &FolderSite,
+    call: SiteCall,
+) -> Option<Line> {
+    let outfile_use = find_outfile_use(rt, site.trouble(), command.outfile);
+    let files = SiteFiles {
         outfile: command.outfile,
+        outfile_use: outfile_use.as_ref(),
         mapfile: command.mapfile,
         read: unread_map(command, site),
-    }
+    };
+    let cause = fault_cause(site.trouble(), call, files)?;
+    Some(line_of(PROGRAM, cause))
 }
 
 /// Which limit a run met, and whether the same command goes on.
@@ -81,8 +93,19 @@ fn limit_cause<'a>(limit: Limit, resumes: bool) -> Cause<'a> {
     Cause::Limit { option, resumes }
 }
 
+/// What helps after the input was lost, if it was, or if someone asked for a stop.
+fn lost_hint(command: &Command<'_>, source: &FileSource) -> Hint {
+    if !source.was_stopped() {
+        Hint::InputLost
+    } else if command.mapfile.is_some() {
+        Hint::StoppedRescue
+    } else {
+        Hint::StoppedWithoutMap
+    }
+}
+
 /// What a rescue that is done left, by its last line, if it left anything.
-fn left_cause<'a>(command: &Command<'a>, last: &[u8]) -> Option<Cause<'a>> {
+fn left_cause<'a>(command: &Command<'a>, source: &FileSource, last: &[u8]) -> Option<Cause<'a>> {
     let options = &command.options;
     if options.fill.is_some() || options.generate {
         return None;
@@ -94,6 +117,7 @@ fn left_cause<'a>(command: &Command<'a>, last: &[u8]) -> Option<Cause<'a>> {
     Some(Cause::Left {
         bytes,
         skips: !options.passes.trims || !options.passes.scrapes,
+        loses_neighbors: source.loses_neighbors(),
     })
 }
 
@@ -103,7 +127,6 @@ fn cause_of<'a>(
     role: Role,
     ending: Ending,
     source: &FileSource,
-    site: &FolderSite,
     last: &[u8],
 ) -> Option<Cause<'a>> {
     let infile = Named {
@@ -115,18 +138,17 @@ fn cause_of<'a>(
         name: command.outfile,
     };
     let (file, fact) = match ending {
-        Ending::Usage(_) | Ending::PatternUnread | Ending::MapRefused { .. } => return None,
-        Ending::Done => return left_cause(command, last),
+        Ending::Usage(_)
+        | Ending::PatternUnread
+        | Ending::MapRefused { .. }
+        | Ending::SiteFault { .. } => return None,
+        Ending::Done => return left_cause(command, source, last),
         Ending::SameName { first, second } => {
             let (first, second) = (role_of(first), role_of(second));
             return Some(same_name_cause(first, second, command.infile, command.outfile));
         }
         Ending::SourceFault => return open_cause(infile, source.trouble()),
-        Ending::SourceLost => return Some(Cause::Hint(Hint::InputLost)),
-        Ending::SiteFault { call, .. } => {
-            let files = files_of(command, site);
-            return fault_cause(site.trouble(), call, files);
-        }
+        Ending::SourceLost => return Some(Cause::Hint(lost_hint(command, source))),
         Ending::LimitMet(limit) => return Some(limit_cause(limit, command.mapfile.is_some())),
         Ending::NoMemory => return Some(Cause::Hint(Hint::NoMemory)),
         Ending::NoMap(which) => (named_map(command, which), Fact::Absent),
@@ -162,6 +184,18 @@ pub fn advise(
     if ending == Ending::NoMemory && command.mapfile.is_some() {
         return Some(line_on_memory(rt, PROGRAM, named_map(&command, Which::RunMap)));
     }
-    let cause = cause_of(&command, role, ending, source, site, last)?;
+    if let Ending::SiteFault { call, .. } = ending {
+        return line_on_fault(rt, &command, site, call);
+    }
+    let cause = cause_of(&command, role, ending, source, last)?;
     Some(line_of(PROGRAM, cause))
+}
+
+/// The line after a run of which the kernel refused reads past its cache.
+pub fn line_after(rt: &HostRuntime, words: &Words, source: &FileSource) -> Option<Line> {
+    match read_command(rt.alloc(), words) {
+        Ok(Task::Rescue(command)) | Ok(Task::Generate(command)) | Ok(Task::Fill { command, .. })
+            if !command.options.quiet => { cached_line(PROGRAM, source.refused()) }
+        _ => None,
+    }
 }

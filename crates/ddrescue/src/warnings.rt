@@ -5,8 +5,11 @@ use ddrescue_words::command::{Command, Task, read_command};
 use option_words::words::Words;
 use rescue_console::console::Console;
 use rescue_warnings::advice::due_advice;
-use rescue_warnings::facts::{Facts, MapText, Work};
-use rescue_warnings::look::{has_no_journal, is_link, look_at_file};
+use rescue_warnings::facts::{Facts, MapText, Place, Work};
+use rescue_warnings::look::{
+    is_link, look_at_disks, look_at_file, look_at_map_place, look_at_mounting,
+    look_at_outfile_place,
+};
 use rescue_warnings::tail::look_at_map;
 use rescue_warnings::warning::{Names, put_warnings};
 use task_files::checked::PROGRAM;
@@ -17,11 +20,12 @@ fn look_at_named(rt: &HostRuntime, name: Option<&str>) -> Option<MapText> {
 }
 
 /// What is known before the work of a command.
-fn facts_of(rt: &HostRuntime, work: Work, command: &Command<'_>) -> Facts
+fn facts_of(rt: &HostRuntime, work: Work, command: &Command<'_>, stop_is_told: bool) -> Facts
     requires { AreInLimits command.now.options }
 {
     let options = &command.options;
     let input_position = options.input_position;
+    let disks = look_at_disks(rt, command.infile);
     Facts {
         work,
         input_position,
@@ -34,16 +38,28 @@ fn facts_of(rt: &HostRuntime, work: Work, command: &Command<'_>) -> Facts
         domain: look_at_named(rt, command.domain_map),
         scrapes: options.passes.trims && options.passes.scrapes,
         infile: look_at_file(rt, command.infile),
+        infile_mounting: look_at_mounting(rt, command.infile),
         outfile: look_at_file(rt, command.outfile),
+        outfile_place: look_at_outfile_place(rt, disks.as_slice(), command.outfile),
         map: look_at_named(rt, command.mapfile),
         map_is_link: command.mapfile.is_some_and(|name| is_link(rt, name)),
-        map_has_no_journal: command.mapfile.is_some_and(|name| has_no_journal(rt, name)),
+        map_place: match command.mapfile {
+            Some(name) => look_at_map_place(rt, disks.as_slice(), name),
+            None => Place::unknown(),
+        },
+        stop_is_told,
     }
 }
 
 /// Puts the lines before the work of a command, unless nothing is to be said. After one that can't be put there is
 /// none.
-fn warn_of<P: Console>(rt: &HostRuntime, work: Work, command: &Command<'_>, console: &mut P)
+fn warn_of<P: Console>(
+    rt: &HostRuntime,
+    work: Work,
+    command: &Command<'_>,
+    console: &mut P,
+    stop_is_told: bool,
+)
     requires { AreInLimits command.now.options }
 {
     if command.options.quiet {
@@ -55,16 +71,16 @@ fn warn_of<P: Console>(rt: &HostRuntime, work: Work, command: &Command<'_>, cons
         mapfile: command.mapfile.unwrap_or(""),
         domain: command.domain_map.unwrap_or(""),
     };
-    let advices = due_advice(&facts_of(rt, work, command));
+    let advices = due_advice(&facts_of(rt, work, command, stop_is_told));
     put_warnings(PROGRAM, names, &advices, console);
 }
 
-/// Puts the lines before the work that words ask for. Nothing else changes.
-pub fn warn<P: Console>(rt: &HostRuntime, words: &Words, console: &mut P) {
+/// Puts the lines before the work that words ask for, by whether the program is told of a stop. Nothing else changes.
+pub fn warn<P: Console>(rt: &HostRuntime, words: &Words, console: &mut P, stop_is_told: bool) {
     match read_command(rt.alloc(), words) {
-        Ok(Task::Rescue(command)) => warn_of(rt, Work::Rescue, &command, console),
-        Ok(Task::Fill { command, .. }) => warn_of(rt, Work::Fill, &command, console),
-        Ok(Task::Generate(command)) => warn_of(rt, Work::Generate, &command, console),
+        Ok(Task::Rescue(command)) => warn_of(rt, Work::Rescue, &command, console, stop_is_told),
+        Ok(Task::Fill { command, .. }) => warn_of(rt, Work::Fill, &command, console, stop_is_told),
+        Ok(Task::Generate(command)) => warn_of(rt, Work::Generate, &command, console, stop_is_told),
         Ok(Task::Sample { .. }) | Err(_) => {}
     }
 }

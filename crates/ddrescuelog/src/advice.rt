@@ -64,6 +64,7 @@ fn unread_map<'a>(command: &Command<'a>, site: &FolderSite) -> Named<'a> {
 fn files_of<'a>(command: &Command<'a>, site: &FolderSite) -> SiteFiles<'a> {
     SiteFiles {
         outfile: "",
+        outfile_use: None,
         mapfile: Some(command.mapfile),
         read: unread_map(command, site),
     }

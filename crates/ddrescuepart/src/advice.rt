@@ -1,10 +1,12 @@
-//! The line after the message: why an answer came, by the file that the arguments name.
+//! The line after the message: why an answer came, by the file that the arguments name. After the search there may
+//! be a line on reads past the kernel's cache.
 use ddrescuepart_cli::ending::PartEnding;
 use ddrescuepart_words::command::{ROWS, read_command};
 use faulty_source::file::FileSource;
 use option_words::words::Words;
 use partition_domain::stop::Refusal;
 use program_advice::cause::{Cause, Hint, Named, Role, Stream};
+use program_advice::direct::cached_line;
 use program_advice::files::{open_cause, stream_cause};
 use program_advice::line::{Line, line_of};
 use program_advice::usage::{Manual, line_on_words};
@@ -43,6 +45,7 @@ fn cause_of<'a>(
         PartEnding::Done | PartEnding::Usage(_) => return None,
         PartEnding::SourceFault => return open_cause(infile, source.trouble()),
         PartEnding::ConsoleFault => return stream_cause(Stream::Output, put),
+        PartEnding::SourceLost if source.was_stopped() => Hint::StoppedSearch,
         PartEnding::SourceLost => Hint::InputLost,
         PartEnding::Refused(refusal) => refusal_hint(refusal),
         PartEnding::NoMemory => Hint::NoMemory,
@@ -72,4 +75,12 @@ pub fn advise(
     };
     let cause = cause_of(infile, ending, source, put)?;
     Some(line_of(PROGRAM, cause))
+}
+
+/// The line after a search of which the kernel refused reads past its cache.
+pub fn line_after(rt: &HostRuntime, words: &Words, source: &FileSource) -> Option<Line> {
+    match read_command(rt.alloc(), words) {
+        Ok(command) if !command.quiet => cached_line(PROGRAM, source.refused()),
+        _ => None,
+    }
 }

@@ -34,6 +34,7 @@ fn cause_of<'a>(
 ) -> Option<Cause<'a>> {
     let files = SiteFiles {
         outfile: "",
+        outfile_use: None,
         mapfile: None,
         read,
     };

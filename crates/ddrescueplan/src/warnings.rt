@@ -5,7 +5,7 @@ use ddrescueplan_words::command::{Command, read_command};
 use option_words::words::Words;
 use rescue_console::console::Console;
 use rescue_warnings::advice::due_advice;
-use rescue_warnings::facts::{Facts, Found, Work};
+use rescue_warnings::facts::{Facts, Found, Place, Work};
 use rescue_warnings::tail::look_at_map;
 use rescue_warnings::warning::{Names, put_warnings};
 
@@ -26,10 +26,13 @@ fn facts_of(rt: &HostRuntime, command: &Command<'_>) -> Facts {
         infile: Some(Found::Regular {
             length: command.length,
         }),
+        infile_mounting: None,
         outfile: None,
+        outfile_place: Place::unknown(),
         map: look_at_map(rt, command.test_map),
         map_is_link: false,
-        map_has_no_journal: false,
+        map_place: Place::unknown(),
+        stop_is_told: false,
     }
 }
 

@@ -49,6 +49,7 @@ fn files_of<'a>(command: &Command<'a>, site: &FolderSite) -> SiteFiles<'a> {
     };
     SiteFiles {
         outfile: "",
+        outfile_use: None,
         mapfile: Some(command.mapfile),
         read: named_map(command, which),
     }

@@ -1,15 +1,18 @@
-//! The line after the message: why an answer came, by the files that the arguments name.
+//! The line after the message: why an answer came, by the files that the arguments name. After the comparison there
+//! may be a line on reads past the kernel's cache.
 use crash_site::folder::FolderSite;
+use crash_site::site::SiteCall;
 use ddrescueverify_cli::ending::VerifyEnding;
 use ddrescueverify_words::command::{Command, read_command};
 use ddrescueverify_words::options::ROWS;
 use faulty_source::file::FileSource;
 use option_words::words::Words;
 use program_advice::cause::{Cause, Fact, Hint, Named, Role, Stream};
+use program_advice::direct::cached_line;
 use program_advice::files::{open_cause, same_name_cause, stream_cause};
 use program_advice::line::{Line, line_of};
 use program_advice::mapfile::{line_on_map, line_on_memory};
-use program_advice::site::{SiteFiles, fault_cause};
+use program_advice::site::{SiteFiles, fault_cause, find_outfile_use};
 use program_advice::usage::{Manual, line_on_words};
 use program_promise::operand::Operand;
 use std::io;
@@ -49,12 +52,38 @@ fn named_map<'a>(command: &Command<'a>) -> Named<'a> {
     }
 }
 
+/// The line on a call on the files that failed. What uses an outfile that is a device in use is looked up.
+fn line_on_fault(
+    rt: &HostRuntime,
+    command: &Command<'_>,
+    site: &FolderSite,
+    call: SiteCall,
+) -> Option<Line> {
+    let outfile_use = find_outfile_use(rt, site.trouble(), command.outfile);
+    let files = SiteFiles {
+        outfile: command.outfile,
+        outfile_use: outfile_use.as_ref(),
+        mapfile: Some(command.mapfile),
+        read: named_map(command),
+    };
+    let cause = fault_cause(site.trouble(), call, files)?;
+    Some(line_of(PROGRAM, cause))
+}
+
+/// What helps after the input was lost, if it was, or if someone asked for a stop.
+fn lost_hint(source: &FileSource) -> Hint {
+    if source.was_stopped() {
+        Hint::StoppedComparison
+    } else {
+        Hint::InputLost
+    }
+}
+
 /// Why a command that was read ended so, if that helps.
 fn cause_of<'a>(
     command: &Command<'a>,
     ending: VerifyEnding,
     source: &FileSource,
-    site: &FolderSite,
     put: Option<io::Error>,
 ) -> Option<Cause<'a>> {
     let infile = Named {
@@ -65,27 +94,21 @@ fn cause_of<'a>(
         role: Role::Outfile,
         name: command.outfile,
     };
-    let mapfile = named_map(command);
-    let files = SiteFiles {
-        outfile: command.outfile,
-        mapfile: Some(command.mapfile),
-        read: mapfile,
-    };
     let (file, fact) = match ending {
         VerifyEnding::Done
         | VerifyEnding::Differs { .. }
         | VerifyEnding::Usage(_)
         | VerifyEnding::MapRefused { .. }
+        | VerifyEnding::SiteFault { .. }
         | VerifyEnding::NoMemory => return None,
         VerifyEnding::SameName { first, second } => {
             let (first, second) = (role_of(first), role_of(second));
             return Some(same_name_cause(first, second, command.infile, command.outfile));
         }
         VerifyEnding::SourceFault => return open_cause(infile, source.trouble()),
-        VerifyEnding::SourceLost => return Some(Cause::Hint(Hint::InputLost)),
-        VerifyEnding::SiteFault { call } => return fault_cause(site.trouble(), call, files),
+        VerifyEnding::SourceLost => return Some(Cause::Hint(lost_hint(source))),
         VerifyEnding::ConsoleFault => return stream_cause(Stream::Output, put),
-        VerifyEnding::NoMap => (mapfile, Fact::Absent),
+        VerifyEnding::NoMap => (named_map(command), Fact::Absent),
         VerifyEnding::NoOutput => (outfile, Fact::Absent),
     };
     Some(Cause::File { file, fact })
@@ -116,8 +139,17 @@ pub fn advise(
             error,
         )),
         VerifyEnding::NoMemory => return Some(line_on_memory(rt, PROGRAM, named_map(&command))),
+        VerifyEnding::SiteFault { call } => return line_on_fault(rt, &command, site, call),
         _ => {}
     }
-    let cause = cause_of(&command, ending, source, site, put)?;
+    let cause = cause_of(&command, ending, source, put)?;
     Some(line_of(PROGRAM, cause))
+}
+
+/// The line after a comparison of which the kernel refused reads past its cache.
+pub fn line_after(rt: &HostRuntime, words: &Words, source: &FileSource) -> Option<Line> {
+    match read_command(rt.alloc(), words) {
+        Ok(command) if !command.options.quiet => cached_line(PROGRAM, source.refused()),
+        _ => None,
+    }
 }

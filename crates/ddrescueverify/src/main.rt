@@ -1,7 +1,7 @@
 //! ddrescueverify: compares what a mapfile calls finished with the infile again.
 #![tactic(auto)]
 
-use advice::advise;
+use advice::{advise, line_after};
 use crash_site::folder::FolderSite;
 use ddrescueverify_cli::verify::ddrescueverify;
 use faulty_source::file::FileSource;
@@ -10,6 +10,7 @@ use program_start::status::status_of;
 use program_start::streams::{ClosedStream, fill_streams};
 use program_start::words::collect_words;
 use real_files::identity::OpenInput;
+use real_files::launcher::Launcher;
 use rescue_console::console::Channel;
 use rescue_console::system::StdConsole;
 use std::io;
@@ -29,6 +30,7 @@ fn run(rt: HostRuntime) -> io::Result<u8> {
     let mut source = FileSource::new(rt.clone()?);
     let mut site = FolderSite::new(rt.clone()?);
     source.note_in(input.share()?);
+    source.follow(Launcher::find(&rt)?);
     site.keep_apart(input);
     if let Ok(room) = vec![in rt.alloc(); 0; ROOM] {
         source.read_ahead_in(room);
@@ -44,6 +46,7 @@ fn run(rt: HostRuntime) -> io::Result<u8> {
         &mut console,
         advise(&rt, &words, ending, &source, &site, put),
     );
+    put_line(&mut console, line_after(&rt, &words, &source));
     Ok(ending.code())
 }
 

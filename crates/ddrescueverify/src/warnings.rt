@@ -1,11 +1,12 @@
-//! The line before a comparison: what a person is warned of, by what is read without changing anything.
+//! The lines before a comparison: what a person is warned of, by what is read without changing anything.
 
 use crate::advice::PROGRAM;
 use ddrescueverify_words::command::{Command, read_command};
 use option_words::words::Words;
 use rescue_console::console::Console;
 use rescue_warnings::advice::due_advice;
-use rescue_warnings::facts::{Facts, Work};
+use rescue_warnings::facts::{Facts, Place, Work};
+use rescue_warnings::look::{look_at_file, look_at_mounting};
 use rescue_warnings::tail::look_at_map;
 use rescue_warnings::warning::{Names, put_warnings};
 
@@ -24,16 +25,18 @@ fn facts_of(rt: &HostRuntime, command: &Command<'_>) -> Facts {
         domain_map: false,
         domain: None,
         scrapes: false,
-        infile: None,
+        infile: look_at_file(rt, command.infile),
+        infile_mounting: look_at_mounting(rt, command.infile),
         outfile: None,
+        outfile_place: Place::unknown(),
         map: look_at_map(rt, command.mapfile),
         map_is_link: false,
-        map_has_no_journal: false,
+        map_place: Place::unknown(),
+        stop_is_told: false,
     }
 }
 
-/// Puts the line before the comparison that words ask for, if one is due and anything is to be said. Nothing else
-/// changes.
+/// Puts the lines before the comparison that words ask for, unless nothing is to be said. Nothing else changes.
 pub fn warn<P: Console>(rt: &HostRuntime, words: &Words, console: &mut P) {
     let Ok(command) = read_command(rt.alloc(), words) else {
         return;

@@ -12,12 +12,15 @@ shown_from b = grind (arith, nat_tests)
 no_delete : (b : ℕ) → nat_eq (shown_byte b) 127 ≡ false
 no_delete b = grind (arith, nat_tests)
 
--- four pieces that are added one after another, and five
+-- three pieces that are added one after another, four, and five
+pub three_added : (a b c d x y z : List ℕ) → x ≡ a ++ b → y ≡ x ++ c → z ≡ y ++ d → z ≡ a ++ (b ++ c ++ d)
+three_added a b c d x y z f g h =
+    h ∙ ap (λ t. t ++ d) (g ∙ ap (λ t. t ++ c) f ∙ append_assoc a b c) ∙ append_assoc a (b ++ c) d
+
 pub four_added : (a b c d e w x y z : List ℕ) → w ≡ a ++ b → x ≡ w ++ c → y ≡ x ++ d → z ≡ y ++ e
     → z ≡ a ++ (b ++ c ++ d ++ e)
 four_added a b c d e w x y z f g h i =
-    i ∙ ap (λ t. t ++ e) (h ∙ ap (λ t. t ++ d) (g ∙ ap (λ t. t ++ c) f ∙ append_assoc a b c) ∙ append_assoc a (b ++ c) d)
-    ∙ append_assoc a (b ++ c ++ d) e
+    i ∙ ap (λ t. t ++ e) (three_added a b c d w x y f g h) ∙ append_assoc a (b ++ c ++ d) e
 
 pub five_added : (a b c d e f v w x y z : List ℕ) → v ≡ a ++ b → w ≡ v ++ c → x ≡ w ++ d → y ≡ x ++ e → z ≡ y ++ f
     → z ≡ a ++ (b ++ c ++ d ++ e ++ f)

@@ -3,9 +3,11 @@ use Rattle.std.specs.Prelude.{ℕ, Bool, true, false, List, [], ◌∷◌, ◌++
 use Rattle.std.specs.Fmt.{decimal}
 use Rattle.mapfile_text.specs.Printed.{shown_byte}
 use Rattle.program_advice.specs.declared.cause.Named.{Named}
+use Rattle.program_advice.specs.declared.cause.UsedBy.{UsedBy}
+use Rattle.program_advice.specs.declared.cause.UsedBy.TheVariants.{Mount, Swap, Device}
 use Rattle.program_advice.specs.declared.cause.Cause.{Cause}
-use Rattle.program_advice.specs.declared.cause.Cause.TheVariants.{Refused, Unsaved, Full, File, BadLine, LargeMap, OneName, Limit, Stream, Argument, Usage, Left, Hint}
-use Rattle.program_advice.specs.Texts.{doing_text, fact_text, hint_text, option_text, role_text, stream_text}
+use Rattle.program_advice.specs.declared.cause.Cause.TheVariants.{Refused, Unsaved, Full, File, DeviceInUse, BadLine, LargeMap, OneName, Limit, Stream, Argument, Usage, Left, Cached, Hint}
+use Rattle.program_advice.specs.Texts.{doing_text, fact_text, hint_text, left_text, option_text, role_text, stream_text}
 
 -- a text, or `most` bytes of it and two dots
 abbrev pub cut : ℕ → List ℕ → List ℕ
@@ -18,6 +20,16 @@ quoted name = codes "'" ++ cut 150 name ++ codes "'"
 -- a file, as a line has it
 abbrev pub named_text : Named → List ℕ
 named_text file = role_text file.role ++ codes " " ++ quoted file.name.now
+
+-- the name of a device, as a line has it
+abbrev pub device_text : List ℕ → List ℕ
+device_text name = codes "'" ++ cut 60 name ++ codes "'"
+
+-- what uses a device
+abbrev pub use_text : List ℕ → UsedBy → List ℕ
+use_text device (Mount folder) = device_text device ++ codes " is mounted at " ++ quoted folder.now
+use_text device Swap = device_text device ++ codes " is swap space"
+use_text device (Device name) = device_text name.now ++ codes " is made of " ++ device_text device
 
 -- the advice after a limit
 abbrev pub resuming_text : Bool → List ℕ
@@ -43,10 +55,11 @@ abbrev pub large_map_text : Named → ℕ → List ℕ
 large_map_text file bytes = codes "memory is short, and " ++ named_text file ++ codes " has " ++ decimal bytes
     ++ codes " B: end other programs and give the same command"
 
--- the advice on bytes that a run left
-abbrev pub left_text : Bool → List ℕ
-left_text false = codes " B weren't read; with option -r 3 the same command tries the bad sectors again"
-left_text true = codes " B weren't read; without -n and -N the same command goes on with them"
+-- the advice on reads past the kernel's cache that weren't possible
+abbrev pub cached_text : ℕ → List ℕ
+cached_text reads = if nat_eq reads 1
+    then codes "1 read wasn't possible past the kernel's cache, and was made through it"
+    else decimal reads ++ codes " reads weren't possible past the kernel's cache, and were made through it"
 
 -- the advice on a cause
 abbrev pub cause_text : Cause → List ℕ
@@ -55,6 +68,7 @@ cause_text (Unsaved name reason) = unsaved_text name.now reason.now
 cause_text (Full file resumes) = codes "no space left for " ++ named_text file
     ++ codes ": make room and give the same command" ++ room_text resumes
 cause_text (File file fact) = named_text file ++ fact_text fact
+cause_text (DeviceInUse file device by) = named_text file ++ codes " is in use: " ++ use_text device.now by
 cause_text (BadLine file line) = bad_line_text file line.now
 cause_text (LargeMap file bytes) = large_map_text file bytes
 cause_text (OneName first second name) = role_text first ++ codes " and " ++ role_text second ++ codes " are both "
@@ -63,7 +77,8 @@ cause_text (Limit option resumes) = option_text option ++ resuming_text resumes
 cause_text (Stream stream reason) = stream_text stream ++ cut 60 reason.now
 cause_text (Argument word wanted) = quoted word.now ++ codes " isn't " ++ cut 150 wanted.now
 cause_text (Usage usage) = codes "usage: " ++ cut 150 usage.now
-cause_text (Left bytes skips) = decimal bytes ++ left_text skips
+cause_text (Left bytes skips loses_neighbors) = decimal bytes ++ left_text skips loses_neighbors
+cause_text (Cached reads) = cached_text reads
 cause_text (Hint hint) = hint_text hint
 
 -- the line of a cause: the program's name, the advice, each control character as a question mark, and a newline

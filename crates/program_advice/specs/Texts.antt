@@ -1,15 +1,15 @@
 -- The fixed texts of causes. For contracts and proofs: no promise uses it.
-use Rattle.std.specs.Prelude.{ℕ, List, codes}
+use Rattle.std.specs.Prelude.{ℕ, Bool, true, false, List, codes}
 use Rattle.program_advice.specs.declared.cause.Role.{Role}
 use Rattle.program_advice.specs.declared.cause.Role.TheVariants.{Infile, Pattern, Outfile, Mapfile, Draft, DomainMap, TestMap, OtherMap}
 use Rattle.program_advice.specs.declared.cause.Doing.{Doing}
 use Rattle.program_advice.specs.declared.cause.Doing.TheVariants.{Open, Read, Write, Sync, Remove}
 use Rattle.program_advice.specs.declared.cause.Fact.{Fact}
-use Rattle.program_advice.specs.declared.cause.Fact.TheVariants.{InUse, Mounted, NotApart, DraftNotApart, NotRegular, NeedsForce, Absent, Exists, Empty, NoMap, Replaced}
+use Rattle.program_advice.specs.declared.cause.Fact.TheVariants.{InUse, NotApart, DraftNotApart, NotRegular, NeedsForce, Absent, Exists, Empty, NoMap, Replaced}
 use Rattle.program_advice.specs.declared.cause.Stream.{Stream}
 use Rattle.program_advice.specs.declared.cause.Stream.TheVariants.{Input, Output}
 use Rattle.program_advice.specs.declared.cause.Hint.{Hint}
-use Rattle.program_advice.specs.declared.cause.Hint.TheVariants.{SameFile, InputLost, NoMemory, BlockNumbers, NoTable, OtherTable, NoPartition}
+use Rattle.program_advice.specs.declared.cause.Hint.TheVariants.{SameFile, InputLost, StoppedRescue, StoppedWithoutMap, StoppedComparison, StoppedSearch, NoMemory, BlockNumbers, NoTable, OtherTable, NoPartition}
 use Rattle.program_advice.specs.declared.cause.LimitOption.{LimitOption}
 use Rattle.program_advice.specs.declared.cause.LimitOption.TheVariants.{ReadErrors, BadAreas, Timeout}
 
@@ -35,7 +35,6 @@ doing_text Remove = codes "cannot remove "
 -- the text on a file that follows its name
 abbrev pub fact_text : Fact → List ℕ
 fact_text InUse = codes " is in use by another rescue"
-fact_text Mounted = codes " is mounted, or a partition of it is: unmount it first"
 fact_text NotApart = codes " is the infile or the outfile by another name"
 fact_text DraftNotApart = codes " or its draft (.tmp) is the infile or the outfile by another name"
 fact_text NotRegular = codes " isn't a regular file"
@@ -57,10 +56,22 @@ option_text ReadErrors = codes "option -X set this limit"
 option_text BadAreas = codes "option -e set this limit"
 option_text Timeout = codes "option -T set this limit"
 
+-- what follows the number of bytes that a run left
+abbrev pub left_text : (skips loses_neighbors : Bool) → List ℕ
+left_text false false = codes " B weren't read; with option -r 3 the same command tries the bad sectors again"
+left_text false true = codes " B weren't read; ddrescuerun reads past the kernel's cache and can get more of them"
+left_text true false = codes " B weren't read; without -n and -N the same command goes on with them"
+left_text true true =
+    codes " B weren't read; without -n and -N the same command goes on with them, and ddrescuerun can get more"
+
 -- the advice that names nothing
 abbrev pub hint_text : Hint → List ℕ
 hint_text SameFile = codes "infile and outfile are the same file"
 hint_text InputLost = codes "reconnect the disk and give the same command (its name may have changed)"
+hint_text StoppedRescue = codes "stopped as asked; the map is saved, and the same command goes on"
+hint_text StoppedWithoutMap = codes "stopped as asked; there is no mapfile, so the same command begins anew"
+hint_text StoppedComparison = codes "stopped as asked; nothing was saved"
+hint_text StoppedSearch = codes "stopped as asked"
 hint_text NoMemory = codes "memory is short: end other programs and give the same command"
 hint_text BlockNumbers = codes "each line of the list is one block number, such as 17 or 0x11"
 hint_text NoTable = codes "the infile has no DOS partition table that can be read there"

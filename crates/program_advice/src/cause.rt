@@ -37,8 +37,6 @@ pub enum Doing {
 pub enum Fact {
     /// Another rescue has locked the file.
     InUse,
-    /// The file is a device that is mounted, or of which a partition is.
-    Mounted,
     /// The file is the infile or the outfile.
     NotApart,
     /// The file or its draft is the infile or the outfile.
@@ -56,6 +54,17 @@ pub enum Fact {
     Replaced,
 }
 
+/// What uses a device.
+#[derive(Clone, Copy)]
+pub enum UsedBy<'a> {
+    /// The file system on the device is mounted in this folder.
+    Mount(&'a str),
+    /// The device is swap space.
+    Swap,
+    /// The device of this name is made of it.
+    Device(&'a str),
+}
+
 /// A standard stream.
 #[derive(Clone, Copy)]
 pub enum Stream {
@@ -69,6 +78,13 @@ pub enum Hint {
     /// The infile and the outfile are one file with two names.
     SameFile,
     InputLost,
+    /// A rescue that has a mapfile was stopped, because someone asked for that.
+    StoppedRescue,
+    /// A rescue without a mapfile was stopped so.
+    StoppedWithoutMap,
+    StoppedComparison,
+    /// The search for a partition was stopped so.
+    StoppedSearch,
     NoMemory,
     /// The list of blocks has a line that isn't one.
     BlockNumbers,
@@ -111,6 +127,12 @@ pub enum Cause<'a> {
         file: Named<'a>,
         fact: Fact,
     },
+    /// The file is a block device, and this device, which is the file, a part of it or its disk, is used.
+    DeviceInUse {
+        file: Named<'a>,
+        device: &'a str,
+        by: UsedBy<'a>,
+    },
     /// The file's text is no map, and this is the line that shows it.
     BadLine {
         file: Named<'a>,
@@ -151,6 +173,12 @@ pub enum Cause<'a> {
         bytes: u64,
         /// Options left out trimming or scraping.
         skips: bool,
+        /// The kernel's cache loses good sectors beside a bad one.
+        loses_neighbors: bool,
+    },
+    /// The kernel refused this many reads past its cache, and they were made through it.
+    Cached {
+        reads: u64,
     },
     Hint(Hint),
 }

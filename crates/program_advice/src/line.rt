@@ -3,10 +3,12 @@ ghost use Rattle.std.specs.Prelude.{◌≡◌, ◌+◌, ◌≤◌, ◌++◌, [],
 ghost use Rattle.std.specs.Fmt.{decimal};
 ghost use Rattle.mapfile_text.specs.Printed.{shown_byte};
 ghost use Rattle.arrayvec.specs.ArrayVec.{array_vec_len};
-ghost use Rattle.program_advice.specs.Lines.{IsOneLine, bad_line_text, cause_text, cut, large_map_text, left_text, line_text, named_text, quoted, resuming_text, room_text, unsaved_text};
+ghost use Rattle.program_advice.specs.Lines.{IsOneLine, bad_line_text, cached_text, cause_text, cut, device_text, large_map_text, line_text, named_text, quoted, resuming_text, room_text, unsaved_text, use_text};
 
-use crate::cause::{Cause, Named};
-use crate::texts::{doing_text, fact_text, hint_text, option_text, role_text, stream_text};
+use crate::cause::{Cause, Named, UsedBy};
+use crate::texts::{
+    doing_text, fact_text, hint_text, left_text, option_text, role_text, stream_text,
+};
 use arrayvec::ArrayVec;
 use itoa::Buffer;
 use mapfile_text::heading::shown_byte;
@@ -57,6 +59,41 @@ fn add_named(line: &mut Line, file: Named<'_>)
     add(line, role_text(file.role));
     add(line, " ");
     add_quoted(line, file.name);
+}
+
+/// Adds the name of a device in quotes.
+fn add_device(line: &mut Line, name: &str)
+    requires { array_vec_len line.old ≤ 440 }
+    ensures text { line.new.items ≡ line.old.items ++ device_text name.now }
+    ensures len { array_vec_len line.new ≤ array_vec_len line.old + 64 }
+{
+    add(line, "'");
+    add_cut(line, name.as_bytes(), 60);
+    add(line, "'");
+}
+
+/// Adds what uses a device.
+fn add_use(line: &mut Line, device: &str, by: UsedBy<'_>)
+    requires { array_vec_len line.old ≤ 220 }
+    ensures text { line.new.items ≡ line.old.items ++ use_text device.now by.entry }
+    ensures len { array_vec_len line.new ≤ array_vec_len line.old + 240 }
+{
+    match by {
+        UsedBy::Mount(folder) => {
+            add_device(line, device);
+            add(line, " is mounted at ");
+            add_quoted(line, folder);
+        }
+        UsedBy::Swap => {
+            add_device(line, device);
+            add(line, " is swap space");
+        }
+        UsedBy::Device(name) => {
+            add_device(line, name);
+            add(line, " is made of ");
+            add_device(line, device);
+        }
+    }
 }
 
 /// Adds the advice after a limit.
@@ -118,24 +155,24 @@ fn add_large_map(line: &mut Line, file: Named<'_>, bytes: u64)
     add(line, " B: end other programs and give the same command");
 }
 
-/// Adds the advice on bytes that a run left.
-fn add_left(line: &mut Line, bytes: u64, skips: bool)
+/// Adds the advice on reads past the kernel's cache that weren't possible.
+fn add_cached(line: &mut Line, reads: u64)
     requires { array_vec_len line.old ≤ 20 }
-    ensures text { line.new.items ≡ line.old.items ++ (decimal bytes ++ left_text skips) }
-    ensures len { array_vec_len line.new ≤ array_vec_len line.old + 110 }
+    ensures text { line.new.items ≡ line.old.items ++ cached_text reads }
+    ensures len { array_vec_len line.new ≤ array_vec_len line.old + 100 }
 {
-    add(line, Buffer::new().format(bytes));
-    if skips {
+    if reads == 1 {
         add(
             line,
-            " B weren't read; without -n and -N the same command goes on with them",
+            "1 read wasn't possible past the kernel's cache, and was made through it",
         );
-    } else {
-        add(
-            line,
-            " B weren't read; with option -r 3 the same command tries the bad sectors again",
-        );
+        return;
     }
+    add(line, Buffer::new().format(reads));
+    add(
+        line,
+        " reads weren't possible past the kernel's cache, and were made through it",
+    );
 }
 
 /// Adds the advice on a cause.
@@ -165,6 +202,11 @@ fn add_cause(line: &mut Line, cause: Cause<'_>)
         Cause::File { file, fact } => {
             add_named(line, file);
             add(line, fact_text(fact));
+        }
+        Cause::DeviceInUse { file, device, by } => {
+            add_named(line, file);
+            add(line, " is in use: ");
+            add_use(line, device, by);
         }
         Cause::BadLine { file, line: text } => add_bad_line(line, file, text),
         Cause::LargeMap { file, bytes } => add_large_map(line, file, bytes),
@@ -196,7 +238,15 @@ fn add_cause(line: &mut Line, cause: Cause<'_>)
             add(line, "usage: ");
             add_cut(line, usage.as_bytes(), 150);
         }
-        Cause::Left { bytes, skips } => add_left(line, bytes, skips),
+        Cause::Left {
+            bytes,
+            skips,
+            loses_neighbors,
+        } => {
+            add(line, Buffer::new().format(bytes));
+            add(line, left_text(skips, loses_neighbors));
+        }
+        Cause::Cached { reads } => add_cached(line, reads),
         Cause::Hint(hint) => add(line, hint_text(hint)),
     }
 }

@@ -1,16 +1,21 @@
 //! Causes of calls on the output, on a mapfile or on its folder.
 ghost use Rattle.std.specs.Prelude.{◌≡◌, IfSome};
 
-use crate::cause::{Cause, Doing, Fact, Hint, Named, Role};
+use crate::cause::{Cause, Doing, Fact, Hint, Named, Role, UsedBy};
 use crate::reason::reason_text;
 use crash_site::folder::SiteTrouble;
 use crash_site::site::SiteCall;
+use real_files::devices::{DeviceUse, User, find_use};
+use real_files::identity::Identity;
+use std::fs;
 use std::io::{self, ErrorKind};
 
 /// The files that calls reach.
 #[derive(Clone, Copy)]
 pub struct SiteFiles<'a> {
     pub outfile: &'a str,
+    /// What uses the outfile, if it was refused because it is a device in use.
+    pub outfile_use: Option<&'a DeviceUse>,
     /// The mapfile that is saved, if there is one.
     pub mapfile: Option<&'a str>,
     /// The mapfile that a read met.
@@ -20,6 +25,42 @@ pub struct SiteFiles<'a> {
 /// Whether the form for real files refused a call itself, and not the system.
 fn is_own(error: &io::Error, kind: ErrorKind) -> bool {
     error.raw_os_error().is_none() && error.kind() == kind
+}
+
+/// The kernel's number of the error that says that a device is in use.
+const EBUSY: i32 = 16;
+
+/// What uses the outfile, if it was refused because it is a device in use. The kernel is asked once more.
+pub fn find_outfile_use(
+    rt: &HostRuntime,
+    trouble: Option<SiteTrouble>,
+    outfile: &str,
+) -> Option<DeviceUse>
+    ensures { IfSome result (λ _. IfSome trouble (λ kept. kept.call ≡ SiteCall.ImageOpen)) }
+{
+    let trouble = trouble?;
+    if trouble.call != SiteCall::ImageOpen || trouble.error.raw_os_error() != Some(EBUSY) {
+        return None;
+    }
+    let found = Identity::of(&fs::metadata(rt, outfile).ok()?);
+    if !found.is_device() {
+        return None;
+    }
+    find_use(rt, found.device()).ok()?
+}
+
+/// That a file is a device in use, and what uses it.
+fn use_cause<'a>(file: Named<'a>, found: &'a DeviceUse) -> Cause<'a> {
+    let by = match &found.user {
+        User::Mount(folder) => UsedBy::Mount(folder.as_str()),
+        User::Swap => UsedBy::Swap,
+        User::Device(name) => UsedBy::Device(name.as_str()),
+    };
+    Cause::DeviceInUse {
+        file,
+        device: found.device.as_str(),
+        by,
+    }
 }
 
 fn is_full(error: &io::Error) -> bool {
@@ -35,6 +76,9 @@ fn image_cause<'a>(doing: Doing, error: &io::Error, files: SiteFiles<'a>) -> Cau
         role: Role::Outfile,
         name: files.outfile,
     };
+    if let Some(found) = files.outfile_use {
+        return use_cause(file, found);
+    }
     if is_own(error, ErrorKind::ResourceBusy) {
         return Cause::Hint(Hint::SameFile);
     }
@@ -42,12 +86,6 @@ fn image_cause<'a>(doing: Doing, error: &io::Error, files: SiteFiles<'a>) -> Cau
         return Cause::File {
             file,
             fact: Fact::InUse,
-        };
-    }
-    if is_own(error, ErrorKind::PermissionDenied) {
-        return Cause::File {
-            file,
-            fact: Fact::Mounted,
         };
     }
     if is_full(error) {

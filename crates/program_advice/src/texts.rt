@@ -1,6 +1,6 @@
 //! The fixed texts of causes.
 ghost use Rattle.std.specs.Prelude.{◌≡◌, ◌≤◌, length};
-ghost use Rattle.program_advice.specs.Texts.{doing_text, fact_text, hint_text, option_text, role_text, stream_text};
+ghost use Rattle.program_advice.specs.Texts.{doing_text, fact_text, hint_text, left_text, option_text, role_text, stream_text};
 
 use crate::cause::{Doing, Fact, Hint, LimitOption, Role, Stream};
 
@@ -42,7 +42,6 @@ pub(crate) fn fact_text(fact: Fact) -> &'static str
 {
     match fact {
         Fact::InUse => " is in use by another rescue",
-        Fact::Mounted => " is mounted, or a partition of it is: unmount it first",
         Fact::NotApart => " is the infile or the outfile by another name",
         Fact::DraftNotApart => {
             " or its draft (.tmp) is the infile or the outfile by another name"
@@ -82,6 +81,25 @@ pub(crate) fn option_text(option: LimitOption) -> &'static str
     }
 }
 
+/// What follows the number of bytes that a run left.
+pub(crate) fn left_text(skips: bool, loses_neighbors: bool) -> &'static str
+    ensures text { result.now ≡ left_text skips loses_neighbors }
+    ensures len { length result.now ≤ 110 }
+{
+    match (skips, loses_neighbors) {
+        (false, false) => {
+            " B weren't read; with option -r 3 the same command tries the bad sectors again"
+        }
+        (false, true) => {
+            " B weren't read; ddrescuerun reads past the kernel's cache and can get more of them"
+        }
+        (true, false) => " B weren't read; without -n and -N the same command goes on with them",
+        (true, true) => {
+            " B weren't read; without -n and -N the same command goes on with them, and ddrescuerun can get more"
+        }
+    }
+}
+
 /// The advice that names nothing.
 pub(crate) fn hint_text(hint: Hint) -> &'static str
     ensures text { result.now ≡ hint_text hint }
@@ -92,6 +110,12 @@ pub(crate) fn hint_text(hint: Hint) -> &'static str
         Hint::InputLost => {
             "reconnect the disk and give the same command (its name may have changed)"
         }
+        Hint::StoppedRescue => "stopped as asked; the map is saved, and the same command goes on",
+        Hint::StoppedWithoutMap => {
+            "stopped as asked; there is no mapfile, so the same command begins anew"
+        }
+        Hint::StoppedComparison => "stopped as asked; nothing was saved",
+        Hint::StoppedSearch => "stopped as asked",
         Hint::NoMemory => "memory is short: end other programs and give the same command",
         Hint::BlockNumbers => "each line of the list is one block number, such as 17 or 0x11",
         Hint::NoTable => "the infile has no DOS partition table that can be read there",

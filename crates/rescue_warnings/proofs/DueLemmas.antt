@@ -1,12 +1,13 @@
 -- What is said before a run is what is due.
 use Rattle.std.proofs.Common.{◌≡◌, ◌≤◌, ◌+◌, ℕ, zero, suc, Bool, true, false, List, [], ◌∷◌, Option, Some, None, All, get_or, refl, sym, subst, arith}
-use Rattle.std.specs.Prelude.{⊤, ◌-◌, not, nat_lt, nat_le, nat_eq}
+use Rattle.std.specs.Prelude.{⊤, ◌-◌, ◌%◌, not, ◌||◌, is_none, nat_lt, nat_le, nat_eq}
 use Rattle.std.specs.List.{Contains}
 use Rattle.std.proofs.lemmas.List.Elements.{All-nil, All-cons, Contains-append_left, Contains-append_right, Contains-push}
 use Rattle.rescue_warnings.specs.declared.facts.Facts.{Facts}
+use Rattle.rescue_warnings.specs.declared.facts.Storage.{Storage}
 use Rattle.rescue_warnings.specs.declared.advice.Advice.{Advice}
-use Rattle.rescue_warnings.specs.declared.advice.Advice.TheVariants.{OutfileShort, MapPastInfile, EmptyInfile, BeginsPastInfile, NothingAsked, NothingListed, NewMapfile, LinkedMapfile, UnsafeMapfile, NewOutfile, NothingToFill, LongPattern, OtherSector, MountedInfile, MountedOutfile, LongPlan, NothingToCompare, LateMapfile, EmptyDomain}
-use Rattle.rescue_warnings.specs.Due.{Ascends, IsAdvice, IsDue, asked_end, asks_infile, begins_past_infile, bytes_of, empty_domain, empty_infile, end_of, finished_of, finishes_nothing, if_known, if_so, is_absent, is_comparison, is_fill, is_mounted, is_new, is_plan, is_rescue, is_writable, kinds, late_mapfile, length_of, linked_mapfile, lists_nothing, long_pattern, long_plan, map_past_infile, mount_of, mounted_infile, mounted_outfile, new_mapfile, new_outfile, nothing_asked, nothing_listed, nothing_to_compare, nothing_to_fill, of_kind, other_sector, outfile_short, rank, saves, sector_of, sectors_past, somes, unsafe_mapfile, within}
+use Rattle.rescue_warnings.specs.declared.advice.Advice.TheVariants.{OutfileShort, MapPastInfile, EmptyInfile, BeginsPastInfile, NothingAsked, NothingListed, NewMapfile, LinkedMapfile, UnsafeOutfile, UnsafeMapfile, NewOutfile, NothingToFill, LongPattern, OtherSector, MountedInfile, OutfileOnDisk, MapfileOnDisk, LongPlan, NothingToCompare, LateMapfile, EmptyDomain, MapBeforeInfile, NoLength}
+use Rattle.rescue_warnings.specs.Due.{Ascends, IsAdvice, IsDue, asked_end, asks_for_all, asks_infile, begins_past_infile, bytes_of, empty_domain, empty_infile, end_of, finished_of, finishes_nothing, if_known, if_so, if_stored, is_absent, is_character_device, is_comparison, is_fill, is_new, is_plan, is_rescue, is_writable, kinds, late_mapfile, length_of, linked_mapfile, lists_nothing, long_pattern, long_plan, map_before_infile, map_past_infile, mapfile_on_disk, may_forget, mounted_infile, new_mapfile, new_outfile, no_length, nothing_asked, nothing_listed, nothing_to_compare, nothing_to_fill, of_kind, other_sector, outfile_on_disk, outfile_short, rank, reads_infile, saves, sector_of, sectors_past, somes, unsafe_mapfile, unsafe_outfile, within, writes_outfile}
 
 -- what is due by it, if anything is, is so
 record Only (P : Advice → Type 0) (due : Option Advice) : Type 0 where
@@ -31,6 +32,11 @@ so P false due h = none P
 of : (P : Advice → Type 0) (n : Option ℕ) (due : ℕ → Option Advice) → ((k : ℕ) → Only P (due k)) → Only P (if_known n due)
 of P (Some k) due h = h k
 of P None due h = none P
+
+stored : (P : Advice → Type 0) (kind : Option Storage) (due : Storage → Option Advice) → ((k : Storage) → Only P (due k))
+    → Only P (if_stored kind due)
+stored P (Some k) due h = h k
+stored P None due h = none P
 
 -- an advice is of the kind that a definition is about, with this place in the enum
 abbrev IsOf : Facts → ℕ → Option Advice → Advice → Type 0
@@ -112,113 +118,93 @@ linked_mapfile_only f =
     let P = IsOf f 7 (linked_mapfile f) in
     so P (saves f.work) _ (so P f.map_is_link _ (one P LinkedMapfile (refl, refl)))
 
-unsafe_mapfile_only : (f : Facts) → Only (IsOf f 8 (unsafe_mapfile f)) (unsafe_mapfile f)
-unsafe_mapfile_only f =
-    let P = IsOf f 8 (unsafe_mapfile f) in
-    so P (saves f.work) _ (so P f.map_has_no_journal _ (one P UnsafeMapfile (refl, refl)))
+unsafe_outfile_only : (f : Facts) → Only (IsOf f 8 (unsafe_outfile f)) (unsafe_outfile f)
+unsafe_outfile_only f =
+    let P = IsOf f 8 (unsafe_outfile f) in
+    so P (writes_outfile f.work) _ (stored P f.outfile_place.storage _ (λ kind.
+    so P (may_forget kind || is_none f.map_place.storage) _ (one P (UnsafeOutfile kind) (refl, refl))))
 
-new_outfile_only : (f : Facts) → Only (IsOf f 9 (new_outfile f)) (new_outfile f)
+unsafe_mapfile_only : (f : Facts) → Only (IsOf f 9 (unsafe_mapfile f)) (unsafe_mapfile f)
+unsafe_mapfile_only f =
+    let P = IsOf f 9 (unsafe_mapfile f) in
+    so P (saves f.work) _ (stored P f.map_place.storage _ (λ kind. one P (UnsafeMapfile kind) (refl, refl)))
+
+new_outfile_only : (f : Facts) → Only (IsOf f 10 (new_outfile f)) (new_outfile f)
 new_outfile_only f =
-    let P = IsOf f 9 (new_outfile f) in
+    let P = IsOf f 10 (new_outfile f) in
     so P (is_fill f.work) _ (so P (is_absent f.outfile) _ (one P NewOutfile (refl, refl)))
 
-nothing_to_fill_only : (f : Facts) → Only (IsOf f 10 (nothing_to_fill f)) (nothing_to_fill f)
+nothing_to_fill_only : (f : Facts) → Only (IsOf f 11 (nothing_to_fill f)) (nothing_to_fill f)
 nothing_to_fill_only f =
-    let P = IsOf f 10 (nothing_to_fill f) in
+    let P = IsOf f 11 (nothing_to_fill f) in
     so P (is_fill f.work) _ (so P (lists_nothing f.map) _ (one P NothingToFill (refl, refl)))
 
-long_pattern_only : (f : Facts) → Only (IsOf f 11 (long_pattern f)) (long_pattern f)
+long_pattern_only : (f : Facts) → Only (IsOf f 12 (long_pattern f)) (long_pattern f)
 long_pattern_only f =
-    let P = IsOf f 11 (long_pattern f) in
+    let P = IsOf f 12 (long_pattern f) in
     so P (is_fill f.work) _ (of P (length_of f.infile) _ (λ n. so P (nat_lt f.cluster n) _ (
     one P (LongPattern n f.cluster) (refl, refl))))
 
-other_sector_only : (f : Facts) → Only (IsOf f 12 (other_sector f)) (other_sector f)
+other_sector_only : (f : Facts) → Only (IsOf f 13 (other_sector f)) (other_sector f)
 other_sector_only f =
-    let P = IsOf f 12 (other_sector f) in
-    so P (is_rescue f.work) _ (of P (sector_of f.infile) _ (λ n. so P (nat_lt f.sector n) _ (
-    one P (OtherSector n f.sector) (refl, refl))))
+    let P = IsOf f 13 (other_sector f) in
+    so P (is_rescue f.work) _ (of P (sector_of f.infile) _ (λ n. so P (nat_lt 0 n) _ (
+    so P (nat_lt 0 (f.sector % n)) _ (one P (OtherSector n f.sector) (refl, refl)))))
 
-mounted_infile_only : (f : Facts) → Only (IsOf f 13 (mounted_infile f)) (mounted_infile f)
+mounted_infile_only : (f : Facts) → Only (IsOf f 14 (mounted_infile f)) (mounted_infile f)
 mounted_infile_only f =
-    let P = IsOf f 13 (mounted_infile f) in
-    so P (is_rescue f.work) _ (so P (is_writable (mount_of f.infile)) _ (one P MountedInfile (refl, refl)))
+    let P = IsOf f 14 (mounted_infile f) in
+    so P (reads_infile f.work) _ (so P (is_writable f.infile_mounting) _ (one P MountedInfile (refl, refl)))
 
-mounted_outfile_only : (f : Facts) → Only (IsOf f 14 (mounted_outfile f)) (mounted_outfile f)
-mounted_outfile_only f =
-    let P = IsOf f 14 (mounted_outfile f) in
-    so P (saves f.work) _ (so P (is_mounted (mount_of f.outfile)) _ (one P MountedOutfile (refl, refl)))
+outfile_on_disk_only : (f : Facts) → Only (IsOf f 15 (outfile_on_disk f)) (outfile_on_disk f)
+outfile_on_disk_only f =
+    let P = IsOf f 15 (outfile_on_disk f) in
+    so P (is_rescue f.work) _ (so P f.outfile_place.on_infile_disk _ (one P OutfileOnDisk (refl, refl)))
 
-long_plan_only : (f : Facts) → Only (IsOf f 15 (long_plan f)) (long_plan f)
+mapfile_on_disk_only : (f : Facts) → Only (IsOf f 16 (mapfile_on_disk f)) (mapfile_on_disk f)
+mapfile_on_disk_only f =
+    let P = IsOf f 16 (mapfile_on_disk f) in
+    so P (asks_infile f.work) _ (so P f.map_place.on_infile_disk _ (one P MapfileOnDisk (refl, refl)))
+
+long_plan_only : (f : Facts) → Only (IsOf f 17 (long_plan f)) (long_plan f)
 long_plan_only f =
-    let P = IsOf f 15 (long_plan f) in
+    let P = IsOf f 17 (long_plan f) in
     so P (is_plan f.work) _ (so P f.scrapes _ (so P (nat_lt 0 f.sector) _ (of P (length_of f.infile) _ (λ n.
     of P (end_of f.map) _ (λ e. so P (nat_le 10_000_000 (sectors_past f n e)) _ (
     one P (LongPlan e (sectors_past f n e)) (refl, refl)))))))
 
-nothing_to_compare_only : (f : Facts) → Only (IsOf f 16 (nothing_to_compare f)) (nothing_to_compare f)
+nothing_to_compare_only : (f : Facts) → Only (IsOf f 18 (nothing_to_compare f)) (nothing_to_compare f)
 nothing_to_compare_only f =
-    let P = IsOf f 16 (nothing_to_compare f) in
+    let P = IsOf f 18 (nothing_to_compare f) in
     so P (is_comparison f.work) _ (so P (finishes_nothing f.input_position f.map) _ (
     one P NothingToCompare (refl, refl)))
 
-late_mapfile_only : (f : Facts) → Only (IsOf f 17 (late_mapfile f)) (late_mapfile f)
+late_mapfile_only : (f : Facts) → Only (IsOf f 19 (late_mapfile f)) (late_mapfile f)
 late_mapfile_only f =
-    let P = IsOf f 17 (late_mapfile f) in
+    let P = IsOf f 19 (late_mapfile f) in
     so P (is_rescue f.work) _ (so P (is_new f.map) _ (so P (not f.complete_only) _ (so P (not f.domain_map) _ (
     of P (length_of f.infile) _ (λ n. so P (nat_le 1_073_741_824 (asked_end f n - f.input_position)) _ (
-    one P LateMapfile (refl, refl)))))))
+    one P (LateMapfile f.stop_is_told) (refl, refl)))))))
 
-empty_domain_only : (f : Facts) → Only (IsOf f 18 (empty_domain f)) (empty_domain f)
+empty_domain_only : (f : Facts) → Only (IsOf f 20 (empty_domain f)) (empty_domain f)
 empty_domain_only f =
-    let P = IsOf f 18 (empty_domain f) in
+    let P = IsOf f 20 (empty_domain f) in
     so P (asks_infile f.work) _ (so P (finishes_nothing f.input_position f.domain) _ (
     one P EmptyDomain (refl, refl)))
 
+map_before_infile_only : (f : Facts) → Only (IsOf f 21 (map_before_infile f)) (map_before_infile f)
+map_before_infile_only f =
+    let P = IsOf f 21 (map_before_infile f) in
+    so P (is_rescue f.work) _ (so P (asks_for_all f) _ (of P (length_of f.infile) _ (λ n.
+    of P (end_of f.map) _ (λ e. so P (nat_lt e n) _ (one P (MapBeforeInfile e n) (refl, refl))))))
+
+no_length_only : (f : Facts) → Only (IsOf f 22 (no_length f)) (no_length f)
+no_length_only f =
+    let P = IsOf f 22 (no_length f) in
+    so P (reads_infile f.work) _ (so P (is_character_device f.infile) _ (one P NoLength (refl, refl)))
+
 are_kinds : (f : Facts) → AreKinds f 0 (kinds f)
-are_kinds f = (
-  outfile_short_only f,
-  (
-    map_past_infile_only f,
-    (
-      empty_infile_only f,
-      (
-        begins_past_infile_only f,
-        (
-          nothing_asked_only f,
-          (
-            nothing_listed_only f,
-            (
-              new_mapfile_only f,
-              (
-                linked_mapfile_only f,
-                (
-                  unsafe_mapfile_only f,
-                  (
-                    new_outfile_only f,
-                    (
-                      nothing_to_fill_only f,
-                      (
-                        long_pattern_only f,
-                        (
-                          other_sector_only f,
-                          (
-                            mounted_infile_only f,
-                            (mounted_outfile_only f, (long_plan_only f, (nothing_to_compare_only f, (late_mapfile_only f, (empty_domain_only f, tt))))),
-                          ),
-                        ),
-                      ),
-                    ),
-                  ),
-                ),
-              ),
-            ),
-          ),
-        ),
-      ),
-    ),
-  ),
-)
+are_kinds f = (outfile_short_only f, (map_past_infile_only f, (empty_infile_only f, (begins_past_infile_only f, (nothing_asked_only f, (nothing_listed_only f, (new_mapfile_only f, (linked_mapfile_only f, (unsafe_outfile_only f, (unsafe_mapfile_only f, (new_outfile_only f, (nothing_to_fill_only f, (long_pattern_only f, (other_sector_only f, (mounted_infile_only f, (outfile_on_disk_only f, (mapfile_on_disk_only f, (long_plan_only f, (nothing_to_compare_only f, (late_mapfile_only f, (empty_domain_only f, (map_before_infile_only f, (no_length_only f, tt)))))))))))))))))))))))
 
 each_said : (f : Facts) (a : Advice) → IsDue f a → Contains (somes (kinds f)) a
 each_said f (OutfileShort n e) h = contained 0 (kinds f) (OutfileShort n e) h
@@ -229,17 +215,21 @@ each_said f NothingAsked h = contained 4 (kinds f) NothingAsked h
 each_said f NothingListed h = contained 5 (kinds f) NothingListed h
 each_said f (NewMapfile n) h = contained 6 (kinds f) (NewMapfile n) h
 each_said f LinkedMapfile h = contained 7 (kinds f) LinkedMapfile h
-each_said f UnsafeMapfile h = contained 8 (kinds f) UnsafeMapfile h
-each_said f NewOutfile h = contained 9 (kinds f) NewOutfile h
-each_said f NothingToFill h = contained 10 (kinds f) NothingToFill h
-each_said f (LongPattern n c) h = contained 11 (kinds f) (LongPattern n c) h
-each_said f (OtherSector n b) h = contained 12 (kinds f) (OtherSector n b) h
-each_said f MountedInfile h = contained 13 (kinds f) MountedInfile h
-each_said f MountedOutfile h = contained 14 (kinds f) MountedOutfile h
-each_said f (LongPlan e n) h = contained 15 (kinds f) (LongPlan e n) h
-each_said f NothingToCompare h = contained 16 (kinds f) NothingToCompare h
-each_said f LateMapfile h = contained 17 (kinds f) LateMapfile h
-each_said f EmptyDomain h = contained 18 (kinds f) EmptyDomain h
+each_said f (UnsafeOutfile s) h = contained 8 (kinds f) (UnsafeOutfile s) h
+each_said f (UnsafeMapfile s) h = contained 9 (kinds f) (UnsafeMapfile s) h
+each_said f NewOutfile h = contained 10 (kinds f) NewOutfile h
+each_said f NothingToFill h = contained 11 (kinds f) NothingToFill h
+each_said f (LongPattern n c) h = contained 12 (kinds f) (LongPattern n c) h
+each_said f (OtherSector n b) h = contained 13 (kinds f) (OtherSector n b) h
+each_said f MountedInfile h = contained 14 (kinds f) MountedInfile h
+each_said f OutfileOnDisk h = contained 15 (kinds f) OutfileOnDisk h
+each_said f MapfileOnDisk h = contained 16 (kinds f) MapfileOnDisk h
+each_said f (LongPlan e n) h = contained 17 (kinds f) (LongPlan e n) h
+each_said f NothingToCompare h = contained 18 (kinds f) NothingToCompare h
+each_said f (LateMapfile told) h = contained 19 (kinds f) (LateMapfile told) h
+each_said f EmptyDomain h = contained 20 (kinds f) EmptyDomain h
+each_said f (MapBeforeInfile e n) h = contained 21 (kinds f) (MapBeforeInfile e n) h
+each_said f NoLength h = contained 22 (kinds f) NoLength h
 
 -- all kinds, each as it is due
 pub is_advice : (f : Facts) (said : List Advice) → said ≡ somes (kinds f) → IsAdvice f said

@@ -1,66 +1,75 @@
 -- What a person is warned of before a run, and when. For contracts and proofs: no promise uses it.
-use Rattle.std.specs.Prelude.{ℕ, Bool, true, false, List, [], ◌∷◌, ◌≡◌, ◌+◌, ◌-◌, ◌/◌, ◌≤◌, ⊤, min, max, not, nat_lt, nat_le, nat_eq, Option, Some, None, All, Contains}
+use Rattle.std.specs.Prelude.{ℕ, Bool, true, false, List, [], ◌∷◌, ◌≡◌, ◌+◌, ◌-◌, ◌/◌, ◌%◌, ◌≤◌, ⊤, min, max, not, ◌&&◌, ◌||◌, nat_lt, nat_le, nat_eq, is_none, Option, Some, None, All, Contains}
+use Rattle.real_files.specs.declared.devices.Mounting.{Mounting}
+use Rattle.real_files.specs.declared.devices.Mounting.TheVariants.{ReadOnly, Writable}
 use Rattle.rescue_warnings.specs.declared.facts.Work.{Work}
 use Rattle.rescue_warnings.specs.declared.facts.Work.TheVariants.{Rescue, Fill, Generate, Comparison, Plan}
 use Rattle.rescue_warnings.specs.declared.facts.Found.{Found}
-use Rattle.rescue_warnings.specs.declared.facts.Found.TheVariants.{Absent, Regular, Device}
-use Rattle.rescue_warnings.specs.declared.facts.Mount.{Mount}
-use Rattle.rescue_warnings.specs.declared.facts.Mount.TheVariants.{ReadOnly, Writable}
+use Rattle.rescue_warnings.specs.declared.facts.Found.TheVariants.{Absent, Regular, Device, CharacterDevice}
+use Rattle.rescue_warnings.specs.declared.facts.Storage.{Storage}
+use Rattle.rescue_warnings.specs.declared.facts.Storage.TheVariants.{Memory, Overlay, NoJournal, Fuse}
 use Rattle.rescue_warnings.specs.declared.facts.MapText.{MapText}
 use Rattle.rescue_warnings.specs.declared.facts.MapText.TheVariants.{NoFile, NoBlock, Blocks}
 use Rattle.rescue_warnings.specs.declared.facts.Finished.{Finished}
 use Rattle.rescue_warnings.specs.declared.facts.Finished.TheVariants.{Nowhere, UpTo}
 use Rattle.rescue_warnings.specs.declared.facts.Facts.{Facts}
 use Rattle.rescue_warnings.specs.declared.advice.Advice.{Advice}
-use Rattle.rescue_warnings.specs.declared.advice.Advice.TheVariants.{OutfileShort, MapPastInfile, EmptyInfile, BeginsPastInfile, NothingAsked, NothingListed, NewMapfile, LinkedMapfile, UnsafeMapfile, NewOutfile, NothingToFill, LongPattern, OtherSector, MountedInfile, MountedOutfile, LongPlan, NothingToCompare, LateMapfile, EmptyDomain}
+use Rattle.rescue_warnings.specs.declared.advice.Advice.TheVariants.{OutfileShort, MapPastInfile, EmptyInfile, BeginsPastInfile, NothingAsked, NothingListed, NewMapfile, LinkedMapfile, UnsafeOutfile, UnsafeMapfile, NewOutfile, NothingToFill, LongPattern, OtherSector, MountedInfile, OutfileOnDisk, MapfileOnDisk, LongPlan, NothingToCompare, LateMapfile, EmptyDomain, MapBeforeInfile, NoLength}
 
 -- ---- what is known
 
 -- the length of a file, if it is known
 abbrev pub length_of : Option Found → Option ℕ
 length_of (Some (Regular n)) = Some n
-length_of (Some (Device n _ _)) = n
+length_of (Some (Device n _)) = n
 length_of (Some Absent) = None
+length_of (Some CharacterDevice) = None
 length_of None = None
 
 -- how many bytes an outfile has that is no device: one that is absent has none
 abbrev pub bytes_of : Option Found → Option ℕ
 bytes_of (Some Absent) = Some 0
 bytes_of (Some (Regular n)) = Some n
-bytes_of (Some (Device _ _ _)) = None
+bytes_of (Some (Device _ _)) = None
+bytes_of (Some CharacterDevice) = None
 bytes_of None = None
 
 -- the size of a device's own sectors, if it is known
 abbrev pub sector_of : Option Found → Option ℕ
-sector_of (Some (Device _ n _)) = n
+sector_of (Some (Device _ n)) = n
 sector_of (Some (Regular _)) = None
 sector_of (Some Absent) = None
+sector_of (Some CharacterDevice) = None
 sector_of None = None
-
--- how a device is mounted, if it is known to be
-abbrev pub mount_of : Option Found → Option Mount
-mount_of (Some (Device _ _ m)) = m
-mount_of (Some (Regular _)) = None
-mount_of (Some Absent) = None
-mount_of None = None
 
 -- a file is known to be absent
 abbrev pub is_absent : Option Found → Bool
 is_absent (Some Absent) = true
 is_absent (Some (Regular _)) = false
-is_absent (Some (Device _ _ _)) = false
+is_absent (Some (Device _ _)) = false
+is_absent (Some CharacterDevice) = false
 is_absent None = false
 
--- a device is known to be mounted so that its file system may change
-abbrev pub is_writable : Option Mount → Bool
+-- a file is known to be a character device
+abbrev pub is_character_device : Option Found → Bool
+is_character_device (Some Absent) = false
+is_character_device (Some (Regular _)) = false
+is_character_device (Some (Device _ _)) = false
+is_character_device (Some CharacterDevice) = true
+is_character_device None = false
+
+-- what is mounted is known to be so that its file system may change
+abbrev pub is_writable : Option Mounting → Bool
 is_writable (Some Writable) = true
 is_writable (Some ReadOnly) = false
 is_writable None = false
 
--- a device is known to be mounted
-abbrev pub is_mounted : Option Mount → Bool
-is_mounted (Some _) = true
-is_mounted None = false
+-- what lies there may be lost by the next boot
+abbrev pub may_forget : Storage → Bool
+may_forget Memory = true
+may_forget Overlay = true
+may_forget NoJournal = false
+may_forget Fuse = false
 
 -- where the last block of a mapfile ends, if that is known
 abbrev pub end_of : Option MapText → Option ℕ
@@ -151,6 +160,22 @@ asks_infile Generate = true
 asks_infile Comparison = false
 asks_infile Plan = false
 
+-- the infile is what is rescued or compared
+abbrev pub reads_infile : Work → Bool
+reads_infile Rescue = true
+reads_infile Fill = false
+reads_infile Generate = false
+reads_infile Comparison = true
+reads_infile Plan = false
+
+-- the outfile is written to
+abbrev pub writes_outfile : Work → Bool
+writes_outfile Rescue = true
+writes_outfile Fill = true
+writes_outfile Generate = false
+writes_outfile Comparison = false
+writes_outfile Plan = false
+
 -- the mapfile is saved at the end
 abbrev pub saves : Work → Bool
 saves Rescue = true
@@ -168,6 +193,10 @@ within n None = true
 abbrev pub asked_end : Facts → ℕ → ℕ
 asked_end f length = elim f.size as (λ _. ℕ) [ Some size ↦ min length (f.input_position + size) | None ↦ length ]
 
+-- no option asks for less than the whole infile
+abbrev pub asks_for_all : Facts → Bool
+asks_for_all f = nat_eq f.input_position 0 && is_none f.size && not f.complete_only && not f.domain_map
+
 -- an advice that is due under a condition
 abbrev pub if_so : Bool → Option Advice → Option Advice
 if_so true due = due
@@ -177,6 +206,11 @@ if_so false due = None
 abbrev pub if_known : Option ℕ → (ℕ → Option Advice) → Option Advice
 if_known (Some n) due = due n
 if_known None due = None
+
+-- an advice that is due of a file system's kind, if that is known
+abbrev pub if_stored : Option Storage → (Storage → Option Advice) → Option Advice
+if_stored (Some kind) due = due kind
+if_stored None due = None
 
 -- ---- when each is due
 
@@ -220,9 +254,14 @@ new_mapfile f = if_so (is_rescue f.work) (if_so (is_new f.map) (if_known (bytes_
 abbrev pub linked_mapfile : Facts → Option Advice
 linked_mapfile f = if_so (saves f.work) (if_so f.map_is_link (Some LinkedMapfile))
 
--- the mapfile's file system has no journal
+-- the outfile's file system may lose it by the next boot, or by a power cut, and then the mapfile's isn't such a one
+abbrev pub unsafe_outfile : Facts → Option Advice
+unsafe_outfile f = if_so (writes_outfile f.work) (if_stored f.outfile_place.storage (λ kind.
+    if_so (may_forget kind || is_none f.map_place.storage) (Some (UnsafeOutfile kind))))
+
+-- the mapfile's file system may lose it by the next boot, or by a power cut
 abbrev pub unsafe_mapfile : Facts → Option Advice
-unsafe_mapfile f = if_so (saves f.work) (if_so f.map_has_no_journal (Some UnsafeMapfile))
+unsafe_mapfile f = if_so (saves f.work) (if_stored f.map_place.storage (λ kind. Some (UnsafeMapfile kind)))
 
 -- the outfile that is to be filled is absent
 abbrev pub new_outfile : Facts → Option Advice
@@ -237,18 +276,22 @@ abbrev pub long_pattern : Facts → Option Advice
 long_pattern f = if_so (is_fill f.work) (if_known (length_of f.infile) (λ n.
     if_so (nat_lt f.cluster n) (Some (LongPattern n f.cluster))))
 
--- the infile is a device whose sectors are larger than the run takes them to be
+-- the infile is a device, and what the run takes for a sector isn't made of whole ones of the device
 abbrev pub other_sector : Facts → Option Advice
 other_sector f = if_so (is_rescue f.work) (if_known (sector_of f.infile) (λ n.
-    if_so (nat_lt f.sector n) (Some (OtherSector n f.sector))))
+    if_so (nat_lt 0 n) (if_so (nat_lt 0 (f.sector % n)) (Some (OtherSector n f.sector)))))
 
--- the infile is a device, and its file system is mounted and may change
+-- the infile is a device, and a file system on it is mounted and may change
 abbrev pub mounted_infile : Facts → Option Advice
-mounted_infile f = if_so (is_rescue f.work) (if_so (is_writable (mount_of f.infile)) (Some MountedInfile))
+mounted_infile f = if_so (reads_infile f.work) (if_so (is_writable f.infile_mounting) (Some MountedInfile))
 
--- the outfile is a device that is mounted
-abbrev pub mounted_outfile : Facts → Option Advice
-mounted_outfile f = if_so (saves f.work) (if_so (is_mounted (mount_of f.outfile)) (Some MountedOutfile))
+-- the outfile of a rescue lies on the infile's disk
+abbrev pub outfile_on_disk : Facts → Option Advice
+outfile_on_disk f = if_so (is_rescue f.work) (if_so f.outfile_place.on_infile_disk (Some OutfileOnDisk))
+
+-- the mapfile lies on the disk that is to be read
+abbrev pub mapfile_on_disk : Facts → Option Advice
+mapfile_on_disk f = if_so (asks_infile f.work) (if_so f.map_place.on_infile_disk (Some MapfileOnDisk))
 
 -- how many whole sectors of a plan lie past the end of its test map
 abbrev pub sectors_past : Facts → (length end : ℕ) → ℕ
@@ -269,13 +312,22 @@ nothing_to_compare f = if_so (is_comparison f.work) (if_so (finishes_nothing f.i
 abbrev pub late_mapfile : Facts → Option Advice
 late_mapfile f = if_so (is_rescue f.work) (if_so (is_new f.map) (if_so (not f.complete_only) (if_so (not f.domain_map)
     (if_known (length_of f.infile) (λ n.
-    if_so (nat_le 1_073_741_824 (asked_end f n - f.input_position)) (Some LateMapfile))))))
+    if_so (nat_le 1_073_741_824 (asked_end f n - f.input_position)) (Some (LateMapfile f.stop_is_told)))))))
 
 -- only what another map calls finished is asked for, and that is nothing
 abbrev pub empty_domain : Facts → Option Advice
 empty_domain f = if_so (asks_infile f.work) (if_so (finishes_nothing f.input_position f.domain) (Some EmptyDomain))
 
--- when an advice of its kind is due, and with which numbers
+-- the mapfile of a rescue ends before the infile, and no option says why
+abbrev pub map_before_infile : Facts → Option Advice
+map_before_infile f = if_so (is_rescue f.work) (if_so (asks_for_all f) (if_known (length_of f.infile) (λ n.
+    if_known (end_of f.map) (λ e. if_so (nat_lt e n) (Some (MapBeforeInfile e n))))))
+
+-- the infile is a character device
+abbrev pub no_length : Facts → Option Advice
+no_length f = if_so (reads_infile f.work) (if_so (is_character_device f.infile) (Some NoLength))
+
+-- when an advice of its kind is due, and with which values
 abbrev pub of_kind : Advice → Facts → Option Advice
 of_kind (OutfileShort _ _) = outfile_short
 of_kind (MapPastInfile _ _) = map_past_infile
@@ -285,17 +337,21 @@ of_kind NothingAsked = nothing_asked
 of_kind NothingListed = nothing_listed
 of_kind (NewMapfile _) = new_mapfile
 of_kind LinkedMapfile = linked_mapfile
-of_kind UnsafeMapfile = unsafe_mapfile
+of_kind (UnsafeOutfile _) = unsafe_outfile
+of_kind (UnsafeMapfile _) = unsafe_mapfile
 of_kind NewOutfile = new_outfile
 of_kind NothingToFill = nothing_to_fill
 of_kind (LongPattern _ _) = long_pattern
 of_kind (OtherSector _ _) = other_sector
 of_kind MountedInfile = mounted_infile
-of_kind MountedOutfile = mounted_outfile
+of_kind OutfileOnDisk = outfile_on_disk
+of_kind MapfileOnDisk = mapfile_on_disk
 of_kind (LongPlan _ _) = long_plan
 of_kind NothingToCompare = nothing_to_compare
-of_kind LateMapfile = late_mapfile
+of_kind (LateMapfile _) = late_mapfile
 of_kind EmptyDomain = empty_domain
+of_kind (MapBeforeInfile _ _) = map_before_infile
+of_kind NoLength = no_length
 
 -- an advice is due
 abbrev pub IsDue : Facts → Advice → Type 0
@@ -313,24 +369,28 @@ rank NothingAsked = 4
 rank NothingListed = 5
 rank (NewMapfile _) = 6
 rank LinkedMapfile = 7
-rank UnsafeMapfile = 8
-rank NewOutfile = 9
-rank NothingToFill = 10
-rank (LongPattern _ _) = 11
-rank (OtherSector _ _) = 12
-rank MountedInfile = 13
-rank MountedOutfile = 14
-rank (LongPlan _ _) = 15
-rank NothingToCompare = 16
-rank LateMapfile = 17
-rank EmptyDomain = 18
+rank (UnsafeOutfile _) = 8
+rank (UnsafeMapfile _) = 9
+rank NewOutfile = 10
+rank NothingToFill = 11
+rank (LongPattern _ _) = 12
+rank (OtherSector _ _) = 13
+rank MountedInfile = 14
+rank OutfileOnDisk = 15
+rank MapfileOnDisk = 16
+rank (LongPlan _ _) = 17
+rank NothingToCompare = 18
+rank (LateMapfile _) = 19
+rank EmptyDomain = 20
+rank (MapBeforeInfile _ _) = 21
+rank NoLength = 22
 
 -- the kinds in the order of the enum, each as it is due
 abbrev pub kinds : Facts → List (Option Advice)
 kinds f = outfile_short f ∷ map_past_infile f ∷ empty_infile f ∷ begins_past_infile f ∷ nothing_asked f
-    ∷ nothing_listed f ∷ new_mapfile f ∷ linked_mapfile f ∷ unsafe_mapfile f ∷ new_outfile f ∷ nothing_to_fill f
-    ∷ long_pattern f ∷ other_sector f ∷ mounted_infile f ∷ mounted_outfile f ∷ long_plan f ∷ nothing_to_compare f
-    ∷ late_mapfile f ∷ empty_domain f ∷ []
+    ∷ nothing_listed f ∷ new_mapfile f ∷ linked_mapfile f ∷ unsafe_outfile f ∷ unsafe_mapfile f ∷ new_outfile f
+    ∷ nothing_to_fill f ∷ long_pattern f ∷ other_sector f ∷ mounted_infile f ∷ outfile_on_disk f ∷ mapfile_on_disk f
+    ∷ long_plan f ∷ nothing_to_compare f ∷ late_mapfile f ∷ empty_domain f ∷ map_before_infile f ∷ no_length f ∷ []
 
 -- the advices of a list that are due
 abbrev pub somes : List (Option Advice) → List Advice

@@ -1,9 +1,11 @@
 -- The lines of warnings. For contracts and proofs: no promise uses it.
-use Rattle.std.specs.Prelude.{ℕ, List, [], ◌∷◌, ◌++◌, map, codes}
+use Rattle.std.specs.Prelude.{ℕ, Bool, true, false, List, [], ◌∷◌, ◌++◌, map, codes}
 use Rattle.std.specs.Fmt.{decimal}
 use Rattle.mapfile_text.specs.Printed.{shown_byte}
 use Rattle.rescue_warnings.specs.declared.advice.Advice.{Advice}
-use Rattle.rescue_warnings.specs.declared.advice.Advice.TheVariants.{OutfileShort, MapPastInfile, EmptyInfile, BeginsPastInfile, NothingAsked, NothingListed, NewMapfile, LinkedMapfile, UnsafeMapfile, NewOutfile, NothingToFill, LongPattern, OtherSector, MountedInfile, MountedOutfile, LongPlan, NothingToCompare, LateMapfile, EmptyDomain}
+use Rattle.rescue_warnings.specs.declared.advice.Advice.TheVariants.{OutfileShort, MapPastInfile, EmptyInfile, BeginsPastInfile, NothingAsked, NothingListed, NewMapfile, LinkedMapfile, UnsafeOutfile, UnsafeMapfile, NewOutfile, NothingToFill, LongPattern, OtherSector, MountedInfile, OutfileOnDisk, MapfileOnDisk, LongPlan, NothingToCompare, LateMapfile, EmptyDomain, MapBeforeInfile, NoLength}
+use Rattle.rescue_warnings.specs.declared.facts.Storage.{Storage}
+use Rattle.rescue_warnings.specs.declared.facts.Storage.TheVariants.{Memory, Overlay, NoJournal, Fuse}
 use Rattle.rescue_warnings.specs.declared.warning.Names.{Names}
 use Rattle.program_advice.specs.Lines.{quoted}
 use Rattle.rescue_console.specs.declared.console.Channel.TheVariants.{Err}
@@ -29,6 +31,22 @@ outfile_said front names says = file_said front (codes "outfile ") names.outfile
 abbrev pub mapfile_said : List ℕ → Names → List ℕ → List ℕ
 mapfile_said front names says = file_said front (codes "mapfile ") names.mapfile.now says
 
+-- what leaves no mapfile before its first save, by whether a stop can be asked for
+abbrev pub stop_text : Bool → List ℕ
+stop_text false = codes "a stop"
+stop_text true = codes "a crash or a power cut"
+
+-- what a file system does to a file
+abbrev pub storage_text : Storage → List ℕ
+storage_text Memory = codes " lies in memory: a power cut or a boot loses it"
+storage_text Overlay = codes " lies on an overlay: on a live system a boot loses it"
+storage_text NoJournal = codes " lies on a file system without a journal: a power cut may damage it"
+storage_text Fuse = codes " lies on a file system that may lack a journal: a power cut may damage it"
+
+-- what the writes of a rescue do to the infile's disk
+abbrev pub disk_text : List ℕ
+disk_text = codes " lies on the infile's disk: each write wears it, so use another disk"
+
 -- a text, and the text of an advice
 abbrev pub advice_said : List ℕ → Names → Advice → List ℕ
 advice_said front names (OutfileShort n e) =
@@ -36,8 +54,8 @@ advice_said front names (OutfileShort n e) =
     (codes " B, but the mapfile calls positions up to ")) e
     (codes " finished: what is missing won't be read again; delete the mapfile, or compare by ddrescueverify")
 advice_said front names (MapPastInfile e n) =
-    number_said (number_said (infile_said front names (codes " ends at ")) n
-    (codes ", and the mapfile reaches to ")) e (codes ": is it the same disk?")
+    number_said (number_said (infile_said front names (codes " has ")) n
+    (codes " B: was the mapfile made of a disk of ")) e (codes " B?")
 advice_said front names EmptyInfile = infile_said front names (codes " has no bytes")
 advice_said front names (BeginsPastInfile n) = number_said (infile_said front names (codes " ends at ")) n
     (codes ", and option -i begins there or past it: there is nothing to read")
@@ -49,8 +67,8 @@ advice_said front names (NewMapfile n) =
     (codes " B: is the mapfile's name right?")
 advice_said front names LinkedMapfile =
     mapfile_said front names (codes " is a link, and the first save puts a file in its place")
-advice_said front names UnsafeMapfile =
-    mapfile_said front names (codes " lies on a file system without a journal: a power cut may damage it")
+advice_said front names (UnsafeOutfile kind) = outfile_said front names (storage_text kind)
+advice_said front names (UnsafeMapfile kind) = mapfile_said front names (storage_text kind)
 advice_said front names NewOutfile = outfile_said front names (codes " doesn't exist: fill mode makes a new one")
 advice_said front names NothingToFill = mapfile_said front names (codes " lists nothing, so fill mode writes nothing")
 advice_said front names (LongPattern n c) =
@@ -59,19 +77,26 @@ advice_said front names (LongPattern n c) =
 advice_said front names (OtherSector n b) =
     number_said (number_said (number_said (infile_said front names (codes " has sectors of ")) n
     (codes " B, and option -b takes them for ")) b (codes " B: give option -b ")) n []
-advice_said front names MountedInfile = infile_said front names (codes " is mounted for writing: unmount it")
-advice_said front names MountedOutfile =
-    outfile_said front names (codes " is mounted: unmount it")
+advice_said front names MountedInfile =
+    infile_said front names (codes " or a part of it is mounted for writing: unmount it")
+advice_said front names OutfileOnDisk = outfile_said front names disk_text
+advice_said front names MapfileOnDisk = mapfile_said front names disk_text
 advice_said front names (LongPlan e n) =
     number_said (number_said (mapfile_said (front ++ codes "test ") names (codes " ends at ")) e
     (codes ", and nothing past it can be read: the plan has at least ")) n
     (codes " reads; a smaller length or option -n makes fewer")
 advice_said front names NothingToCompare =
     mapfile_said front names (codes " calls nothing finished that is to be compared")
-advice_said front names LateMapfile =
-    mapfile_said front names (codes " is saved for the first time after 30 s: a stop before that leaves none")
+advice_said front names (LateMapfile told) =
+    mapfile_said front names (codes " is saved for the first time after 30 s: ") ++ stop_text told
+    ++ codes " before that leaves none"
 advice_said front names EmptyDomain =
     file_said front (codes "domain mapfile ") names.domain.now (codes " calls nothing finished that is to be read")
+advice_said front names (MapBeforeInfile e n) =
+    number_said (number_said (infile_said front names (codes " has ")) n
+    (codes " B: was the mapfile made of a disk of ")) e (codes " B, or with option -s?")
+advice_said front names NoLength =
+    infile_said front names (codes " is a character device: its length may be unknown, and then nothing is read")
 
 -- the line of a warning: the program's name, the text, each control character as a question mark, and a newline
 abbrev pub warning_text : List ℕ → Names → Advice → List ℕ

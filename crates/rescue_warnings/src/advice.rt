@@ -1,9 +1,10 @@
 //! What a person is warned of before a run.
-ghost use Rattle.std.specs.Prelude.{◌≡◌, ◌+◌, ◌-◌, ◌/◌, ◌<◌, ◌≤◌, max, ◌∷◌, [], length};
-ghost use Rattle.rescue_warnings.specs.Due.{IsAdvice, asked_end, asks_infile, begins_past_infile, bytes_of, empty_domain, empty_infile, end_of, ends_by, finished_of, finishes_nothing, is_absent, is_comparison, is_fill, is_mounted, is_new, is_plan, is_rescue, is_writable, kinds, last_of, late_mapfile, length_of, linked_mapfile, lists_nothing, long_pattern, long_plan, map_past_infile, mount_of, mounted_infile, mounted_outfile, new_mapfile, new_outfile, nothing_asked, nothing_listed, nothing_to_compare, nothing_to_fill, other_sector, outfile_short, saves, sector_of, sectors_past, somes, unsafe_mapfile, within};
+ghost use Rattle.std.specs.Prelude.{◌≡◌, ◌+◌, ◌-◌, ◌/◌, ◌%◌, ◌<◌, ◌≤◌, max, ◌∷◌, [], length};
+ghost use Rattle.rescue_warnings.specs.Due.{IsAdvice, asked_end, asks_for_all, asks_infile, begins_past_infile, bytes_of, empty_domain, empty_infile, end_of, ends_by, finished_of, finishes_nothing, is_absent, is_character_device, is_comparison, is_fill, is_new, is_plan, is_rescue, is_writable, kinds, last_of, late_mapfile, length_of, linked_mapfile, lists_nothing, long_pattern, long_plan, map_before_infile, map_past_infile, mapfile_on_disk, may_forget, mounted_infile, new_mapfile, new_outfile, no_length, nothing_asked, nothing_listed, nothing_to_compare, nothing_to_fill, other_sector, outfile_on_disk, outfile_short, reads_infile, saves, sector_of, sectors_past, somes, unsafe_mapfile, unsafe_outfile, within, writes_outfile};
 
-use crate::facts::{Facts, Finished, Found, MapText, Mount, Work};
+use crate::facts::{Facts, Finished, Found, MapText, Storage, Work};
 use arrayvec::ArrayVec;
+use real_files::devices::Mounting;
 
 /// A warning. Positions and lengths are in bytes.
 #[derive(Clone, Copy, Debug, Default, PartialEq, Eq)]
@@ -19,27 +20,35 @@ pub enum Advice {
     /// The mapfile is absent, though the outfile isn't empty.
     NewMapfile { length: u64 },
     LinkedMapfile,
-    /// The mapfile's file system has no journal.
-    UnsafeMapfile,
+    /// The outfile's file system may lose it.
+    UnsafeOutfile { storage: Storage },
+    UnsafeMapfile { storage: Storage },
     /// There is nothing yet that could be filled.
     NewOutfile,
     NothingToFill,
     LongPattern { length: u64, cluster: u64 },
-    /// The infile's own sectors are larger than those of the rescue.
+    /// The sectors of the rescue aren't made of whole sectors of the infile.
     OtherSector { own: u64, sector: u64 },
+    /// The infile may change while it is read, and the kernel may answer reads of it from memory.
     MountedInfile,
-    MountedOutfile,
+    /// Writes wear the infile's disk, and what was rescued is lost with it.
+    OutfileOnDisk,
+    MapfileOnDisk,
     /// A plan makes that many reads, at least, past its test map's end.
     LongPlan { end: u64, reads: u64 },
     NothingToCompare,
-    /// The mapfile is absent, and isn't saved soon.
-    LateMapfile,
+    /// The mapfile is absent, and isn't saved soon, unless a stop is asked for.
+    LateMapfile { stop_is_told: bool },
     /// Only what another map calls finished is asked for, and that is nothing.
     EmptyDomain,
+    /// The mapfile ends before the infile, though the whole infile is asked for.
+    MapBeforeInfile { end: u64, length: u64 },
+    /// The infile is a character device, whose length may be unknown.
+    NoLength,
 }
 
 /// Warnings in the order of the enum.
-pub type Advices = ArrayVec<Advice, 19>;
+pub type Advices = ArrayVec<Advice, 23>;
 
 /// The least number of reads past a test map's end of which a plan warns.
 const MANY_READS: u64 = 10_000_000;
@@ -54,7 +63,7 @@ fn length_of(file: Option<Found>) -> Option<u64>
     match file {
         Some(Found::Regular { length }) => Some(length),
         Some(Found::Device { length, .. }) => length,
-        Some(Found::Absent) | None => None,
+        Some(Found::Absent | Found::CharacterDevice) | None => None,
     }
 }
 
@@ -65,7 +74,7 @@ fn bytes_of(file: Option<Found>) -> Option<u64>
     match file {
         Some(Found::Absent) => Some(0),
         Some(Found::Regular { length }) => Some(length),
-        Some(Found::Device { .. }) | None => None,
+        Some(Found::Device { .. } | Found::CharacterDevice) | None => None,
     }
 }
 
@@ -75,17 +84,7 @@ fn sector_of(file: Option<Found>) -> Option<u64>
 {
     match file {
         Some(Found::Device { sector, .. }) => sector,
-        Some(Found::Regular { .. } | Found::Absent) | None => None,
-    }
-}
-
-/// How a device is mounted, if it is known to be.
-fn mount_of(file: Option<Found>) -> Option<Mount>
-    ensures { result ≡ mount_of file }
-{
-    match file {
-        Some(Found::Device { mount, .. }) => mount,
-        Some(Found::Regular { .. } | Found::Absent) | None => None,
+        Some(Found::Regular { .. } | Found::Absent | Found::CharacterDevice) | None => None,
     }
 }
 
@@ -94,16 +93,35 @@ fn is_absent(file: Option<Found>) -> bool
 {
     match file {
         Some(Found::Absent) => true,
-        Some(Found::Regular { .. } | Found::Device { .. }) | None => false,
+        Some(Found::Regular { .. } | Found::Device { .. } | Found::CharacterDevice) | None => false,
     }
 }
 
-fn is_writable(mount: Option<Mount>) -> bool
-    ensures { result ≡ is_writable mount }
+fn is_character_device(file: Option<Found>) -> bool
+    ensures { result ≡ is_character_device file }
 {
-    match mount {
-        Some(Mount::Writable) => true,
-        Some(Mount::ReadOnly) | None => false,
+    match file {
+        Some(Found::CharacterDevice) => true,
+        Some(Found::Absent | Found::Regular { .. } | Found::Device { .. }) | None => false,
+    }
+}
+
+fn is_writable(mounting: Option<Mounting>) -> bool
+    ensures { result ≡ is_writable mounting }
+{
+    match mounting {
+        Some(Mounting::Writable) => true,
+        Some(Mounting::ReadOnly) | None => false,
+    }
+}
+
+/// Whether what lies there may be lost by the next boot.
+fn may_forget(storage: Storage) -> bool
+    ensures { result ≡ may_forget storage }
+{
+    match storage {
+        Storage::Memory | Storage::Overlay => true,
+        Storage::NoJournal | Storage::Fuse => false,
     }
 }
 
@@ -224,6 +242,26 @@ fn asks_infile(work: Work) -> bool
     }
 }
 
+/// Whether the infile is what is rescued or compared.
+fn reads_infile(work: Work) -> bool
+    ensures { result ≡ reads_infile work }
+{
+    match work {
+        Work::Rescue | Work::Comparison => true,
+        Work::Fill | Work::Generate | Work::Plan => false,
+    }
+}
+
+/// Whether the outfile is written to.
+fn writes_outfile(work: Work) -> bool
+    ensures { result ≡ writes_outfile work }
+{
+    match work {
+        Work::Rescue | Work::Fill => true,
+        Work::Generate | Work::Comparison | Work::Plan => false,
+    }
+}
+
 /// Whether the mapfile is saved at the end.
 fn saves(work: Work) -> bool
     ensures { result ≡ saves work }
@@ -252,6 +290,13 @@ fn asked_end(facts: &Facts, length: u64) -> u64
         Some(size) => length.min(facts.input_position.saturating_add(size)),
         None => length,
     }
+}
+
+/// Whether no option asks for less than the whole infile.
+fn asks_for_all(facts: &Facts) -> bool
+    ensures { result ≡ asks_for_all facts.now }
+{
+    facts.input_position == 0 && facts.size.is_none() && !facts.complete_only && !facts.domain_map
 }
 
 fn outfile_short(facts: &Facts) -> Option<Advice>
@@ -355,13 +400,27 @@ fn linked_mapfile(facts: &Facts) -> Option<Advice>
     Some(Advice::LinkedMapfile)
 }
 
+fn unsafe_outfile(facts: &Facts) -> Option<Advice>
+    ensures { result ≡ unsafe_outfile facts.now }
+{
+    if !writes_outfile(facts.work) {
+        return None;
+    }
+    let storage = facts.outfile_place.storage?;
+    if !may_forget(storage) && facts.map_place.storage.is_some() {
+        return None;
+    }
+    Some(Advice::UnsafeOutfile { storage })
+}
+
 fn unsafe_mapfile(facts: &Facts) -> Option<Advice>
     ensures { result ≡ unsafe_mapfile facts.now }
 {
-    if !saves(facts.work) || !facts.map_has_no_journal {
+    if !saves(facts.work) {
         return None;
     }
-    Some(Advice::UnsafeMapfile)
+    let storage = facts.map_place.storage?;
+    Some(Advice::UnsafeMapfile { storage })
 }
 
 fn new_outfile(facts: &Facts) -> Option<Advice>
@@ -404,7 +463,7 @@ fn other_sector(facts: &Facts) -> Option<Advice>
     }
     let own = sector_of(facts.infile)?;
     let sector = facts.sector;
-    if own <= sector {
+    if own == 0 || sector % own == 0 {
         return None;
     }
     Some(Advice::OtherSector { own, sector })
@@ -413,19 +472,28 @@ fn other_sector(facts: &Facts) -> Option<Advice>
 fn mounted_infile(facts: &Facts) -> Option<Advice>
     ensures { result ≡ mounted_infile facts.now }
 {
-    if !is_rescue(facts.work) || !is_writable(mount_of(facts.infile)) {
+    if !reads_infile(facts.work) || !is_writable(facts.infile_mounting) {
         return None;
     }
     Some(Advice::MountedInfile)
 }
 
-fn mounted_outfile(facts: &Facts) -> Option<Advice>
-    ensures { result ≡ mounted_outfile facts.now }
+fn outfile_on_disk(facts: &Facts) -> Option<Advice>
+    ensures { result ≡ outfile_on_disk facts.now }
 {
-    if !saves(facts.work) || mount_of(facts.outfile).is_none() {
+    if !is_rescue(facts.work) || !facts.outfile_place.on_infile_disk {
         return None;
     }
-    Some(Advice::MountedOutfile)
+    Some(Advice::OutfileOnDisk)
+}
+
+fn mapfile_on_disk(facts: &Facts) -> Option<Advice>
+    ensures { result ≡ mapfile_on_disk facts.now }
+{
+    if !asks_infile(facts.work) || !facts.map_place.on_infile_disk {
+        return None;
+    }
+    Some(Advice::MapfileOnDisk)
 }
 
 /// How many whole sectors of a plan lie past the end of its test map.
@@ -473,7 +541,9 @@ fn late_mapfile(facts: &Facts) -> Option<Advice>
     if asked_end(facts, length).saturating_sub(facts.input_position) < MANY_BYTES {
         return None;
     }
-    Some(Advice::LateMapfile)
+    Some(Advice::LateMapfile {
+        stop_is_told: facts.stop_is_told,
+    })
 }
 
 fn empty_domain(facts: &Facts) -> Option<Advice>
@@ -485,9 +555,32 @@ fn empty_domain(facts: &Facts) -> Option<Advice>
     Some(Advice::EmptyDomain)
 }
 
+fn map_before_infile(facts: &Facts) -> Option<Advice>
+    ensures { result ≡ map_before_infile facts.now }
+{
+    if !is_rescue(facts.work) || !asks_for_all(facts) {
+        return None;
+    }
+    let length = length_of(facts.infile)?;
+    let end = end_of(facts.map)?;
+    if length <= end {
+        return None;
+    }
+    Some(Advice::MapBeforeInfile { end, length })
+}
+
+fn no_length(facts: &Facts) -> Option<Advice>
+    ensures { result ≡ no_length facts.now }
+{
+    if !reads_infile(facts.work) || !is_character_device(facts.infile) {
+        return None;
+    }
+    Some(Advice::NoLength)
+}
+
 /// The warnings that are due, of each kind one or none.
 fn collect(kinds: &[Option<Advice>]) -> Advices
-    requires { length kinds.now ≤ 19 }
+    requires { length kinds.now ≤ 23 }
     ensures { result.items ≡ somes kinds.now }
 {
     let mut list = Advices::new();
@@ -513,16 +606,20 @@ pub fn due_advice(facts: &Facts) -> Advices
         nothing_listed(facts),
         new_mapfile(facts),
         linked_mapfile(facts),
+        unsafe_outfile(facts),
         unsafe_mapfile(facts),
         new_outfile(facts),
         nothing_to_fill(facts),
         long_pattern(facts),
         other_sector(facts),
         mounted_infile(facts),
-        mounted_outfile(facts),
+        outfile_on_disk(facts),
+        mapfile_on_disk(facts),
         long_plan(facts),
         nothing_to_compare(facts),
         late_mapfile(facts),
         empty_domain(facts),
+        map_before_infile(facts),
+        no_length(facts),
     ])
 }

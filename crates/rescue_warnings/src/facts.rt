@@ -1,5 +1,7 @@
 //! What is known before a run: what the command asks for, and what was read without changing anything.
 
+use real_files::devices::Mounting;
+
 /// What a program is to do.
 #[derive(Clone, Copy, Debug, PartialEq, Eq)]
 pub enum Work {
@@ -8,13 +10,6 @@ pub enum Work {
     Generate,
     Comparison,
     Plan,
-}
-
-/// How a device's file system is mounted.
-#[derive(Clone, Copy, Debug, PartialEq, Eq)]
-pub enum Mount {
-    ReadOnly,
-    Writable,
 }
 
 /// What a name reaches. Lengths and sizes are in bytes.
@@ -29,9 +24,8 @@ pub enum Found {
         length: Option<u64>,
         /// The size of its own sectors.
         sector: Option<u64>,
-        /// None if it isn't known to be mounted.
-        mount: Option<Mount>,
     },
+    CharacterDevice,
 }
 
 /// Where a mapfile's last finished block ends.
@@ -52,6 +46,38 @@ pub enum MapText {
         end: u64,
         finished: Option<Finished>,
     },
+}
+
+/// What a file system may do to what is written there.
+#[derive(Clone, Copy, Debug, PartialEq, Eq)]
+pub enum Storage {
+    /// It lies in memory.
+    Memory,
+    /// It is laid over another one, whose files it doesn't change. A live system has it in memory.
+    Overlay,
+    /// It has no journal.
+    NoJournal,
+    /// A program makes it of a device. It may have no journal.
+    Fuse,
+}
+
+/// What is known of where a file lies that is written.
+#[derive(Clone, Copy, Debug, PartialEq, Eq)]
+pub struct Place {
+    /// The file is known to lie on a disk on which the infile lies, too.
+    pub on_infile_disk: bool,
+    /// What the file system may do to it. None if that is nothing, or isn't known.
+    pub storage: Option<Storage>,
+}
+
+impl Place {
+    /// Nothing is known.
+    pub fn unknown() -> Place {
+        Place {
+            on_infile_disk: false,
+            storage: None,
+        }
+    }
 }
 
 /// What is known before a run. None stands for what isn't known.
@@ -78,11 +104,15 @@ pub struct Facts {
     pub scrapes: bool,
     /// The infile, or of a plan a file of its length.
     pub infile: Option<Found>,
+    /// How the infile, a part of it or a device that is made of it is mounted.
+    pub infile_mounting: Option<Mounting>,
     pub outfile: Option<Found>,
+    pub outfile_place: Place,
     /// The text of the mapfile, or of a plan that of its test map.
     pub map: Option<MapText>,
     /// The mapfile's name is known to be a link.
     pub map_is_link: bool,
-    /// The mapfile is known to lie on a file system without a journal.
-    pub map_has_no_journal: bool,
+    pub map_place: Place,
+    /// A stop can be asked for, and the program then saves the map before it ends.
+    pub stop_is_told: bool,
 }

@@ -4,9 +4,10 @@ ghost use Rattle.std.specs.Fmt.{decimal};
 ghost use Rattle.arrayvec.specs.ArrayVec.{array_vec_len};
 ghost use Rattle.program_advice.specs.Lines.{IsOneLine};
 ghost use Rattle.rescue_console.specs.Speaking.{Speaks};
-ghost use Rattle.rescue_warnings.specs.Warnings.{advice_said, file_said, number_said, warning_pieces, warning_text};
+ghost use Rattle.rescue_warnings.specs.Warnings.{advice_said, disk_text, file_said, number_said, stop_text, storage_text, warning_pieces, warning_text};
 
 use crate::advice::Advice;
+use crate::facts::Storage;
 use itoa::Buffer;
 use program_advice::line::{Line, add, add_quoted, finished};
 use rescue_console::console::{Channel, Console};
@@ -43,6 +44,42 @@ fn say_number(line: &mut Line, n: u64, says: &str)
     add(line, says);
 }
 
+/// Adds what leaves no mapfile before its first save.
+fn say_stop(line: &mut Line, is_told: bool)
+    requires { array_vec_len line.old ≤ 400 }
+    ensures text { line.new.items ≡ line.old.items ++ stop_text is_told }
+    ensures len { array_vec_len line.new ≤ array_vec_len line.old + 22 }
+{
+    if is_told {
+        add(line, "a crash or a power cut");
+    } else {
+        add(line, "a stop");
+    }
+}
+
+/// What a file system does to a file.
+fn storage_text(storage: Storage) -> &'static str
+    ensures text { result.now ≡ storage_text storage }
+    ensures len { length result.now ≤ 80 }
+{
+    match storage {
+        Storage::Memory => " lies in memory: a power cut or a boot loses it",
+        Storage::Overlay => " lies on an overlay: on a live system a boot loses it",
+        Storage::NoJournal => " lies on a file system without a journal: a power cut may damage it",
+        Storage::Fuse => {
+            " lies on a file system that may lack a journal: a power cut may damage it"
+        }
+    }
+}
+
+/// What the writes of a rescue do to the infile's disk.
+fn disk_text() -> &'static str
+    ensures text { result.now ≡ disk_text }
+    ensures len { length result.now ≤ 80 }
+{
+    " lies on the infile's disk: each write wears it, so use another disk"
+}
+
 /// Adds the text of a warning.
 fn say(line: &mut Line, names: Names<'_>, advice: Advice)
     requires { array_vec_len line.old ≤ 29 }
@@ -60,9 +97,9 @@ fn say(line: &mut Line, names: Names<'_>, advice: Advice)
             );
         }
         Advice::MapPastInfile { end, length } => {
-            say_of(line, "infile ", names.infile, " ends at ");
-            say_number(line, length, ", and the mapfile reaches to ");
-            say_number(line, end, ": is it the same disk?");
+            say_of(line, "infile ", names.infile, " has ");
+            say_number(line, length, " B: was the mapfile made of a disk of ");
+            say_number(line, end, " B?");
         }
         Advice::EmptyInfile => say_of(line, "infile ", names.infile, " has no bytes"),
         Advice::BeginsPastInfile { length } => {
@@ -93,11 +130,17 @@ fn say(line: &mut Line, names: Names<'_>, advice: Advice)
             names.mapfile,
             " is a link, and the first save puts a file in its place",
         ),
-        Advice::UnsafeMapfile => say_of(
+        Advice::UnsafeOutfile { storage } => say_of(
+            line,
+            "outfile ",
+            names.outfile,
+            storage_text(storage),
+        ),
+        Advice::UnsafeMapfile { storage } => say_of(
             line,
             "mapfile ",
             names.mapfile,
-            " lies on a file system without a journal: a power cut may damage it",
+            storage_text(storage),
         ),
         Advice::NewOutfile => say_of(
             line,
@@ -126,14 +169,10 @@ fn say(line: &mut Line, names: Names<'_>, advice: Advice)
             line,
             "infile ",
             names.infile,
-            " is mounted for writing: unmount it",
+            " or a part of it is mounted for writing: unmount it",
         ),
-        Advice::MountedOutfile => say_of(
-            line,
-            "outfile ",
-            names.outfile,
-            " is mounted: unmount it",
-        ),
+        Advice::OutfileOnDisk => say_of(line, "outfile ", names.outfile, disk_text()),
+        Advice::MapfileOnDisk => say_of(line, "mapfile ", names.mapfile, disk_text()),
         Advice::LongPlan { end, reads } => {
             add(line, "test ");
             say_of(line, "mapfile ", names.mapfile, " ends at ");
@@ -154,17 +193,32 @@ fn say(line: &mut Line, names: Names<'_>, advice: Advice)
             names.mapfile,
             " calls nothing finished that is to be compared",
         ),
-        Advice::LateMapfile => say_of(
-            line,
-            "mapfile ",
-            names.mapfile,
-            " is saved for the first time after 30 s: a stop before that leaves none",
-        ),
+        Advice::LateMapfile { stop_is_told } => {
+            say_of(
+                line,
+                "mapfile ",
+                names.mapfile,
+                " is saved for the first time after 30 s: ",
+            );
+            say_stop(line, stop_is_told);
+            add(line, " before that leaves none");
+        }
         Advice::EmptyDomain => say_of(
             line,
             "domain mapfile ",
             names.domain,
             " calls nothing finished that is to be read",
+        ),
+        Advice::MapBeforeInfile { end, length } => {
+            say_of(line, "infile ", names.infile, " has ");
+            say_number(line, length, " B: was the mapfile made of a disk of ");
+            say_number(line, end, " B, or with option -s?");
+        }
+        Advice::NoLength => say_of(
+            line,
+            "infile ",
+            names.infile,
+            " is a character device: its length may be unknown, and then nothing is read",
         ),
     }
 }

@@ -13,17 +13,21 @@ returns c =
       c.nothing_listed.ensures,
       c.new_mapfile.ensures,
       c.linked_mapfile.ensures,
+      c.unsafe_outfile.ensures,
       c.unsafe_mapfile.ensures,
       c.new_outfile.ensures,
       c.nothing_to_fill.ensures,
       c.long_pattern.ensures,
       c.other_sector.ensures,
       c.mounted_infile.ensures,
-      c.mounted_outfile.ensures,
+      c.outfile_on_disk.ensures,
+      c.mapfile_on_disk.ensures,
       c.long_plan.ensures,
       c.nothing_to_compare.ensures,
       c.late_mapfile.ensures,
       c.empty_domain.ensures,
+      c.map_before_infile.ensures,
+      c.no_length.ensures,
     )
     at c.collect.ensures in
     is_advice c.args.facts.now c.collect.result.items said
