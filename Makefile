@@ -1,13 +1,16 @@
 # SPDX-License-Identifier: Apache-2.0
 # The usual ways into the repository. `make` proves and builds the programs, and `make bin/ddrescue` one of them, with a
 # proof on each processor (`make -j2` takes two). An interrupted build goes on where it was. `make scenes` builds the
-# player of scenes, `make check` runs the gate, and `make install` and `make uninstall` put programs, manual pages,
-# completions of bash and zsh and documents in place and take them away. `make dist` and `make deb` pack what
-# `make install` installs, as a tarball and as a package for Debian. With `BUILT=FOLDER` these three take the programs
-# from a folder, and prove and build nothing.
+# player of scenes, and `make check` runs the gate. `make install` puts the programs that are in bin/, their manual pages,
+# completions of bash and zsh, and the documents for users in place, and `make uninstall` takes them away. Neither proves
+# or builds anything. `make dist` and `make deb` pack what `make install` installs, as a tarball and as a package for
+# Debian, and prove and build it first. With `BUILT=FOLDER` all take the programs from that folder as they are.
 PREFIX ?= /usr/local
 PROGRAMS := ddrescue ddrescuelog ddrescuepart ddrescueverify ddrescueplan ddrescueshow
-DOCUMENTS := LICENSE NEWS.md $(shell find docs -name "*.md" -o -name "*.svg")
+# A script, which is installed as it is.
+LAUNCHER := ddrescuerun
+# What a user reads, besides the first part of README.md.
+DOCUMENTS := LICENSE NEWS.md docs/GUIDE.md docs/RULES.md $(wildcard docs/rules/*.md docs/images/*)
 SHARE := $(PREFIX)/share
 MANUAL := $(SHARE)/man/man1
 BASH := $(SHARE)/bash-completion/completions
@@ -39,8 +42,9 @@ sources = $(shell find crates/$(1) -name out -prune -o -name must-fail -prune -o
 proved = $(foreach library,$(own_$(1)),build/$(library).proved)
 
 # The words of the kit's compiler for a crate. A crate reads the statements of its libraries, not their proofs. The
-# kit's `rt` is not used here, since it lets no two crates over one library be proved at once.
-KIT := $(patsubst %/,%,$(dir $(if $(BUILT),,$(shell rt doc))))
+# kit's `rt` only says where the kit is, and is asked once a crate is to be proved: it lets no two crates over the same
+# library be proved at once.
+KIT = $(eval KIT := $(patsubst %/,%,$(dir $(shell rt doc))))$(KIT)
 OUT := "$(CURDIR)/build"
 READS = $(foreach library,$(kit_$*),--extern $(library)=$(KIT)/rlibs/$(library).rlib) -L dependency=$(KIT)/rlibs \
     $(foreach library,$(own_$*),--extern $(library)=$(OUT)/$(library).rlib) -L dependency=$(OUT) \
@@ -69,17 +73,27 @@ $(MAINS:%=bin/%): bin/%: $$(call sources,$$*) $$(call proved,$$*) build/%.needs
 check:
 	bash .ci/run
 
-install: $(if $(BUILT),,$(PROGRAMS:%=bin/%))
+install:
+	@for name in $(PROGRAMS); do \
+	    [ -f "$(or $(BUILT),bin)/$$name" ] && continue; \
+	    echo "$(or $(BUILT),bin)/$$name is missing: run make first, or name the folder of the built programs by BUILT" >&2; \
+	    exit 1; \
+	done
 	for name in $(PROGRAMS); do \
-	    install -D "$(or $(BUILT),bin)/$$name" "$(DESTDIR)$(PREFIX)/bin/$$name" && \
+	    install -D "$(or $(BUILT),bin)/$$name" "$(DESTDIR)$(PREFIX)/bin/$$name" || exit 1; \
+	done
+	install -D launcher/$(LAUNCHER) "$(DESTDIR)$(PREFIX)/bin/$(LAUNCHER)"
+	for name in $(PROGRAMS) $(LAUNCHER); do \
 	    install -D -m 644 man/$$name.1 "$(DESTDIR)$(MANUAL)/$$name.1" && \
 	    install -D -m 644 completions/bash/$$name "$(DESTDIR)$(BASH)/$$name" && \
 	    install -D -m 644 completions/zsh/_$$name "$(DESTDIR)$(ZSH)/_$$name" || exit 1; \
 	done
 	for name in $(DOCUMENTS); do install -D -m 644 $$name "$(DESTDIR)$(DOC)/$${name#docs/}" || exit 1; done
+	sed '/^<!-- `make install`/,$$d; s|\[\([^]]*\)\](docs/HEADLINE\.md)|\1|; s|](docs/|](|' README.md \
+	    > "$(DESTDIR)$(DOC)/README.md" && chmod 644 "$(DESTDIR)$(DOC)/README.md"
 
 uninstall:
-	for name in $(PROGRAMS); do \
+	for name in $(PROGRAMS) $(LAUNCHER); do \
 	    rm -f "$(DESTDIR)$(PREFIX)/bin/$$name" "$(DESTDIR)$(MANUAL)/$$name.1" "$(DESTDIR)$(BASH)/$$name" \
 	        "$(DESTDIR)$(ZSH)/_$$name"; \
 	done
