@@ -41,7 +41,7 @@ pub record AgreeOutside (p q : ℕ) (old new : ℕ → Bool) : Type 0 where
   pub front : (x : ℕ) → x < p → new x ≡ old x
   pub back : (x : ℕ) → q ≤ x → new x ≡ old x
 
--- Where a set changes between two positions alone, areas begin and cease to begin there alone, or at the second one.
+-- If a set changes only between two positions, areas begin and cease to begin only there, or at the second one.
 abbrev pub AreasChangeWithin : Type 0
 AreasChangeWithin =
     (old new : ℕ → Bool) (p q end : ℕ) → p < q → q < end → AgreeOutside p q old new

@@ -1,4 +1,4 @@
--- How a block list is kept: blocks without gaps, merged where neighbors have one status.
+-- How a block list is kept: blocks without gaps, merged if neighbors have the same status.
 -- For contracts and proofs: no promise uses it.
 use Rattle.std.specs.Prelude.{ℕ, ◌≡◌, ◌+◌, ◌<◌, ◌^◌, List, [], ◌∷◌, slice_get, Some}
 use Rattle.block_list.specs.declared.block.Block.{Block}

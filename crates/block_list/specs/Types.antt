@@ -39,7 +39,7 @@ pub record AreTypes (text : List ℕ) : Type 0 where
   pub some : text ≢ []
   pub each : All (λ c. (s : Status) × (c ≡ symbol s)) text
 
--- what types are of a text: a status is one of them where the text has its character; a text with none is no types
+-- what types are of a text: a status is one of them if the text has its character; a text with none is no types
 abbrev pub TypesAreCharacters : Type 0
 TypesAreCharacters = (text : List ℕ) →
     MatchOption (types_of text) (AreTypes text → ⊥)

@@ -1,7 +1,7 @@
 //! A block, and a range of positions.
 use crate::status::Status;
 
-/// Positions from `pos` up to `pos + size`, in bytes, that have one status.
+/// Positions from `pos` up to `pos + size`, in bytes, that have the same status.
 #[derive(Clone, Copy, Debug, PartialEq, Eq)]
 pub struct Block {
     pub pos: u64,

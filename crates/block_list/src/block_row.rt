@@ -93,7 +93,7 @@ impl BlockRow {
         requires within { at ≤ length (flat_map covered self.now.items) }
         ensures { IsPlace self.now.items at result }
     {
-        // A run that goes up the first time stands at the last two blocks.
+        // A run that goes up the first time is at the last two blocks.
         let len = self.len();
         if len > 1 {
             if self.start(len - 1) < at {

@@ -21,8 +21,8 @@ pub fn stretches_go_on()
     ensures { StretchesGoOn }
 {}
 
-/// A text is types where it has at least one character and each is a status's; then a status is one of them where the
-/// text has its character.
+/// A text is types if it has at least one character and each is a status's; then a status is one of them if the text
+/// has its character.
 pub fn types_are_characters()
     ensures { TypesAreCharacters }
 {}
@@ -32,7 +32,7 @@ pub fn areas_are_intervals()
     ensures { AreasAreIntervals }
 {}
 
-/// Where a set of positions changes from one position up to another, areas begin and cease to begin there alone, or at
+/// If a set of positions changes only from one position up to another, areas begin and cease to begin only there, or at
 /// the second one.
 pub fn areas_change_within()
     ensures { AreasChangeWithin }

@@ -249,7 +249,7 @@ impl Page {
         page
     }
 
-    /// Puts blocks in the place of those from one index up to another. Where as many come as go, no other is copied.
+    /// Puts blocks in the place of those from one index up to another. If as many come as go, no other is copied.
     pub fn splice(&mut self, from: usize, to: usize, new: &MarkedBlocks)
         requires order { from ≤ to }
         requires within { to ≤ length self.old }

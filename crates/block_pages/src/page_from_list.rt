@@ -6,8 +6,8 @@ use crate::page::Page;
 use block_list::plain_tiles::PlainTiles;
 use block_list::tiles::Tiles;
 
-/// How many blocks the next page takes where some are left: as many as it holds, but the last two share alike
-/// what is left for them.
+/// How many blocks the next page takes if some are left: as many as it holds, but the last two share what
+/// is left for them evenly.
 pub fn page_len(left: usize) -> usize
     requires { 0 < left }
     ensures some { 0 < result }

@@ -15,7 +15,7 @@ use rescue_console::console::{Channel, Console, ConsoleFault};
 ///
 /// # Errors
 ///
-/// `ConsoleFault` where a put failed; a beginning of the text was put then.
+/// `ConsoleFault` if a put failed; a beginning of the text was put then.
 pub fn put_map<T: Tiles, P: Console>(
     console: &mut P,
     heading: &Heading,

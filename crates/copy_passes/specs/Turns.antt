@@ -32,7 +32,7 @@ pub record IsAlike (s : Setting) (m n : Machine) : Type 0 where
   pub tally : n.tally ≡ m.tally
   pub next : ready s n ≡ ready s m
 
--- a run in the pass of another, where that one stands, and heard as that one is
+-- a run in the pass of another, at that one's place, and heard as that one is
 abbrev pub moved_to : RunState → RunState → RunState
 moved_to r q = record r { phase = q.phase; pass = q.pass; machine = q.machine; heard = q.heard }
 

@@ -74,7 +74,7 @@ fn run_passes<S: Source, D: Site, K: Clock, C: Console, T: Tiles>(
 }
 
 /// Copies all that is non-tried, in this pass and the later ones, up to the end of the fifth. It stops when a turn
-/// does: for want of memory, at a lost read, at a limit, or at a call on the output or the mapfile that failed.
+/// does: for lack of memory, at a lost read, at a limit, or at a call on the output or the mapfile that failed.
 pub fn run_copying<S: Source, D: Site, K: Clock, C: Console, T: Tiles>(
     rescue: Rescue<Copying, T>,
     source: &mut S,

@@ -11,7 +11,7 @@ pub fn alike_go_alike()
     ensures { AlikeGoAlike }
 {}
 
-/// A state at the start of its next pass is alike, where the present one has no request.
+/// A state at the start of its next pass is alike, if the present one has no request.
 pub fn a_next_pass_is_alike()
     ensures { NextPassIsAlike }
 {}

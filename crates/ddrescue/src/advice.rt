@@ -159,8 +159,8 @@ fn cause_of<'a>(
     Some(Cause::File { file, fact })
 }
 
-/// The line that an answer's message is followed by. There is none where the arguments ask that nothing be said, and
-/// none of an answer whose message says all. After a rescue that is done it says what that left, by the `last` line.
+/// The line that an answer's message is followed by. There is none if the arguments ask that nothing be said, and none
+/// for an answer whose message says all. After a rescue that is done it says what that left, by the `last` line.
 pub fn advise(
     rt: &HostRuntime,
     words: &Words,

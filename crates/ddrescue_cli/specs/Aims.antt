@@ -15,7 +15,7 @@ task_for ToRescue c = Rescue c
 task_for (ToFill types) c = Fill types c
 task_for ToGenerate c = Generate c
 
--- a mapfile is named, where what files are for wants one
+-- a mapfile is named, if what files are for wants one
 abbrev pub IsNamedFor : Aim → Command → Type 0
 IsNamedFor ToRescue c = ⊤
 IsNamedFor (ToFill types) c = is_some c.mapfile ≡ true

@@ -91,12 +91,15 @@ TaskIsSilent (Fill types c) o e did = did.gain.times ≡ [] → (o.lines ≡ [])
 TaskIsSilent (Generate c) o e did = did.gain.times ≡ [] → (o.lines ≡ []) × (o.pieces ≡ [])
 TaskIsSilent (Sample kib quiet) o e did = e ≡ NoMemory → o.lines ≡ []
 
--- At whatever moment a task is stopped: until the barrier has returned, what is found of a rescue with a mapfile could
--- be found before. From then on the mapfile found is the one it began with or one that it saved, no older than the last
--- save that had returned, and the output holds what that mapfile promises. Of a filling the mapfile found is, from the
--- barrier on, the one it began with or one that it saved, its map stands, and what came before that save is filled.
--- Each piece of a generating gave what the output held when the call began; and from the barrier on, what the mapfile
--- found calls finished was so when it began or has a byte in the output, whose bytes stand.
+-- What is found at whatever moment a task is stopped. Of a rescue with a mapfile: until the barrier has returned, what
+-- could be found before. From then on the mapfile is the one it began with or one that it saved, no older than the last
+-- save that had returned, and the output holds what that mapfile promises.
+--
+-- Of a filling, from the barrier on: the mapfile is the one it began with or one that it saved. Its map is kept, and
+-- what came before that save is filled.
+--
+-- Of a generating: each piece gave what the output held when the call began. From the barrier on, what the mapfile
+-- calls finished was so when it began, or has a byte in the output, whose old bytes stay.
 abbrev pub TaskStops : Task → (line : List ℕ) → TaskOutside → Deeds → SiteState → Type 0
 TaskStops (Rescue c) line o did site =
     (asked_by c line o).has_mapfile ≡ true → RescueStopsBy (calls_of site) (asked_by c line o) did.gain

@@ -10,7 +10,7 @@ use Rattle.task_files.specs.declared.ending.Ending.TheVariants.{Done, SameName, 
 use Rattle.task_files.specs.Names.{first_same_with_optional_map}
 use Rattle.task_files.specs.Asked.{names_by}
 
--- Two modes are a conflict. Want of memory is no fault of words, and a place is checked later.
+-- Two modes are a conflict. Lack of memory is no fault of words, and a place is checked later.
 abbrev pub IsTaskFault : UsageFault → Type 0
 IsTaskFault (Word fault) = fault ≢ WordNoMemory
 IsTaskFault (BadValue n) = ⊤
@@ -19,11 +19,11 @@ IsTaskFault (Modes given) = ⊥
 IsTaskFault (Operands given) = ⊤
 IsTaskFault PlaceTooLarge = ⊥
 
--- the first two files of a command that have one name, in the order infile, outfile, mapfile, draft
+-- the first two files of a command that have the same name, in the order infile, outfile, mapfile, draft
 abbrev pub same_of : Command → Option (Operand × Operand)
 same_of c = first_same_with_optional_map c.infile c.outfile (names_by c)
 
--- Two files that have one name are answered, the first such pair, unless memory runs out before; and no others are.
+-- Two files with the same name are answered, the first such pair, unless memory runs out before; and no others are.
 abbrev pub FitsNames : Option (Operand × Operand) → Ending → Type 0
 FitsNames None e = (first second : Operand) → e ≢ SameName first second
 FitsNames (Some pair) e = (e ≡ SameName pair.0 pair.1) ⊎ (e ≡ NoMemory)

@@ -27,7 +27,7 @@ pub(crate) enum Job<'a> {
     },
 }
 
-/// The work on the files of a command. Two files of one name are refused.
+/// The work on the files of a command. Two files with the same name are refused.
 fn check_files<'a>(
     alloc: Global,
     words: &Words,

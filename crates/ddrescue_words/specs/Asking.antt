@@ -106,11 +106,11 @@ conflict_in sampled items =
 
 -- ---- operands, and what is asked for
 
--- A mapfile is wanted where it says what is to be rescued, filled or generated.
+-- A mapfile is wanted if it says what is to be rescued, filled or generated.
 abbrev pub wants_mapfile : Options → Bool
 wants_mapfile o = (o.complete_only || is_some o.fill) || o.generate
 
--- The files of two operands or three; another number is refused, and so are two where a mapfile is wanted.
+-- The files of two operands or three; another number is refused, and so are two if a mapfile is wanted.
 abbrev pub command_with : List (List ℕ) → MapOptions → Options → (operands : List ℕ) → Result Command UsageFault
 command_with words m o [] = Err (Operands 0)
 command_with words m o (i ∷ []) = Err (Operands 1)
@@ -244,7 +244,7 @@ pub record IsSampleSize (kib : ℕ) : Type 0 where
   pub low : 1 ≤ kib
   pub high : kib ≤ 65536
 
--- a task within its limits, with a mapfile where one is wanted
+-- a task within its limits, with a mapfile if one is wanted
 abbrev pub IsInLimits : Task → Type 0
 IsInLimits (Rescue c) = AreInLimits c.options
 IsInLimits (Fill types c) = HasMapfile c
@@ -263,6 +263,6 @@ IsTask words task = IsAsked words (task_by task)
 abbrev pub IsRefusal : List (List ℕ) → UsageFault → (quiet : Bool) → Type 0
 IsRefusal words fault quiet = IsRefusalBy rescue_grammar words fault quiet
 
--- why words ask for nothing; want of memory is free
+-- why words ask for nothing; lack of memory is free
 abbrev pub IsErrorOf : List (List ℕ) → CommandError → Type 0
 IsErrorOf words error = IsErrorBy rescue_grammar words error

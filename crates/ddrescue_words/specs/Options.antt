@@ -184,7 +184,7 @@ sample_place = length lettered_rows
 abbrev pub option_meanings : List Meaning
 option_meanings = meanings_of option_rows
 
--- what is asked for where no option but the sector's is given
+-- what is asked for if no option but the sector's is given
 abbrev pub no_options : (sector : ℕ) → Options
 no_options sector = record {
   sector = sector;

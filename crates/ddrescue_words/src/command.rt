@@ -273,7 +273,7 @@ fn task_of<'a>(
     Ok(task)
 }
 
-/// Reads the words of a command line: `[options] infile outfile [mapfile]`, where a mode wants the mapfile, or
+/// Reads the words of a command line: `[options] infile outfile [mapfile]`, of which some modes want the mapfile, or
 /// `--sample=KIB`. The words themselves come first, then the values of the options in the order of the words, those of
 /// `-b` before all others, then the size of a cluster in bytes. The options that don't go together follow: `-F` with
 /// `-G`, `-H` with one of these, and others with a sample. Last come the number of operands and whether one is empty.

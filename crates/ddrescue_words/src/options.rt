@@ -18,7 +18,7 @@ use run_options::limits::{AreaLimit, Limits};
 use run_options::passes::Passes;
 use size_suffixes::interval::read_interval;
 
-/// The size of a cluster in bytes, where no option gives it and no sector is larger.
+/// The size of a cluster in bytes, if no option gives it and no sector is larger.
 const DEFAULT_CLUSTER: u64 = 65_536;
 
 /// The most sectors of a cluster.
@@ -246,7 +246,7 @@ fn read_sample(value: Option<&str>) -> Option<u64>
     within_range(number_by(value)?, 1, MOST_SAMPLE)
 }
 
-/// What the option of a sample sets by its value; nothing where that is a bad one.
+/// What the option of a sample sets by its value; nothing if that is a bad one.
 fn with_sample(options: Options, sector: u64, value: Option<&str>) -> Option<Options>
     ensures { result ≡ set_by (Some sample_row) sector options (option_map (λ v. v.now) value.entry) }
 {
@@ -273,7 +273,7 @@ macro_rules! set_by_letter {
     };
 }
 
-/// What the option of a letter sets by its value; nothing where that is a bad one, or where no option has the letter.
+/// What the option of a letter sets by its value; nothing if that is a bad one, or if no option has the letter.
 fn with_letter(options: Options, sector: u64, letter: char, value: Option<&str>) -> Option<Options>
     requires low { 0 < sector }
     requires high { sector ≤ 1048576 }

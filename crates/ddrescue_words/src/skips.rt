@@ -4,10 +4,10 @@ ghost use Rattle.ddrescue_words.specs.Options.{comma_parts, size_if_given, skips
 
 use size_suffixes::size::read_size;
 
-/// How far copying skips at first in bytes, where no option says it.
+/// How far copying skips at first in bytes, if no option says it.
 pub(crate) const DEFAULT_SKIP: u64 = 65_536;
 
-/// How far copying skips at most in bytes, where no option says it.
+/// How far copying skips at most in bytes, if no option says it.
 pub(crate) const DEFAULT_SKIP_MAX: u64 = 1 << 30;
 
 /// The least skip in whole sectors that is too large.

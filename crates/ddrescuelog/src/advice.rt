@@ -99,8 +99,8 @@ fn cause_of<'a>(
     Some(Cause::File { file, fact })
 }
 
-/// The line that an answer's message is followed by. There is none where the arguments ask that nothing be said, and
-/// none of an answer whose message says all. `fed` and `put` are the errors of the standard streams.
+/// The line that an answer's message is followed by. There is none if the arguments ask that nothing be said, and none
+/// for an answer whose message says all. `fed` and `put` are the errors of the standard streams.
 pub fn advise(
     rt: &HostRuntime,
     words: &Words,

@@ -119,7 +119,7 @@ AreRefused words fault = AreRefusedBy log_grammar words fault
 abbrev pub AskQuiet : List (List ℕ) → Type 0
 AskQuiet words = AskSilence log_grammar words
 
--- what is asked for is within limits, and another map has a name exactly where the mode works on one
+-- what is asked for is within limits, and another map has a name exactly when the mode works on one
 pub record AreInLimits (c : Command) : Type 0 where
   pub block : 0 < c.options.block
   pub block_max : c.options.block ≤ 1048576
@@ -134,6 +134,6 @@ pub record AreInLimits (c : Command) : Type 0 where
 abbrev pub IsAsked : List (List ℕ) → Command → Type 0
 IsAsked words c = IsAskedWithin log_grammar words c (AreInLimits c) c.options.quiet
 
--- why words ask for nothing; want of memory is free
+-- why words ask for nothing; lack of memory is free
 abbrev pub IsErrorOf : List (List ℕ) → CommandError → Type 0
 IsErrorOf words error = IsErrorBy log_grammar words error

@@ -50,7 +50,7 @@ creates Summarize = false
 
 -- ---- the values that say them
 
--- one type; non-tried where no value is given
+-- one type; non-tried if no value is given
 abbrev pub one_type : Option (List ℕ) → Option Status
 one_type None = Some NonTried
 one_type (Some []) = None

@@ -66,7 +66,7 @@ option_rows =
 abbrev pub option_meanings : List Meaning
 option_meanings = meanings_of option_rows
 
--- what is asked for where no option but that of the block is given
+-- what is asked for if no option but that of the block is given
 abbrev pub no_options : (block : ℕ) → LogOptions
 no_options block = record {
   block = block;

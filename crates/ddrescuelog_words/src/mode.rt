@@ -16,7 +16,7 @@ pub enum LogMode {
     Combine(Op),
     /// The map is printed, with the gaps between its blocks filled by a status.
     Complete(Status),
-    /// The numbers of the blocks in which positions of some types stand are printed.
+    /// The numbers of the blocks in which positions of some types lie are printed.
     ListBlocks(TypeSet),
     /// A map is made of the numbers of blocks: of one status in these blocks, of another in the rest.
     Create { listed: Status, rest: Status },

@@ -151,7 +151,7 @@ macro_rules! set_by_letter {
     };
 }
 
-/// What the option of a letter sets by its value; nothing where that is a bad one, or where no option has the letter.
+/// What the option of a letter sets by its value; nothing if that is a bad one, or if no option has the letter.
 fn with_letter(
     options: LogOptions,
     block: u64,

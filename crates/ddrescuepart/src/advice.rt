@@ -25,7 +25,7 @@ fn manual() -> Manual {
 /// The program's name, which begins its lines.
 const PROGRAM: &str = "ddrescuepart";
 
-/// What helps where what was read gives no partition.
+/// What helps if what was read gives no partition.
 fn refusal_hint(refusal: Refusal) -> Hint {
     match refusal {
         Refusal::Unread { .. } | Refusal::NoSignature { .. } => Hint::NoTable,
@@ -53,8 +53,8 @@ fn cause_of<'a>(
     Some(Cause::Hint(hint))
 }
 
-/// The line that an answer's message is followed by. There is none where the arguments ask that nothing be said, and
-/// none of an answer whose message says all. `put` is the error of standard output.
+/// The line that an answer's message is followed by. There is none if the arguments ask that nothing be said, and none
+/// for an answer whose message says all. `put` is the error of standard output.
 pub fn advise(
     rt: &HostRuntime,
     words: &Words,

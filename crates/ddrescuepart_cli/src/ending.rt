@@ -35,7 +35,7 @@ impl PartEnding {
         }
     }
 
-    /// The exit status: 0 for what is done, 2 for a table that is refused, 4 for want of memory, 1 for all else.
+    /// The exit status: 0 for what is done, 2 for a table that is refused, 4 for lack of memory, 1 for all else.
     pub fn code(&self) -> u8
         ensures { result ≡ status_of_ending self.now }
     {

@@ -6,7 +6,7 @@ pub fn disks_have_one_verdict()
     ensures { HasOneVerdict }
 {}
 
-/// Each answer is the one that the records lead to, a refusal of words, a failure or want of memory.
+/// Each answer is the one that the records lead to, a refusal of words, a failure or lack of memory.
 pub fn nothing_else_is_answered()
     ensures { IsBroughtUnless }
 {}

@@ -86,6 +86,6 @@ pub record IsInLimits (c : Command) : Type 0 where
 abbrev pub IsAsked : List (List ℕ) → Command → Type 0
 IsAsked words c = IsAskedWithin part_grammar words c (IsInLimits c) c.quiet
 
--- why words ask for nothing; want of memory is free
+-- why words ask for nothing; lack of memory is free
 abbrev pub IsErrorOf : List (List ℕ) → CommandError → Type 0
 IsErrorOf words error = IsErrorBy part_grammar words error

@@ -15,7 +15,7 @@ use Rattle.ddrescueplan_cli.specs.declared.ending.PlanEnding.{PlanEnding}
 use Rattle.ddrescueplan_cli.specs.declared.ending.PlanEnding.TheVariants.{Done, Usage, NoMap, MapRefused, SiteFault, ConsoleFault, NoMemory}
 use Rattle.ddrescueplan_cli.specs.Names.{program_name}
 
--- Of the calls on the files only a read of the test map may fail, and want of memory isn't told as an error of that
+-- Of the calls on the files only a read of the test map may fail, and lack of memory isn't reported as an error of that
 -- map.
 abbrev pub row_of : PlanEnding → AnswerRow
 row_of Done = asked_row 0

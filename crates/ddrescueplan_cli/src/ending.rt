@@ -54,7 +54,7 @@ impl PlanEnding {
         }
     }
 
-    /// The exit status: 0 where all was put, 2 for a test map that is refused, 4 for want of memory, 1 for all else.
+    /// The exit status: 0 if all was put, 2 for a test map that is refused, 4 for lack of memory, 1 for all else.
     pub fn code(&self) -> u8
         ensures { result ≡ status_of_ending self.now }
     {

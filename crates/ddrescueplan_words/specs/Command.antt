@@ -108,6 +108,6 @@ pub record AreInLimits (c : Command) : Type 0 where
 abbrev pub IsAsked : List (List ℕ) → Command → Type 0
 IsAsked words c = IsAskedWithin plan_grammar words c (AreInLimits c) c.options.rescue.quiet
 
--- why words ask for nothing; want of memory is free
+-- why words ask for nothing; lack of memory is free
 abbrev pub IsErrorOf : List (List ℕ) → CommandError → Type 0
 IsErrorOf words error = IsErrorBy plan_grammar words error

@@ -48,7 +48,7 @@ option_rows = map option_row option_letters
 abbrev pub option_meanings : List Meaning
 option_meanings = meanings_of option_rows
 
--- what is asked for where no option but the sector's is given
+-- what is asked for if no option but the sector's is given
 abbrev pub no_options : (sector : ℕ) → PlanOptions
 no_options sector = of_rescue (no_rescue_options sector)
 

@@ -21,7 +21,7 @@ use std::alloc::Global;
 /// The greatest length in bytes: 1 TiB.
 const MOST_LENGTH: u64 = 1 << 40;
 
-/// The size of a cluster in bytes, where no option gives it and no sector is larger.
+/// The size of a cluster in bytes, if no option gives it and no sector is larger.
 const DEFAULT_CLUSTER: u64 = 65_536;
 
 /// The largest cluster in bytes.

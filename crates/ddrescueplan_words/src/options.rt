@@ -33,7 +33,7 @@ pub static ROWS: [Row; 11] = [
 /// What the options of a command line ask for.
 #[derive(Clone, Copy, Debug, PartialEq, Eq)]
 pub struct PlanOptions {
-    /// What they ask of the rescue; all that they can't ask for is as a rescue has it where no option is given.
+    /// What they ask of the rescue; all that they can't ask for is as a rescue has it if no option is given.
     pub rescue: Options,
 }
 

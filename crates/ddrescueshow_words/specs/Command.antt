@@ -88,6 +88,6 @@ pub record AreInLimits (o : ShowOptions) : Type 0 where
 abbrev pub IsAsked : List (List ℕ) → Command → Type 0
 IsAsked words c = IsAskedWithin show_grammar words c (AreInLimits c.options) c.options.quiet
 
--- why words ask for nothing; want of memory is free
+-- why words ask for nothing; lack of memory is free
 abbrev pub IsErrorOf : List (List ℕ) → CommandError → Type 0
 IsErrorOf words error = IsErrorBy show_grammar words error

@@ -114,8 +114,8 @@ fn cause_of<'a>(
     Some(Cause::File { file, fact })
 }
 
-/// The line that an answer's message is followed by. There is none where the arguments ask that nothing be said, and
-/// none of an answer whose message says all. `put` is the error of standard output.
+/// The line that an answer's message is followed by. There is none if the arguments ask that nothing be said, and none
+/// for an answer whose message says all. `put` is the error of standard output.
 pub fn advise(
     rt: &HostRuntime,
     words: &Words,

@@ -16,7 +16,7 @@ use Rattle.ddrescueverify_cli.specs.Names.{program_name}
 abbrev pub which_text : Which → List ℕ
 which_text RunMap = codes "mapfile"
 
--- Want of memory isn't told as an error of the mapfile, nor is a mapfile refused that says nothing.
+-- Lack of memory isn't reported as an error of the mapfile, nor is a mapfile refused that says nothing.
 abbrev pub row_of : VerifyEnding → AnswerRow
 row_of Done = asked_row 0
 row_of (Differs bytes) = asked_row 1

@@ -23,7 +23,7 @@ domain_asked o end = whole_domain o.input_position o.size end
 abbrev pub IsBeyond : VerifyOptions → (end : ℕ) → Type 0
 IsBeyond o end = IsAnyBeyond (domain_asked o end) o.input_position (unwrap_or o.output_position o.input_position)
 
--- what is compared, where the mapfile stands for this map: what it calls finished of the positions asked for
+-- what is compared, if the mapfile stands for this map: what it calls finished of the positions asked for
 abbrev pub comparison_of : VerifyOptions → (end : ℕ) → List Status → Comparison
 comparison_of o end statuses = record {
   compared = compared_in (domain_asked o end) statuses;

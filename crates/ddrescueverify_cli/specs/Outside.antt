@@ -15,7 +15,7 @@ pub record Found : Type 0 where
   pub output : Option File
   pub mapfile : Option File
 
--- what a command finds among files that stand
+-- what a command finds among files that don't change
 abbrev pub found_in : Command → (List ℕ → Option File) → Found
 found_in c files = record { output = files c.outfile; mapfile = files c.mapfile }
 

@@ -16,11 +16,11 @@ use Rattle.ddrescueverify_cli.specs.declared.ending.VerifyEnding.TheVariants.{Us
 use Rattle.ddrescueverify_cli.specs.Asked.{IsBeyond}
 use Rattle.program_promise.specs.Operands.{first_same}
 
--- the first two files of a command that have one name, in the order infile, outfile, mapfile, draft
+-- the first two files of a command that have the same name, in the order infile, outfile, mapfile, draft
 abbrev pub same_of : Command → Option (Operand × Operand)
 same_of c = first_same c.infile c.outfile (names_of c.mapfile)
 
--- two files have one name
+-- two files have the same name
 abbrev pub NamesRefused : Command → VerifyEnding → Type 0
 NamesRefused c e =
     (first second : Operand) × (same_of c ≡ Some (first, second)) × (e ≡ SameName first second)
@@ -41,12 +41,12 @@ PlacesRefused o end e = IsBeyond o end × (e ≡ Usage PlaceTooLarge)
 
 -- ---- what an answer says of the names
 
--- Two files that have one name are answered, the first such pair, unless memory runs out before; and no others are.
+-- Two files with the same name are answered, the first such pair, unless memory runs out before; and no others are.
 abbrev pub FitsNames : Option (Operand × Operand) → VerifyEnding → Type 0
 FitsNames None e = (first second : Operand) → e ≢ SameName first second
 FitsNames (Some pair) e = (e ≡ SameName pair.0 pair.1) ⊎ (e ≡ NoMemory)
 
--- the words name two files of one name, the first such pair
+-- the words name two files with the same name, the first such pair
 pub record NameOneFileTwice (words : List (List ℕ)) (first second : Operand) : Type 0 where
   pub command : Command
   pub asks : Asks words command

@@ -78,7 +78,7 @@ pub data StopsComparing (o : VerifyOptions) (end : ℕ) (old new : List Status) 
   Halted : (halt : Halt) → (IsBeyond o end → ⊥) → e ≡ answer_of_halt halt
       → Compares (comparison_of o end old) old new (Err halt) a → StopsComparing o end old new e a
 
--- the save of a text: there are its calls, which are the site's own where it tells
+-- the save of a text: there are its calls, which are the site's own if it tells
 pub record SavesText {T : Type 0} (names : MapNames) (text : List ℕ) (result : Result T VerifyEnding)
     (old new : SiteState) : Type 0 where
   pub calls : List Entry

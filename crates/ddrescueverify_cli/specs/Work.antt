@@ -32,7 +32,7 @@ verify_faults = record { call = λ call. SiteFault call; memory = NoMemory; inpu
 abbrev pub output_rows : (outfile : List ℕ) → (file : Option File) → List (WorkStep VerifyEnding)
 output_rows outfile file = Make (image_open outfile false ∷ []) ∷ LookAt (OutputRefused file) ∷ []
 
--- The barrier makes durable what stands, and the mapfile is read, and may be refused.
+-- The barrier makes durable what is there, and the mapfile is read, and may be refused.
 abbrev pub load_rows : (mapfile : List ℕ) → (file : Option File) → List (WorkStep VerifyEnding)
 load_rows mapfile file =
     Make (barrier_calls (names_of mapfile)) ∷ Read (Some mapfile) file ∷ LookAt (MapfileRefused file) ∷ []
@@ -49,13 +49,13 @@ opened_rows c found end =
 abbrev pub verify_rows : Command → Found → (end : ℕ) → List (WorkStep VerifyEnding)
 verify_rows c found end = Take ∷ LookAt (NamesRefused c) ∷ opened_rows c found end
 
--- what is answered where the comparison stopped before its last piece
+-- what is answered if the comparison stopped before its last piece
 abbrev pub answer_of_halt : Halt → VerifyEnding
 answer_of_halt NoRoom = NoMemory
 answer_of_halt InputLost = SourceLost
 answer_of_halt ImageFault = SiteFault ImageRead
 
--- what is answered where the comparison came to its end: whether a piece differs, and how many bytes of such there are
+-- what is answered if the comparison came to its end: whether a piece differs, and how many bytes of such there are
 abbrev pub answer_of_tally : Tally → VerifyEnding
 answer_of_tally t = if nat_eq t.differing 0 then Done else Differs t.differing
 

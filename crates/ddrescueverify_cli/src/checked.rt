@@ -30,7 +30,7 @@ pub(crate) struct CheckedCommand<'a> {
     pub heading: Heading,
 }
 
-/// Refuses two files of one name, and takes the memory that the save wants for names and heading.
+/// Refuses two files with the same name, and takes the memory that the save wants for names and heading.
 pub(crate) fn check_command<'a>(
     alloc: Global,
     words: &Words,

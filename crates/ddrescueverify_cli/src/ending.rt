@@ -24,7 +24,7 @@ pub enum VerifyEnding {
     Differs { bytes: u64 },
     /// The words ask for nothing that can be done.
     Usage(UsageFault),
-    /// Two files have one name.
+    /// Two files have the same name.
     SameName { first: Operand, second: Operand },
     /// The mapfile isn't there, or says nothing.
     NoMap,
@@ -37,7 +37,7 @@ pub enum VerifyEnding {
     /// The infile was lost during a read. Nothing was saved.
     SourceLost,
     /// A call on the outfile, on the mapfile or on its folder failed. A mapfile that is no regular file fails to be
-    /// read. Unless it was the last settle of a save, the mapfile stands.
+    /// read. Unless it was the last settle of a save, the mapfile is unchanged.
     SiteFault { call: SiteCall },
     /// The map was saved, and the numbers couldn't be printed, or not all of them.
     ConsoleFault,
@@ -46,7 +46,7 @@ pub enum VerifyEnding {
 }
 
 impl VerifyEnding {
-    /// The exit status: 0 where nothing differs, 2 for a mapfile that is refused, 4 for want of memory, 1 for all else.
+    /// The exit status: 0 if nothing differs, 2 for a mapfile that is refused, 4 for lack of memory, 1 for all else.
     pub fn code(&self) -> u8
         ensures { result ≡ status_of_ending self.now }
     {

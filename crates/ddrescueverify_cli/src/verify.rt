@@ -185,10 +185,10 @@ fn work<S: Source, D: Site, P: Console>(
 /// Unless it is quiet, one line on the console says how much was compared. Unless the answer is `Done` or `Differs`,
 /// one message says why, on the console's second channel.
 ///
-/// The refusals come in this order: words that ask for nothing, two files of one name, an infile that can't be opened,
-/// and an outfile that isn't there. Then come a mapfile that isn't there, says nothing or is no map, and a position
-/// without a place in the output. At any time the infile may be lost, a call on the files may fail, and memory may run
-/// out; then nothing is saved.
+/// The refusals come in this order: words that ask for nothing, two files with the same name, an infile that can't be
+/// opened, and an outfile that isn't there. Then come a mapfile that isn't there, says nothing or is no map, and a
+/// position without a place in the output. At any time the infile may be lost, a call on the files may fail, and memory
+/// may run out; then nothing is saved.
 pub fn ddrescueverify<S: Source, D: Site, P: Console>(
     alloc: Global,
     words: &Words,
@@ -204,7 +204,7 @@ pub fn ddrescueverify<S: Source, D: Site, P: Console>(
     ensures untouched { (fault : Fault) → AreRefused words.now fault
         → (source.new ≡ source.old) × (site.new ≡ site.old) }
 
-    // nor do those that name two files of one name.
+    // nor do those that name two files with the same name.
     ensures unopened { (first second : Operand) → NameOneFileTwice words.now first second
         → (source.new ≡ source.old) × (site.new ≡ site.old) }
 {

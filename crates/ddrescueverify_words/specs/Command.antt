@@ -83,6 +83,6 @@ pub record AreInLimits (o : VerifyOptions) : Type 0 where
 abbrev pub IsAsked : List (List ℕ) → Command → Type 0
 IsAsked words c = IsAskedWithin verify_grammar words c (AreInLimits c.options) c.options.quiet
 
--- why words ask for nothing; want of memory is free
+-- why words ask for nothing; lack of memory is free
 abbrev pub IsErrorOf : List (List ℕ) → CommandError → Type 0
 IsErrorOf words error = IsErrorBy verify_grammar words error

@@ -21,7 +21,7 @@ option_rows =
 abbrev pub option_meanings : List Meaning
 option_meanings = meanings_of option_rows
 
--- what is asked for where no option but the sector's is given
+-- what is asked for if no option but the sector's is given
 abbrev pub no_options : (sector : ℕ) → VerifyOptions
 no_options sector = record {
   sector = sector;

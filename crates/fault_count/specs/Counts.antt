@@ -1,7 +1,7 @@
 -- How a count of faults rises.
 use Rattle.std.specs.Prelude.{◌≡◌, ℕ, ◌+◌, ◌-◌, ◌^◌, ◌≤◌, min, Result, OnOk, OnErr}
 
--- a count after one more, which stands still at the end of its type
+-- a count after one more, which stays at the end of its type
 abbrev pub raised : ℕ → ℕ
 raised n = min (n + 1) (2 ^ 64 - 1)
 

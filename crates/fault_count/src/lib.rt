@@ -1,4 +1,4 @@
-//! How often calls of an outside object, as a disk or a folder, have failed.
+//! How often calls of an outside object, such as a disk or a folder, have failed.
 #![tactic(auto)]
 
 pub mod schedule;
@@ -8,7 +8,7 @@ ghost use Rattle.fault_count.specs.Counts.{raised};
 
 use std::marker::Model;
 
-/// A count of faults. It starts at 0, never falls, and stands still at 2^64 - 1.
+/// A count of faults. It starts at 0, never falls, and stays at 2^64 - 1.
 #[derive(Debug, Drop)]
 pub struct FaultCount {
     count: u64,

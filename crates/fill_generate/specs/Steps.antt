@@ -93,7 +93,7 @@ module _ (G : Swept → Type 0) (s : Setting) (w : Sweeper) where
 
   -- A sweep stopped at a piece:
   pub data Halted (m m' : Sweep) (heard heard' : Bool) (stop : Stop) (o : Around) : Type 0 where
-    -- for want of memory, before its call
+    -- for lack of memory, before its call
     Starved : stop ≡ NoMemory → w.starves ≡ true → m' ≡ m → heard' ≡ heard → o.site' ≡ o.site → o.clock' ≡ o.clock
         → o.console' ≡ o.console → Halted m m' heard heard' stop o
     -- at its call
@@ -153,7 +153,7 @@ pub record EndsPiece {T : Type 0} (result : Result T Stop) (piece : Piece) (writ
   pub made : OnOk result (Makes (save_after r r' after) o.site o.site')
   pub broke : IfErr result (λ stop. BreaksSave stop (save_after r r' after) o.site o.site')
 
--- A piece was looked up in the output, and what it gave was marked. Where the site tells, that is what the output held.
+-- A piece was looked up in the output, and what it gave was marked. If the site tells, that is what the output held.
 pub record LooksUp (piece : Piece) (r r' : SweepState) (site site' : SiteState) : Type 0 where
   pub got : List ℕ
   pub few : length got ≤ piece.len
@@ -171,8 +171,7 @@ pub data LooksNot (stop : Stop) (piece : Piece) (r : SweepState) (site site' : S
       → Breaks ImageRead (image_read (place (setting_of r) piece.pos) piece.len None ∷ []) site site'
       → LooksNot stop piece r site site'
 
--- what a piece gave that was looked up is what the output holds: where the site tells, and the output isn't overwritten
--- by saves
+-- what a piece gave that was looked up is what the output holds, if the site tells and saves don't overwrite the output
 abbrev pub IsLookedUp : Setting → SiteState → Swept → Type 0
 IsLookedUp s site e =
     IsTrue site.tells → IsApart s.names site → e.got ≡ take e.len (drop (place s e.pos) (bytes_of (image_in site)))

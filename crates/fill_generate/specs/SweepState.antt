@@ -15,7 +15,7 @@ use Rattle.sweep_rules.specs.Sweep.{Sweep}
 use Rattle.fill_generate.specs.declared.mode.SweepMode.{SweepMode}
 
 -- a sweep's settings, its domain, the names of its mapfile and of its draft, the command line, what kind of sweep it is
--- and where it stands; and whether it is heard: lines are asked for, and each was put
+-- and where it is; and whether it is heard: lines are asked for, and each was put
 pub record SweepState : Type 0 where
   pub settings : Settings
   pub domain : List Range
@@ -33,7 +33,7 @@ setting_for settings domain names line = setting_with settings domain (Some name
 abbrev pub setting_of : SweepState → Setting
 setting_of r = setting_for r.settings r.domain r.names r.line
 
--- where a sweep stands, from its parts
+-- where a sweep is, from its parts
 abbrev pub sweep_at : List Status → (cursor : ℕ) → Tally → Sweep
 sweep_at map cursor tally = record { map = map; cursor = cursor; tally = tally }
 

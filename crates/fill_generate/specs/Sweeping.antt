@@ -92,7 +92,7 @@ module _ (s : Setting) (w : Sweeper) (m : Sweep) where
         (save_of s (due_save w (after_pieces w m before) last)) site site'
         → EndsSweep es end site site'
 
-  -- The calls of pieces after which a sweep stopped: for want of memory, at the call of the next one, or at the save
+  -- The calls of pieces after which a sweep stopped: for lack of memory, at the call of the next one, or at the save
   -- that was due after the last one.
   pub data SweepStopsAt (es : List Swept) (stop : Stop) (site site' : SiteState) : Type 0 where
     IsStarved : stop ≡ NoMemory → w.starves ≡ true → (p q : ℕ) → IsPiece s w (after_pieces w m es) p q
@@ -114,13 +114,13 @@ module _ (s : Setting) (w : Sweeper) (m : Sweep) where
     pub ends : EndsSweep events end o.site o.site'
     pub says : SpeaksOn (out_pieces (sweep_lines s w m events end)) heard heard' o.console o.console'
 
-  -- A sweep that looks up pieces in the output, which gave what it held when the sweep began: where the site tells, and
+  -- A sweep that looks up pieces in the output, which gave what it held when the sweep began: if the site tells, and
   -- the output isn't overwritten by the saves.
   pub record LookupTold (heard heard' : Bool) (end : RunEnd) (o : Around) : Type 0 where
     pub sweeps : SweepTold heard heard' end o
     pub given : IsTrue o.site.tells → IsApart s.names o.site → AreGiven s (bytes_of (image_in o.site)) sweeps.events
 
--- law: where the site tells, its record goes on with the calls of a sweep that ended
+-- law: if the site tells, its record goes on with the calls of a sweep that ended
 abbrev pub EndsAreTold : Type 0
 EndsAreTold = (s : Setting) (w : Sweeper) (m : Sweep) (es : List Swept) (end : RunEnd) (site site' : SiteState)
     → EndsSweep s w m es end site site' → IsTrue site.tells

@@ -21,7 +21,7 @@ use rescue_rules::stop::Stop;
 
 /// Reads each piece of the positions that weren't tried from the output, from the lowest up, and marks as finished what
 /// the output holds of it. The buffer is a cluster long; after the call it holds any bytes. The map is saved meanwhile
-/// when it is due, and at the end. It stops if a call on the output or the mapfile fails. For want of memory it stops
+/// when it is due, and at the end. It stops if a call on the output or the mapfile fails. For lack of memory it stops
 /// before a piece whose marks the map has no room for.
 pub fn run_generate<D: Site, K: Clock, C: Console, T: Tiles>(
     job: Job<T>,

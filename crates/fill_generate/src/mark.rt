@@ -18,8 +18,8 @@ pub(crate) fn room_for(sector: u64, pos: u64, end: u64) -> usize
     2 * (end / sector - pos / sector) as usize + 4
 }
 
-/// Marks as finished what an output holds of a piece that begins at a position: of each sector, where one of these
-/// bytes is other than zero, as many positions as there are bytes. They are cut at multiples of the sector; what is
+/// Marks as finished what an output holds of a piece that begins at a position: of each sector in which one of these
+/// bytes isn't zero, as many positions as there are bytes. They are cut at multiples of the sector; what is
 /// marked side by side is one mark.
 pub(crate) fn mark_held<T: Tiles>(tiles: &mut T, sector: u64, pos: u64, bytes: &[u8])
     requires sector { 0 < sector }

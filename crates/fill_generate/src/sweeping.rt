@@ -253,7 +253,7 @@ impl<T: Tiles> Sweeping<T> {
         }
     }
 
-    /// Saves the map at the sweep's end, which is finished where it has no stop; then it says the last line.
+    /// Saves the map at the sweep's end, which is finished if it has no stop; then it says the last line.
     pub fn close<D: Site, C: Console>(
         self,
         stop: Option<Stop>,

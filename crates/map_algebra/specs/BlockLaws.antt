@@ -10,7 +10,7 @@ use Rattle.map_algebra.specs.Blocks.{block_of, is_in_block}
 use Rattle.map_algebra.specs.Create.{created_map}
 use Rattle.map_algebra.specs.Listing.{IsListed, Wanted, has_wanted_type, listed, listed_from}
 
--- the listed numbers ascend, each once, and are those of the blocks in which some wanted position stands
+-- the listed numbers ascend, each once, and are those of the blocks in which some wanted position lies
 abbrev pub ListedAre : Type 0
 ListedAre =
     (w : Wanted) → IsStrictlyIncreasing (listed w)

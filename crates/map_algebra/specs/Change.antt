@@ -16,7 +16,7 @@ changed_by c NonScraped = c.non_scraped
 changed_by c BadSector = c.bad_sector
 changed_by c Finished = c.finished
 
--- the new type at a place, or the last one where there are fewer
+-- the new type at a place, or the last one if there are fewer
 abbrev pub new_type : (new : List ℕ) → ℕ → Option Status
 new_type new i = status_of_symbol (slice_index_or new (min i (length new - 1)) 0)
 
@@ -49,7 +49,7 @@ change_of text = change_in (slice_split (λ c. nat_eq c 44) text)
 abbrev pub inverting : TypeChange
 inverting = change_by (codes "?*/-+") (codes "++++-")
 
--- Each position of the domain has its status changed; the others stand.
+-- Each position of the domain has its status changed; the others keep theirs.
 abbrev pub changed_map : (domain : ℕ → Bool) → TypeChange → List Status → List Status
 changed_map domain change statuses =
     map_by (λ x. if domain x then changed_by change (status_at statuses x) else status_at statuses x)

@@ -17,6 +17,6 @@ created_map s ks domain listed rest end =
 abbrev pub mark_of : Shape → List ℕ → ℕ → Status
 mark_of s ks x = if is_in_blocks s ks x then Finished else NonTried
 
--- what a created map has where this mark stands
+-- what a created map has at this mark
 abbrev pub at_mark : (mark : Status) → (inside : Bool) → (listed rest : Status) → Status
 at_mark mark inside listed rest = if inside then (if same mark Finished then listed else rest) else NonTried

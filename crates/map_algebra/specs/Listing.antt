@@ -1,4 +1,4 @@
--- The numbers of the blocks in which positions of some types stand.
+-- The numbers of the blocks in which positions of some types lie.
 use Rattle.std.specs.Prelude.{◌≡◌, ℕ, ◌+◌, Bool, true, ◌&&◌, nat_eq, nat_le, List, length, filter}
 use Rattle.std.specs.List.{list_any, range_with_len}
 use Rattle.block_list.specs.declared.status.Status.{Status}
@@ -8,7 +8,7 @@ use Rattle.map_algebra.specs.declared.shape.Shape.{Shape}
 use Rattle.map_algebra.specs.At.{status_at}
 use Rattle.map_algebra.specs.Blocks.{block_of}
 
--- what is wanted: the positions of the domain that have one of these types, by the blocks in which they stand
+-- what is wanted: the positions of the domain that have one of these types, by the blocks in which they lie
 pub record Wanted : Type 0 where
   pub domain : ℕ → Bool
   pub types : TypeSet

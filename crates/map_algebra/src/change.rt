@@ -24,7 +24,7 @@ pub struct TypeChange {
 }
 
 impl TypeChange {
-    /// The change that a text asks for: types, a comma, and what they become. None where it is anything else.
+    /// The change that a text asks for: types, a comma, and what they become. None if it is anything else.
     pub fn read(text: &str) -> Option<TypeChange>
         ensures { result ≡ change_of text.now }
     {
@@ -85,7 +85,7 @@ fn change_by(old: &[u8], new: &[u8]) -> TypeChange
     }
 }
 
-/// What becomes of a status where old types become new ones.
+/// What becomes of a status when old types become new ones.
 fn becomes(old: &[u8], new: &[u8], status: Status) -> Status
     ensures { result ≡ becomes old.now new.now status }
 {

@@ -35,7 +35,7 @@ fn marks(alloc: Global, ascending: &[u64], shape: Shape, end: u64) -> Result<Pla
     ensures { IfOk result (λ marks. marks.statuses ≡ map_by (mark_of shape ascending.now) end) }
 {
     let mut marks = PlainTiles::new(alloc);
-    // Blocks that join take less, so the marks may fit where there isn't memory for as many.
+    // Blocks that join take less, so the marks may fit even if there isn't memory for as many.
     let _ = marks.reserve(ascending.len().saturating_mul(2).saturating_add(1));
     for number in ascending {
         let positions = positions_of(*number, shape);
@@ -49,7 +49,7 @@ fn marks(alloc: Global, ascending: &[u64], shape: Shape, end: u64) -> Result<Pla
 }
 
 /// The marks of the positions below an end, by the numbers of the blocks in any order. Numbers that ascend are read
-/// where they stand.
+/// where they are.
 fn marks_of(alloc: Global, numbers: &[u64], shape: Shape, end: u64) -> Result<PlainTiles, NoMemory>
     requires shape { IsShape shape }
     requires limits { All (IsInRange shape) numbers.now }
@@ -63,7 +63,7 @@ fn marks_of(alloc: Global, numbers: &[u64], shape: Shape, end: u64) -> Result<Pl
     marks(alloc, &sorted, shape, end)
 }
 
-/// What a created map has where a piece of the marks stands.
+/// What a created map has at a piece of the marks.
 fn created_at(piece: &DomainPiece, listed: Status, rest: Status) -> Status
     ensures { result ≡ at_mark piece.now.status piece.now.inside listed rest }
 {
@@ -105,8 +105,8 @@ fn created(
 
 /// The map of the positions below an end: those of a domain have one status if they lie in a listed block, and another
 /// elsewhere, and the others are non-tried. Numbers may come in any order and more than once; it takes time n log n in
-/// them, and linear time where they ascend. `NoMemory` says that the memory for the map, or for the numbers once more
-/// where they don't ascend, wasn't there.
+/// them, and linear time if they ascend. `NoMemory` says that the memory for the map, or for the numbers once more if
+/// they don't ascend, wasn't there.
 pub fn create(
     alloc: Global,
     numbers: &[u64],

@@ -1,4 +1,4 @@
-//! The numbers of the blocks in which positions of some types stand.
+//! The numbers of the blocks in which positions of some types lie.
 ghost use Rattle.std.specs.Prelude.{◌≡◌, ◌↔◌, ℕ, ◌+◌, ◌<◌, ◌≤◌, ◌^◌, ◌&&◌, true, IfSome, IfNone};
 ghost use Rattle.block_list.specs.Places.{IsFirst};
 ghost use Rattle.rescue_domain.specs.Domain.{IsIn};
@@ -16,7 +16,7 @@ use block_list::types::TypeSet;
 use rescue_domain::domain::Domain;
 use std::marker::Model;
 
-/// The numbers of the blocks in which wanted positions stand, one after another.
+/// The numbers of the blocks in which wanted positions lie, one after another.
 #[derive(Drop)]
 pub struct Listing {
     types: TypeSet,

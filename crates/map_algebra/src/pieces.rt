@@ -12,14 +12,14 @@ use block_list::status::Status;
 use block_list::tiles::{NoMemory, Tiles};
 use rescue_domain::domain::Domain;
 
-/// Positions up to `to` of one status.
+/// Positions up to `to` with the same status.
 #[derive(Clone, Copy)]
 pub(crate) struct Stretch {
     pub to: u64,
     pub status: Status,
 }
 
-/// Positions up to `to` of one status, all of them in a domain, or none.
+/// Positions up to `to` with the same status, all of them in a domain, or none.
 #[derive(Clone, Copy)]
 pub struct DomainPiece {
     pub to: u64,

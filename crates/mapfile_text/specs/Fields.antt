@@ -52,7 +52,7 @@ abbrev pub above_zero : Option ℕ → Option ℕ
 above_zero None = None
 above_zero (Some n) = if nat_eq n 0 then None else Some n
 
--- the pass by the fields after the current status: a number above 0 where the first of them begins with a digit, else 1
+-- the pass by the fields after the current status: a number above 0 if the first of them begins with a digit, else 1
 abbrev pub pass_of : List (List ℕ) → Option ℕ
 pass_of [] = Some 1
 pass_of (f ∷ fs) = if begins_with_digit f then above_zero (numeral f) else Some 1

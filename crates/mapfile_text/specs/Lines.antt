@@ -6,7 +6,7 @@ use Rattle.std.specs.List.{slice_split}
 abbrev pub is_newline : ℕ → Bool
 is_newline c = nat_eq c 10
 
--- the lines of a text: what stands between its newlines
+-- the lines of a text: what is between its newlines
 abbrev pub lines : List ℕ → List (List ℕ)
 lines text = slice_split is_newline text
 

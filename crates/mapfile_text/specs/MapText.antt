@@ -26,7 +26,7 @@ pub record IsBlockLine (line : Line) (block : Block) : Type 0 where
   pub spells : block_of line.fields ≡ Some block
   pub end : block.pos + block.size < 2 ^ 63
 
--- what may stand between the end of one block and the next: nothing, or in a loose map a gap, which gets a status
+-- what may be between the end of one block and the next: nothing, or in a loose map a gap, which gets a status
 abbrev pub IsGap : Mode → (end pos : ℕ) → List Status → Type 0
 IsGap Tight end pos gap = (pos ≡ end) × (gap ≡ [])
 IsGap (Loose status) end pos gap = (end ≤ pos) × (gap ≡ replicate (pos - end) status)

@@ -9,7 +9,7 @@ use Rattle.mapfile_text.specs.declared.state.MapState.{MapState}
 use Rattle.mapfile_text.specs.declared.read.Mode.{Mode}
 use Rattle.mapfile_text.specs.declared.read.Mode.TheVariants.{Tight, Loose}
 
--- a number, or 2^63 where it is larger
+-- a number, or 2^63 if it is larger
 abbrev pub capped : ℕ → ℕ
 capped n = min n (2 ^ 63)
 
@@ -21,7 +21,7 @@ capped_state s = (capped s.pos, s.current, capped s.pass)
 abbrev pub capped_block : Block → Block
 capped_block b = record { pos = capped b.pos; size = capped b.size; status = b.status }
 
--- what may stand between the end of one block and the next
+-- what may be between the end of one block and the next
 abbrev pub gap_of : Mode → (end pos : ℕ) → List Status
 gap_of Tight end pos = []
 gap_of (Loose status) end pos = replicate (pos - end) status

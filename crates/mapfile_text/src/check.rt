@@ -17,7 +17,7 @@ use block_list::block::Block;
 pub struct MapShape {
     /// How far the run that saved it had come.
     pub state: MapState,
-    /// The position of the first block, 0 where none is listed.
+    /// The position of the first block, 0 if none is listed.
     pub first: u64,
     /// Whether a block is listed.
     pub listed: bool,

@@ -33,7 +33,7 @@ fn ends_field(byte: u8) -> bool
     byte <= b' ' && (is_blank(byte) || byte == b'\n')
 }
 
-/// Where the first byte stands that isn't blank, or the text's length.
+/// Where the first byte that isn't blank is, or the text's length.
 fn field_start(text: &[u8]) -> usize
     ensures value { result ≡ position_or_len (λ c. not (is_blank c)) text.now }
     ensures within { result ≤ length text.now }

@@ -45,7 +45,7 @@ fn hexadecimal(digits: &[u8]) -> Option<u64>
     Some(value)
 }
 
-/// The number that a field is, or the limit where it is larger.
+/// The number that a field is, or the limit if it is larger.
 pub(crate) fn capped_numeral(field: &[u8]) -> Option<u64>
     ensures { result ≡ option_map capped (numeral field.now) }
 {

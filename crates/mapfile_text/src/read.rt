@@ -35,7 +35,7 @@ pub enum Mode {
 pub struct ReadMap {
     /// How far the run that saved it had come.
     pub state: MapState,
-    /// The position of the first block, 0 where none is listed.
+    /// The position of the first block, 0 if none is listed.
     pub first: u64,
     /// Whether a block is listed.
     pub listed: bool,
@@ -143,7 +143,7 @@ fn fill_up_to(tiles: &mut PlainTiles, end: u64, status: Status) -> Result<(), Ma
     append(tiles, Block { pos, size, status })
 }
 
-/// Fills what stands between the last position and the block of a line.
+/// Fills what is between the last position and the block of a line.
 fn fill_gap(
     tiles: &mut PlainTiles,
     mode: Mode,

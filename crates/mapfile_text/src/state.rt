@@ -38,7 +38,7 @@ impl Current {
     }
 }
 
-/// Where a run stands: its position in bytes, what it does there, and in which pass, counted from 1.
+/// Where a run is: its position in bytes, what it does there, and in which pass, counted from 1.
 #[derive(Clone, Copy, Debug, PartialEq, Eq)]
 pub struct MapState {
     pub pos: u64,

@@ -78,7 +78,7 @@ impl MemoryChannel {
         }
     }
 
-    /// Puts a whole piece, or nothing of it where it is to fail or finds no memory.
+    /// Puts a whole piece, or nothing of it if it is to fail or finds no memory.
     fn put(
         &mut self,
         piece: &[u8],

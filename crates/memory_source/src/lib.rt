@@ -1,4 +1,4 @@
-//! An input in memory whose reads fail where a test wants it.
+//! An input in memory whose reads fail as a test asks.
 #![tactic(auto)]
 
 pub mod memory;

@@ -67,7 +67,7 @@ fn take_attempts(bad: &mut [BadRange], x: u64)
     }
 }
 
-/// Takes one attempt from the ranges that a read met, where it failed.
+/// Takes one attempt from the ranges that a read met, if it failed.
 fn end_read(bad: &mut [BadRange], pos: u64, asked: usize, got: Got)
     requires { pos + count_of got < 2 ^ 63 }
     ensures { bad.new ≡ bad_after bad.old pos asked got }

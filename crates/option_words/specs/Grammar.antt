@@ -83,7 +83,7 @@ unread_error (MissingValue n) = Usage (Word (MissingValue n)) false
 unread_error (UnwantedValue n) = Usage (Word (UnwantedValue n)) false
 unread_error OutOfMemory = NoMemory
 
--- why words ask for nothing; want of memory is free
+-- why words ask for nothing; lack of memory is free
 abbrev pub IsErrorBy : {C : Type 0} → Grammar C → List (List ℕ) → CommandError → Type 0
 IsErrorBy g words (Usage fault quiet) = IsRefusalBy g words fault quiet
 IsErrorBy g words NoMemory = ⊤

@@ -25,7 +25,7 @@ ReadingHasNoFault =
     (rows : List Row) (words : List (List ℕ)) (items : List Item) (operands : List ℕ) (fault : WordFault)
     → IsReading rows words items operands → WordFaultAt rows words fault → ⊥
 
--- no words have want of memory as their fault
+-- no words have lack of memory as their fault
 abbrev pub NoWordsLackMemory : Type 0
 NoWordsLackMemory = (rows : List Row) (words : List (List ℕ)) → WordFaultAt rows words NoMemory → ⊥
 

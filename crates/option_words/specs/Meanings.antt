@@ -79,7 +79,7 @@ letters_meaning rows n at (c ∷ cs) =
     letter_meaning (first_row (has_letter c) 0 rows) n c (at + len_utf8 c) cs
     (letters_meaning rows n (at + len_utf8 c) cs)
 
--- where the first `=` stands
+-- where the first `=` is
 abbrev pub equals_sign : List ℕ → Option ℕ
 equals_sign text = position (λ b. nat_eq b 61) text
 

@@ -11,6 +11,6 @@ pub record Took (old new : Reader) (b : Brought) : Type 0 where
   pub operands : new.operands.items ≡ old.operands.items ++ b.operands
   pub next : new.next ≡ b.next
 
--- the fault of a meaning, except want of memory, which is free
+-- the fault of a meaning, except lack of memory, which is free
 abbrev pub IsFaultOf : Result Brought WordFault → WordFault → Type 0
 IsFaultOf meant fault = (fault ≡ NoMemory) ⊎ (meant ≡ Err fault)

@@ -9,7 +9,7 @@ LastCounts = (options : List Meaning) (letter : ℕ) (before after : List Item) 
     → is_of options letter i ≡ true → is_given options letter after ≡ false
     → last_of options letter (before ++ i ∷ after) ≡ Some i
 
--- no option of a letter counts where none of that letter is given
+-- no option of a letter counts if none of that letter is given
 abbrev pub NoneCounts : Type 0
 NoneCounts = (options : List Meaning) (letter : ℕ) (items : List Item)
     → is_given options letter items ≡ false → last_of options letter items ≡ None

@@ -110,7 +110,7 @@ word_in (Some i) = i.word
 abbrev pub is_empty_text : List ℕ → Bool
 is_empty_text text = nat_eq (length text) 0
 
--- a sector's size in bytes, where no option gives it
+-- a sector's size in bytes, if no option gives it
 abbrev pub default_sector : ℕ
 default_sector = 512
 
@@ -159,14 +159,14 @@ abbrev pub with_item : {O : Type 0} → List (OptionRow O) → (sector : ℕ) �
 with_item rows sector words o i =
     ok_or (set_by (slice_get rows i.row) sector o (value_of words i.value)) (word_at i.value)
 
--- what all options set where the sector is known
+-- what all options set if the sector is known
 abbrev pub options_with : {O : Type 0} → List (OptionRow O) → (none : ℕ → O) → List (List ℕ) → List Item
     → (sector : Result ℕ ℕ) → Result O ℕ
 options_with rows none words items (Err n) = Err n
 options_with rows none words items (Ok sector) = set_in_turn (with_item rows sector words) (Ok (none sector)) items
 
 -- What all options ask for, or the word of the first bad value: those that give the sector, which are those of this
--- letter, come first, then all in their order. `none` is what is asked for where no other option is given.
+-- letter, come first, then all in their order. `none` is what is asked for if no other option is given.
 abbrev pub options_in : {O : Type 0} → List (OptionRow O) → (letter : ℕ) → (none : ℕ → O) → List (List ℕ)
     → List Item → Result O ℕ
 options_in rows letter none words items =

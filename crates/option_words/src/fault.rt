@@ -28,7 +28,7 @@ pub enum WordFault {
 /// Why words ask for nothing that can be done. Words are counted from 1.
 #[derive(Clone, Copy, Debug, PartialEq, Eq, Error)]
 pub enum UsageFault {
-    /// The words can't be read. Want of memory isn't among these: it is no fault of the words.
+    /// The words can't be read. Lack of memory isn't among these: it is no fault of the words.
     #[error("{0}")]
     Word(WordFault),
     /// The value that begins in this word is refused.

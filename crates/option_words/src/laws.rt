@@ -16,7 +16,7 @@ pub fn words_that_are_read_have_no_fault()
     ensures { ReadingHasNoFault }
 {}
 
-/// Want of memory is no fault of words.
+/// Lack of memory is no fault of words.
 pub fn words_never_lack_memory()
     ensures { NoWordsLackMemory }
 {}

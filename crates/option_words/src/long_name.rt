@@ -13,7 +13,7 @@ pub(crate) struct LongName<'a> {
     pub value: Option<Spot>,
 }
 
-/// Where the first `=` stands.
+/// Where the first `=` is.
 fn find_sign(text: &[u8]) -> Option<usize>
     ensures value { result ≡ equals_sign text.now }
     ensures within { IfSome result (λ k. k < length text.now) }

@@ -18,15 +18,15 @@ pub trait OptionValues: Copy {
     /// The rows of the program's options.
     ghost rows: { List (OptionRow Self) };
 
-    /// What is asked for by the size of a sector where no other option is given.
+    /// What is asked for by the size of a sector if no other option is given.
     ghost start: { ℕ → Self };
 
-    /// What is asked for where no option but the sector's is given.
+    /// What is asked for if no option but the sector's is given.
     fn none(sector: u64) -> Self
         ensures { result ≡ start sector };
 
-    /// What the option of a row sets by the text of its value, if it has one; nothing where that is a bad value, or
-    /// where there is no such row. Rows are counted from 0.
+    /// What the option of a row sets by the text of its value, if it has one; nothing if that is a bad value, or if
+    /// there is no such row. Rows are counted from 0.
     fn with_row(self, sector: u64, row: usize, value: Option<&str>) -> Option<Self>
         requires low { 0 < sector }
         requires high { sector ≤ 1048576 }

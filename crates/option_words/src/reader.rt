@@ -19,7 +19,7 @@ use crate::table::OptionTable;
 use crate::words::Words;
 use std::alloc::Global;
 
-/// An option that takes the next word as its value, and the word in which it stands.
+/// An option that takes the next word as its value, and the word in which it is.
 #[derive(Clone, Copy, Debug, PartialEq, Eq)]
 pub(crate) struct WantedValue {
     pub row: usize,
@@ -229,7 +229,7 @@ pub fn read_words(
     table: &OptionTable,
 ) -> Result<WordReading, WordFault>
     ensures reading { IfOk result (λ r. IsReading table.now words.now r.items.items r.operands.items) }
-    // Each value stands in the words, so that its text can be asked for.
+    // Each value is part of the words, so that its text can be asked for.
     ensures spots { IfOk result (λ r. All (HasSpot words.now) r.items.items) }
     ensures fault { IfErr result (λ e. (e ≡ OutOfMemory) ⊎ WordFaultAt table.now words.now e) }
 {

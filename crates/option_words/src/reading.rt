@@ -1,6 +1,6 @@
 //! What the reading of words gives: options, operands, and where each was.
 
-/// Where a value stands: in a word, counted from 1, from a byte on to the word's end.
+/// Where a value is: in a word, counted from 1, from a byte on to the word's end.
 #[derive(Clone, Copy, Debug, PartialEq, Eq)]
 pub struct Spot {
     pub word: usize,

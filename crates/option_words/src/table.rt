@@ -22,8 +22,8 @@ impl Model for OptionTable {
 }
 
 impl OptionTable {
-    /// The table of these rows. There is none where two rows share a letter or a name, a letter is `-`, or a name is
-    /// empty or holds `=`.
+    /// The table of these rows. There is none if two rows share a letter or a name, a letter is `-`, or a name is empty
+    /// or holds `=`.
     pub fn checked(rows: &'static [Row]) -> Option<OptionTable>
         ensures checks { is_some result ≡ is_table rows.now }
         ensures rows { IfSome result (λ t. t ≡ rows.now) }

@@ -13,7 +13,7 @@ pub fn last_option_counts()
     ensures { LastCounts }
 {}
 
-/// Where no option of a letter is given, none counts.
+/// If no option of a letter is given, none counts.
 pub fn none_counts_where_none_is_given()
     ensures { NoneCounts }
 {}

@@ -8,7 +8,7 @@ use crate::words::Words;
 use size_suffixes::number::read_number;
 use size_suffixes::size::read_size;
 
-/// The size of a sector in bytes, where no option gives it.
+/// The size of a sector in bytes, if no option gives it.
 pub(crate) const DEFAULT_SECTOR: u64 = 512;
 
 /// The largest sector in bytes.

@@ -73,7 +73,7 @@ pub record AreHalfFull (entries : List PageEntry) : Type 0 where
 abbrev pub naming : ℕ → List PageEntry → ℕ
 naming n es = count_by (λ (e : PageEntry). nat_eq e.page n) es
 
--- how often a number stands among the free ones
+-- how often a number is among the free ones
 abbrev pub times_free : ℕ → List ℕ → ℕ
 times_free n free = count_by (λ (m : ℕ). nat_eq m n) free
 

@@ -26,7 +26,7 @@ use std::marker::Model;
 use std::sync::ledger::Ledger;
 
 /// A map as pages of at most 64 blocks and a list of their places.
-// The end stands where a plain list has its own, so that a map of either form reads it alike.
+// The end is where a plain list has its own, so that a map of either form reads it alike.
 #[derive(Drop)]
 pub struct Pages {
     pages: Vec<Page>,
@@ -109,7 +109,7 @@ impl Pages {
         by_position::stretch_at(&self.pages, &self.entries, x)
     }
 
-    /// `stretch_at`, which looks at `near` first, and has it say where that stretch stands.
+    /// `stretch_at`, which looks at `near` first, and has it say where that stretch is.
     pub fn stretch_near(&self, near: &mut Near, x: u64) -> Block
         requires { x < length self.now.statuses }
         ensures { IsStretchAt self.now.statuses x result }

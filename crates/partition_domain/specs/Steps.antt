@@ -113,7 +113,7 @@ pub record TookRecord (k : ℕ) (main : List ℕ) (chain : List (List ℕ)) (res
   pub next : AreNext k (main ∷ chain) reads
   pub to : TurnsTo k main (chain ++ records_of reads) result
 
--- what a turn does, wherever the chain stands
+-- what a turn does, wherever the chain is
 abbrev pub Turns : (k : ℕ) → (main : List ℕ) → (c : Chain) → (chain : List (List ℕ)) → Result Link SearchStop
     → (old new : SourceState) → Type 0
 Turns k main c chain result old new = StandsAfter main c chain → TookRecord k main chain result old new

@@ -12,7 +12,7 @@ use faulty_source::source::Source;
 ///
 /// # Errors
 ///
-/// `SourceLost`; `Unread` where the read gave less than a sector; `NoSignature` where the sector isn't a record.
+/// `SourceLost`; `Unread` if the read gave less than a sector; `NoSignature` if the sector isn't a record.
 pub(crate) fn read_table<S: Source>(source: &mut S, sector: u64) -> Result<Table, SearchStop>
     requires opened { (S.state source.old).is_open ≡ true }
     requires near { sector < 2 ^ 34 }

@@ -65,7 +65,7 @@ impl TableEntry {
         self.kind == PROTECTIVE
     }
 
-    /// The partition that the entry is for, where its first sector counts from sector 0 on.
+    /// The partition that the entry is for, if its first sector counts from sector 0 on.
     pub(crate) fn partition(self) -> Partition
         ensures is { result ≡ record { first = self.first; count = self.count } }
         ensures first { result.first < 2 ^ 34 }
@@ -77,7 +77,7 @@ impl TableEntry {
         }
     }
 
-    /// The partition that the entry is for, where its first sector counts from another one on.
+    /// The partition that the entry is for, if its first sector counts from another one on.
     pub(crate) fn partition_from(self, sector: u64) -> Partition
         requires { sector < 2 ^ 33 }
         ensures is { result ≡ record { first = sector + self.first; count = self.count } }

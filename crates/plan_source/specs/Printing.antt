@@ -26,7 +26,7 @@ is_line_lost None = false
 is_line_lost (Some Memory) = false
 is_line_lost (Some Console) = true
 
--- no read was lost without a reason, and one was, at least, where there was no memory for it
+-- no read was lost without a reason, and at least one was if memory was short
 pub record AreCounted (lost : Option PlanLoss) (losses : ℕ) : Type 0 where
   pub none : lost ≡ None → losses ≡ 0
   pub some : lost ≡ Some Memory → 0 < losses
@@ -44,8 +44,8 @@ last_of entries = drop (length entries - 1) entries
 abbrev pub but_last : List ReadEntry → List ReadEntry
 but_last entries = take (length entries - 1) entries
 
--- the lines of a journal were put, in order, but the last one's put failed: a beginning of it stands, and nothing of it
--- where it failed by a schedule
+-- the lines of a journal were put, in order, but the last one's put failed: a beginning of it was put, and nothing of
+-- it if it failed by a schedule
 pub record BreaksLast (entries : List ReadEntry) (start now : ConsoleState) : Type 0 where
   pub some : 0 < length entries
   pub stays : StaysBeside Out start now

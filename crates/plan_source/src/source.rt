@@ -174,7 +174,7 @@ impl<C: Console, T: Tiles, O: Origin> Source for PlanSource<'_, C, T, O> {
     ghost state = { λ s. plan_source_state s.length (T.statuses s.tiles) s.console.ghost_name s.entries.items
         s.name.items (s.opened && s.idle) s.opens s.faults s.losses };
 
-    /// Every name opens. It faults for want of memory alone, since the name is kept.
+    /// Every name opens. It faults for lack of memory alone, since the name is kept.
     fn open_input(&mut self, name: &str) -> Result<u64, SourceFault> {
         self.opens.raise();
         self.opened = false;

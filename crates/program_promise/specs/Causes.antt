@@ -4,12 +4,12 @@ use Rattle.fault_count.specs.Counts.{raised}
 use Rattle.program_promise.specs.World.{WorldState}
 use Rattle.program_promise.specs.Kinds.{Failure, AtOpen, AtRead, AtCall, AtCallAfterRead, AtTake, AtPut, Kind, Asked, Brought, Wrong, Failed, Starved}
 
--- a count that stands
+-- a count that stays
 abbrev pub unchanged : ℕ → ℕ
 unchanged n = n
 
 -- what becomes of each count: of opens, of reads, of calls on the files, of takes and of puts on standard output that
--- failed; a count at the end of its type stands
+-- failed; a count at the end of its type stays there
 pub record Changes : Type 0 where
   pub opens : ℕ → ℕ
   pub reads : ℕ → ℕ

@@ -21,12 +21,12 @@ pub record Program (C E O : Type 0) : Type 1 where
   pub faults : Faults E
   -- which answers a command may have;
   pub Fits : C → E → Type 0
-  -- the work: its rows, and what is run after them, where the command line may be shown;
+  -- the work: its rows, and what is run after them, if the command line may be shown;
   pub rows : C → O → List (WorkStep E)
   pub Run : C → (line : List ℕ) → O → E → Deeds → Type 0
   -- that what was found and done is what the objects tell, before and after the work;
   pub Agrees : C → O → Deeds → (old new : WorldState) → Type 0
-  -- what the work leaves: what is put on standard output, where the command line may be shown, and whatever the answer
+  -- what the work leaves: what is put on standard output, if the command line may be shown, and whatever the answer
   -- says besides of the feed, of the files and of what a stop may find;
   pub Leaves : C → (line : List ℕ) → O → E → Deeds → (old new : WorldState) → Type 0
   -- what holds of the objects when the program is called, and what stays so, whatever the words ask for.

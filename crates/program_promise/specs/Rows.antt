@@ -42,7 +42,7 @@ usage_row fault = record { kind = usage_kind fault; status = 1; text = usage_tex
 abbrev pub failed_row : Failure → (text : List ℕ) → AnswerRow
 failed_row at text = record { kind = Failed at; status = 1; text = text; also = ⊤ }
 
--- want of memory, of status 4
+-- lack of memory, of status 4
 abbrev pub starved_row : AnswerRow
 starved_row = record { kind = Starved; status = 4; text = codes "out of memory"; also = ⊤ }
 

@@ -24,7 +24,7 @@ module _ {C E O : Type 0} (p : Program C E O) where
 
   -- what a program has to show, so that the laws of all programs follow
   pub record IsWellMade : Type 0 where
-    -- Want of memory has an answer of its kind, and so have words that are refused; then nothing may have been done;
+    -- Lack of memory has an answer of its kind, and so have words that are refused; then nothing may have been done;
     pub memory : kind_of p p.faults.memory ≡ Starved
     pub memory_idle : IsIdleAnswer p.faults.memory
     pub wrong : (fault : UsageFault) → p.HasFault fault → kind_of p (p.wrong fault) ≡ Wrong fault

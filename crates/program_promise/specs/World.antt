@@ -15,7 +15,7 @@ pub record WorldState : Type 0 where
   pub feed_ : FeedState
   pub console : ConsoleState
 
--- An input for a program that isn't handed one: it tells nothing, and stands still. The same goes for `no_site`,
+-- An input for a program that isn't handed one: it tells nothing, and never changes. The same goes for `no_site`,
 -- `no_clock` and `no_feed`.
 abbrev pub no_source : SourceState
 no_source = record {

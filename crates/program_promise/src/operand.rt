@@ -14,7 +14,7 @@ pub enum Operand {
     Draft,
 }
 
-/// The first two files that have one name.
+/// The first two files that have the same name.
 pub fn find_same(infile: &str, outfile: &str, names: &Names) -> Option<(Operand, Operand)>
     ensures { result ≡ first_same infile.now outfile.now names.now }
 {

@@ -4,10 +4,10 @@ ghost use Rattle.std.specs.IoError.{error_kind};
 
 use std::io::{self, ErrorKind};
 
-/// The exit status where memory runs out before the program's work begins.
+/// The exit status if memory runs out before the program's work begins.
 pub const NO_MEMORY: u8 = 4;
 
-/// The exit status where something other than memory fails before the program's work begins.
+/// The exit status if something other than memory fails before the program's work begins.
 pub const FAILED: u8 = 1;
 
 /// The exit status of a program whose work ended with a status, or never began.

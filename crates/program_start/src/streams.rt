@@ -34,7 +34,7 @@ fn open_stream(rt: &HostRuntime, reads: bool, writes: bool) -> io::Result<File> 
 ///
 /// # Errors
 ///
-/// Where `/dev/null` can't be opened.
+/// If `/dev/null` can't be opened.
 pub fn fill_streams(rt: &HostRuntime, closed: ClosedStream) -> io::Result<()> {
     for _ in 0..STREAMS {
         let null = open_stream(rt, true, true)?;

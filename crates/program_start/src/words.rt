@@ -22,11 +22,11 @@ fn words_of(alloc: Global, args: Args) -> Result<Words, NoMemory>
     Ok(words)
 }
 
-/// The words of the command line, without the program's own name. Where one isn't UTF-8, standard error says so.
+/// The words of the command line, without the program's own name. If one isn't UTF-8, standard error says so.
 ///
 /// # Errors
 ///
-/// `OutOfMemory`; and what `std::env::args` answers, where a word is no text.
+/// `OutOfMemory`; and what `std::env::args` answers, if a word is no text.
 pub fn collect_words(rt: &HostRuntime, program: &str) -> io::Result<Words> {
     match env::args(rt) {
         Ok(args) => {

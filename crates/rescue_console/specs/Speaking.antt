@@ -64,7 +64,7 @@ HeardSpeak = (ps : List SpokenPiece) (h' : Bool) (a b : ConsoleState) → Speaks
 abbrev pub OnePieceIsSaid : Type 0
 OnePieceIsSaid = (p : SpokenPiece) (a b : ConsoleState) → PutsWhole p a b → SpeaksOn (p ∷ []) true true a b
 
--- Who is heard at last has put all pieces: where the console tells, a channel's texts come after what was on it.
+-- Who is heard at last has put all pieces: if the console tells, a channel's texts come after what was on it.
 abbrev pub SpokenIsPut : Type 0
 SpokenIsPut = (ps : List SpokenPiece) (a b : ConsoleState) → SpeaksOn ps true true a b → IsTrue a.tells
     → (channel : Channel) → (channel_of channel b).text ≡ (channel_of channel a).text ++ texts_on channel ps

@@ -11,7 +11,7 @@ pub trait Feed {
     /// What it tells: the bytes that weren't taken yet, and how often a take failed.
     ghost state: { Self → FeedState };
 
-    /// Takes bytes to the buffer's front, and answers how many: 0 exactly where none is left.
+    /// Takes bytes to the buffer's front, and answers how many: 0 exactly when none is left.
     fn take(&mut self, buf: &mut [u8]) -> Result<usize, FeedFault>
         requires { 0 < length buf.old }
         ensures count { IfOk result (λ n. n ≤ length buf.old) }

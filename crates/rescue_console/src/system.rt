@@ -30,7 +30,7 @@ pub struct SystemClock {
     rt: HostRuntime,
     start: Option<ClockStart>,
     last: u64,
-    /// The last reading stands until the clock that isn't set back comes to this, the end of its millisecond.
+    /// The last reading is given again until the clock that isn't set back comes to this, the end of its millisecond.
     until: Duration,
 }
 

@@ -39,7 +39,7 @@ Marks settings phase progress request kept map map' =
 abbrev pub Meets : Settings → Kept → Option ℕ → Type 0
 Meets settings kept end = (reading : Reading) → IsCut settings.sector reading (fetched_of kept) → end ≡ end_met reading
 
--- where the run stands after the read
+-- where the run is after the read
 abbrev pub Places : Settings → Phase → Progress → Request → Turn → (top : ℕ) → (more : Bool) → Progress → Type 0
 Places settings phase progress request turn top more progress' =
     (r : RunState) (e : Event) → RunsAt settings phase progress r → IsReadOf request turn.given turn.ended e.reading

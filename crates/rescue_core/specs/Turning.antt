@@ -77,7 +77,7 @@ pub record Turned (request : Request) (turn : Turn) (r r' : RunState) (o : Acros
 
 -- A turn that stopped:
 pub data Halted (request : Request) (stop : Stop) (r r' : RunState) (o : Across) : Type 0 where
-  -- for want of memory, before it read anything
+  -- for lack of memory, before it read anything
   Starved : stop ≡ NoMemory → r' ≡ r → o.source' ≡ o.source → o.site' ≡ o.site → o.clock' ≡ o.clock
       → o.console' ≡ o.console → Halted request stop r r' o
   -- in its read, which was lost

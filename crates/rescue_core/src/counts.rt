@@ -125,7 +125,7 @@ fn failed_less<T: Tiles>(
     }
 }
 
-/// How many areas there are where one more may begin, and where one may not begin any more.
+/// How many areas there are after a change: one more if one begins, and one fewer if one ends.
 fn moved(areas: u64, begins: bool, ends: bool) -> u64
     ensures { (new : ℕ) → new + (if ends then 1 else 0) ≡ areas + (if begins then 1 else 0) → new < 2 ^ 63
         → result ≡ new }

@@ -100,9 +100,9 @@ impl<P: Stage, T: Tiles> Model for Rescue<P, T> {
 }
 
 impl<T: Tiles> Rescue<Copying, T> {
-    /// A rescue of a domain of a map, at this moment (milliseconds since 1970): in copying's first pass, or in that of
-    /// a state that a mapfile showed, where it resumes from its position. Without a mapfile it saves nothing. It reads
-    /// into a buffer for a cluster, and says lines if it is heard.
+    /// A rescue of a domain of a map, at this moment (milliseconds since 1970): in copying's first pass, or from the
+    /// position and in the pass of a state that a mapfile showed. Without a mapfile it saves nothing. It reads into a
+    /// buffer for a cluster, and says lines if it is heard.
     pub fn start(
         buf: Vec<u8>,
         settings: Settings,
@@ -264,7 +264,7 @@ impl<P: Stage, T: Tiles> Rescue<P, T> {
 
     /// One turn: room in the map, a reading of the clock, the read, another reading, the write of what was kept, and
     /// the marks. The line follows, if one is due and the rescue is heard, and the save, if one is due. Without a
-    /// mapfile none is. Want of memory comes before the read; a lost read or a failed write leaves the range as it was,
+    /// mapfile none is. Lack of memory comes before the read; a lost read or a failed write leaves the range as it was,
     /// and says nothing; a call of the save may fail after the marks. After a put that fails it isn't heard any more.
     // Inlined in the loop of each phase, or a request of one sector costs half as much again (bench/turns).
     #[inline(always)]

@@ -201,7 +201,7 @@ pub(crate) fn next_request<T: Tiles>(
     request_by(settings, live, tiles, search, status_of(phase))
 }
 
-/// Whether a phase at a place trims upwards, and stands before a range.
+/// Whether a phase at a place trims upwards, and is before a range.
 pub(crate) fn leads_up(settings: &Settings, phase: Phase, progress: &Progress) -> bool
     ensures phase { result ≡ true → phase ≡ Trimming }
     ensures mode { result ≡ true → progress.now.mode ≡ Lead }

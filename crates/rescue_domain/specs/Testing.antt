@@ -17,7 +17,7 @@ pub record IsFront (statuses : List Status) (pos n front : ℕ) : Type 0 where
   pub finished : (x : ℕ) → pos ≤ x → x < pos + front → is_finished_at statuses x ≡ true
   pub stops : front < n → is_finished_at statuses (pos + front) ≡ false
 
--- a read as it is seen in test mode: where it gave a byte of a position that isn't finished, it failed at the first of
+-- a read as it is seen in test mode: if it gave a byte of a position that isn't finished, it failed at the first of
 -- these; else it is as it was
 abbrev pub seen : (statuses : List Status) → Reading → Reading
 seen statuses r =

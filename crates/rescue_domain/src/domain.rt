@@ -74,7 +74,7 @@ impl Domain {
         Ok(domain)
     }
 
-    /// Leaves the positions that are finished in a map. It is as before where memory for the intervals of the new set
+    /// Leaves the positions that are finished in a map. It is as before if memory for the intervals of the new set
     /// wasn't there.
     pub fn keep_finished<T: Tiles>(&mut self, tiles: &T) -> Result<(), NoMemory>
         ensures kept { OnOk result ((x : ℕ)

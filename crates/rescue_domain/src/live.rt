@@ -6,8 +6,8 @@ ghost use Rattle.rescue_domain.specs.Domain.{IsIn};
 use crate::domain::Domain;
 use block_list::block::Range;
 
-/// The positions of a domain that lie before an end, if one was met. The domain itself stands, since what was read of
-/// it before is still promised.
+/// The positions of a domain that lie before an end, if one was met. The domain itself stays, since what was read of it
+/// before is still promised.
 #[derive(Clone, Copy)]
 pub struct Live<'a> {
     pub domain: &'a Domain,

@@ -29,7 +29,7 @@ enum Start {
 #[derive(Clone, Copy, Debug, PartialEq, Eq)]
 pub struct Figures {
     pub head: Head,
-    /// Where a mapfile would show that the run stands.
+    /// Where a mapfile would show that the run is.
     pub position: u64,
     /// In bytes.
     pub rescued: u64,

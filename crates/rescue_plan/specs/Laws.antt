@@ -35,7 +35,7 @@ abbrev pub PlanIsOne : Type 0
 PlanIsOne = (o : Options) (length : ℕ) (test : List Status) (reads : List PlannedRead) → ArePlain o
     → IsPlan (plan_setting o length) length test reads → IsOnePlan (plan_setting o length) length test reads
 
--- Where there is a plan, what its run put on standard output is a beginning of its lines, however it ended.
+-- If there is a plan, what its run put on standard output is a beginning of its lines, however it ended.
 abbrev pub PlanIsBegun : Type 0
 PlanIsBegun = (c : Command) (test : List Status) (end : PlanEnd) (old new : ConsoleState) (reads : List PlannedRead)
     → ArePlain c.options.rescue → PutsPlan c test end old new
@@ -52,8 +52,8 @@ pub record AreUnlimited (o : Options) : Type 0 where
   pub limits : o.limits ≡ no_limits
 
 module _ (c : RescueCommand) (line : List ℕ) (length time : ℕ) (test : List Status) where
-  -- The reads of a rescue, as they are seen in test mode, where the input gave all that it was asked for: a run over a
-  -- map that wasn't tried, at whatever times.
+  -- The reads of a rescue, as they are seen in test mode, if the input gave all that it was asked for: a run over a map
+  -- that wasn't tried, at whatever times.
   pub record RescueReads (raw : List Reading) (events : List Event) : Type 0 where
     pub whole : All (λ r. is_whole r ≡ true) raw
     pub ends : All EndsShort raw

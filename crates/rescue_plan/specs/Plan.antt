@@ -20,7 +20,7 @@ use Rattle.plan_source.specs.Lines.{PlannedRead, planned}
 abbrev pub untried_map : (length : ℕ) → List Status
 untried_map length = replicate length NonTried
 
--- what options ask for of an input with a length, where no file has a name and nothing is saved
+-- what options ask for of an input with a length, if no file has a name and nothing is saved
 abbrev pub plan_setting : Options → (length : ℕ) → Setting
 plan_setting o length = setting_asked [] [] None [] o length no_maps
 

@@ -48,7 +48,7 @@ pub record PutsFirst (c : Command) (test : List Status) (old new : ConsoleState)
   pub first : BeginsPlan (plan_setting c.options.rescue c.length) c.length test reads
   pub puts : Puts Out (lines_of reads) old new
 
--- the lines of a plan's first reads were put, but the last one's put failed: a beginning of that line may stand
+-- the lines of a plan's first reads were put, but the last one's put failed: a beginning of that line may be there
 pub record PutsPlanBroken (c : Command) (test : List Status) (old new : ConsoleState) : Type 0 where
   pub reads : List PlannedRead
   pub next : PlannedRead

@@ -12,7 +12,7 @@ pub fn a_plan_is_begun()
 {}
 
 /// What a rescue reads in test mode, of an input that gives all that it is asked for, are the first reads of the plan
-/// for the same options, and all of it where no request is left.
+/// for the same options, and all of it if no request is left.
 pub fn a_rescue_is_planned()
     ensures { RescuesArePlanned }
 {}

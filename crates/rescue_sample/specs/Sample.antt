@@ -38,7 +38,7 @@ bad_sectors kib = map (λ k. sector_meant kib (drawn kib k)) (range_with_len 1 (
 abbrev pub is_in_one : List ℕ → ℕ → Bool
 is_in_one sectors x = list_any (λ sector. nat_eq (x / 512) sector) sectors
 
--- the position is bad for ever
+-- the position is bad forever
 abbrev pub is_bad : (kib x : ℕ) → Bool
 is_bad kib x = is_in_one (bad_sectors kib) x
 

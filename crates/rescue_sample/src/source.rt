@@ -16,8 +16,8 @@ pub struct Answered {
     pub failed: u64,
 }
 
-/// A sample: its byte at x is x mod 251, and some of its sectors, which are drawn by its size, stay bad for ever. An
-/// open fails, and a read is a loss, only for want of memory.
+/// A sample: its byte at x is x mod 251, and some of its sectors, which are drawn by its size, stay bad forever. An
+/// open fails, and a read is a loss, only for lack of memory.
 #[derive(Drop)]
 pub struct SampleSource {
     kib: u64,

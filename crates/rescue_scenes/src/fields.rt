@@ -123,11 +123,11 @@ fn close(bytes: Vec<u8>, after: &[u8], quote: usize) -> Result<(Field, usize), R
 #[derive(Clone, Copy)]
 enum NextByte {
     Text,
-    /// A backslash stands before it.
+    /// A backslash comes before it.
     Escape,
-    /// `\x` stands before it.
+    /// `\x` comes before it.
     FirstDigit,
-    /// `\x` and this digit stand before it.
+    /// `\x` and this digit come before it.
     SecondDigit(u8),
 }
 

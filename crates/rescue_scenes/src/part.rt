@@ -8,7 +8,7 @@ use memory_source::memory::MemorySource;
 use option_words::words::Words;
 use std::alloc::Global;
 
-/// Runs ddrescuepart, and adds its results. Where it finds no memory there is no answer: a scene can't ask for that.
+/// Runs ddrescuepart, and adds its results. If it finds no memory there is no answer: a scene can't ask for that.
 pub(crate) fn play_part(
     alloc: Global,
     words: &Words,

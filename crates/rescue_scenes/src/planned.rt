@@ -7,7 +7,7 @@ use memory_site::memory::MemorySite;
 use option_words::words::Words;
 use std::alloc::Global;
 
-/// Runs ddrescueplan. Where it finds no memory there is no answer: a scene can't ask for that.
+/// Runs ddrescueplan. If it finds no memory there is no answer: a scene can't ask for that.
 pub(crate) fn plan(
     alloc: Global,
     words: &Words,

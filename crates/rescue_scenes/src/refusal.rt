@@ -30,7 +30,7 @@ impl<T: Drop> From<AllocFailed<T>> for Refusal {
     }
 }
 
-/// A write to memory fails for want of memory alone.
+/// A write to memory fails for lack of memory alone.
 impl From<io::Error> for Refusal {
     fn from(_error: io::Error) -> Refusal {
         Refusal::NoMemory

@@ -34,7 +34,7 @@ const FILES_LIMIT: usize = 256;
 pub(crate) struct Scene {
     alloc: Global,
     stated: Stated,
-    /// The source of the runs so far. A new one is made for the next run where there is none.
+    /// The source of the runs so far. A new one is made for the next run if there is none.
     source: Option<MemorySource>,
     site: MemorySite,
     /// The readings of the clock of each run.
@@ -52,7 +52,7 @@ pub(crate) struct Scene {
 }
 
 /// Runs a rescue with a clock of these readings.
-/// Where it finds no memory there is no answer: a scene can't ask for that.
+/// If it finds no memory there is no answer: a scene can't ask for that.
 fn rescue(
     alloc: Global,
     words: &Words,
@@ -72,7 +72,7 @@ fn rescue(
     Ok(ending)
 }
 
-/// Runs ddrescuelog. Where it finds no memory there is no answer.
+/// Runs ddrescuelog. If it finds no memory there is no answer.
 fn read_maps(
     alloc: Global,
     words: &Words,

@@ -135,7 +135,7 @@ fn append_line(out: &mut Vec<u8>, word: &[u8], line: &[u8]) -> Result<(), Refusa
     Ok(())
 }
 
-/// Adds bytes, escaped where they are no plain characters.
+/// Adds bytes, escaped if they are no plain characters.
 pub(crate) fn append_escaped(out: &mut Vec<u8>, bytes: &[u8]) -> Result<(), Refusal> {
     for byte in bytes {
         append_character(out, *byte)?;

@@ -11,7 +11,7 @@ use memory_source::memory::MemorySource;
 use option_words::words::Words;
 use std::alloc::Global;
 
-/// Runs ddrescueverify. Where it finds no memory there is no answer: a scene can't ask for that.
+/// Runs ddrescueverify. If it finds no memory there is no answer: a scene can't ask for that.
 pub(crate) fn verify(
     alloc: Global,
     words: &Words,

@@ -121,7 +121,7 @@ EndsComparing p old new (Ok tally) looks reads calls =
     × (reads ≡ []) × (calls ≡ [])
 EndsComparing p old new (Err halt) looks reads calls = HaltsAt halt p (end_of_reads 0 (reads_of looks)) reads calls
 
--- A count rises by one where a read was lost or one of the image failed, and no other does.
+-- A count rises by one if a read was lost or one of the image failed, and no other does.
 abbrev pub LossesRise : Result Tally Halt → (source source' : SourceState) → (site site' : SiteState) → Type 0
 LossesRise (Ok tally) source source' site site' = (source'.losses ≡ source.losses) × (site'.faults ≡ site.faults)
 LossesRise (Err NoMemory) source source' site site' = (source'.losses ≡ source.losses) × (site'.faults ≡ site.faults)

@@ -4,8 +4,8 @@ use Rattle.std.specs.Str.{bytes_eq}
 use Rattle.faulty_source.specs.Journal.{Reading, is_whole}
 use Rattle.crash_site.specs.Calls.{Call, image_read}
 
--- A look at a piece: its read of the input, and what the image gave at its place. The image is read only where the
--- input gave the whole piece; else it gave nothing.
+-- A look at a piece: its read of the input, and what the image gave at its place. The image is read only if the input
+-- gave the whole piece; else it gave nothing.
 pub record Look : Type 0 where
   pub read : Reading
   pub there : List ℕ
@@ -26,7 +26,7 @@ seen_at image at r = record { read = r; there = if is_whole r then slice_range i
 abbrev pub seen_in : (image : List ℕ) → (place : ℕ → ℕ) → Reading → Look
 seen_in image place r = seen_at image (place r.pos) r
 
--- the call on the files that a look makes, at a place: a read of the image, where the input gave the whole piece
+-- the call on the files that a look makes, at a place: a read of the image, if the input gave the whole piece
 abbrev pub look_call : (at : ℕ) → Look → List Call
 look_call at l = if is_whole l.read then image_read at l.read.asked (Some (length l.there)) ∷ [] else []
 

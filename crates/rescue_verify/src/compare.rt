@@ -37,8 +37,8 @@ impl Buffers {
     }
 }
 
-/// Looks at a piece, marks it in the map where it differs, and counts it. Room for the mark is asked for first, so that
-/// no read is lost for want of it. The input is told how far reads go on from there.
+/// Looks at a piece, marks it in the map if it differs, and counts it. Room for the mark is asked for first, so that no
+/// read is lost for lack of it. The input is told how far reads go on from there.
 fn compare_piece<S: Source, D: Site, T: Tiles>(
     piece: Piece,
     tally: &mut Tally,
@@ -78,8 +78,8 @@ fn compare_piece<S: Source, D: Site, T: Tiles>(
     Ok(())
 }
 
-/// Compares all pieces with the input, in order, and marks those that differ `?` in the map. It stops where memory
-/// isn't there, at a read of the input that is lost, or at one of the image that fails. It writes nothing to the image.
+/// Compares all pieces with the input, in order, and marks those that differ `?` in the map. It stops if memory isn't
+/// there, at a read of the input that is lost, or at one of the image that fails. It writes nothing to the image.
 pub fn compare<S: Source, D: Site, T: Tiles>(
     alloc: Global,
     comparison: Comparison<'_>,

@@ -11,7 +11,7 @@ pub enum AreaLimit {
     New(u64),
 }
 
-/// The limits of a run; no limit where one is `None`.
+/// The limits of a run; no limit if one is `None`.
 #[derive(Clone, Copy, Debug, PartialEq, Eq)]
 pub struct Limits {
     /// How many reads may fail.

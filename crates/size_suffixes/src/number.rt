@@ -52,7 +52,7 @@ pub(crate) fn first_no_digit(base: u64, bytes: &[u8]) -> Option<usize>
     bytes.iter().position(|byte| value_of_digit(*byte) >= base)
 }
 
-/// The value of digits in a base, or the largest `u64` where it is larger still.
+/// The value of digits in a base, or the largest `u64` if it is larger still.
 fn saturated_value(base: u64, digits: &[u8]) -> u64
     requires { 0 < base }
     ensures { result ≡ min (digits_value base digits.now) (2 ^ 64 - 1) }

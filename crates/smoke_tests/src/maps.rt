@@ -60,7 +60,7 @@ fn a_mark_joins_its_neighbors(rt: HostRuntime) -> Result<(), Fail> {
     Ok(())
 }
 
-/// What is found forwards where the steps are counted.
+/// What is found forwards when the steps are counted.
 fn found_counted<L: Ledger>(
     tiles: &PagedTiles,
     from: u64,
@@ -175,7 +175,7 @@ fn status_of(number: u64) -> Status {
     }
 }
 
-/// Fails where two maps differ.
+/// Fails if two maps differ.
 fn compare(rt: &impl Abort, plain: &PlainTiles, paged: &PagedTiles) {
     assert_eq!(rt; paged.end(), plain.end());
     assert_eq!(rt; paged.blocks(), plain.blocks());

@@ -38,7 +38,7 @@ pub record AskForFiles (words : List (List ℕ)) (command : Command) : Type 0 wh
   pub asks : AskTask words task
   pub over : files_of_task task ≡ Some command
 
--- the words name two files of one name, the first such pair in the order infile, outfile, mapfile, draft
+-- the words name two files with the same name, the first such pair in the order infile, outfile, mapfile, draft
 pub record NameOneFileTwice (words : List (List ℕ)) (first second : Operand) : Type 0 where
   pub command : Command
   pub asks : AskForFiles words command
@@ -78,8 +78,8 @@ failure_after (Some (Site call)) = AtCall
 failure_after (Some (Limited limit)) = AtCall
 failure_after (Some NoRoom) = AtCall
 
--- Want of memory isn't told as an error of a map, nor is a mapfile refused that says nothing. After a failed call on
--- the files there is no save whose call could fail.
+-- Lack of memory isn't reported as an error of a map, nor is a mapfile refused that says nothing. After a failed call
+-- on the files there is no save whose call could fail.
 abbrev pub row_of : Ending → AnswerRow
 row_of Done = asked_row 0
 row_of (Usage fault) = usage_row fault
@@ -120,7 +120,7 @@ message e = message_of program_name (text_of_ending e)
 -- A fault is answered exactly if its count rose, by one: of opens of the input that failed, of losses, or of calls on
 -- the files that failed. No other count rose; so after an answer that is no fault all are as before. If a run had
 -- stopped and a call of the save after the stop failed, the answer is that call's; after a loss the count of the losses
--- rose, too. A count at the end of its type stands.
+-- rose, too. A count at the end of its type stays there.
 pub record Causes (e : Ending) (source source' : SourceState) (site site' : SiteState) : Type 0 where
   pub opens : source'.faults ≡ (changes_of (row_of e).kind).opens source.faults
   pub reads : source'.losses ≡ (changes_of (row_of e).kind).reads source.losses

@@ -26,7 +26,7 @@ pub data MapfileLists (mapfile : Option File) (first end : ℕ) : Type 0 where
 abbrev pub mapfile_of : Command → (List ℕ → Option File) → Option File
 mapfile_of c files = file_named c.mapfile files
 
--- There is a map only where an option asks for it.
+-- There is a map only if an option asks for it.
 pub record AreAskedFor (c : Command) (maps : Maps) : Type 0 where
   pub domain : c.domain_map ≡ None → maps.domain ≡ None
   pub test : c.test_map ≡ None → maps.test ≡ None
@@ -39,7 +39,7 @@ pub record Found : Type 0 where
   pub output : Option File
   pub mapfile : Option File
 
--- what a command finds among files that stand
+-- what a command finds among files that don't change
 abbrev pub found_in : Command → (List ℕ → Option File) → Found
 found_in c files = record {
   domain = file_named c.domain_map files;
@@ -53,7 +53,7 @@ abbrev pub IsNamedMap : (name : Option (List ℕ)) → Mode → Option File → 
 IsNamedMap name mode file statuses =
     (map : List Status) → is_some name ≡ true → IsMapOf file mode map → statuses ≡ Some map
 
--- what the mapfile lists, where that is asked for
+-- what the mapfile lists, if that is asked for
 abbrev pub IsListing : Command → (mapfile : Option File) → (listed : Option (ℕ × ℕ)) → Type 0
 IsListing c mapfile listed =
     (first end : ℕ) → c.options.complete_only ≡ true → MapfileLists mapfile first end → listed ≡ Some (first, end)

@@ -6,7 +6,7 @@ use Rattle.program_promise.specs.declared.operand.Operand.{Operand}
 use Rattle.program_promise.specs.declared.operand.Operand.TheVariants.{Infile, Outfile}
 use Rattle.program_promise.specs.Operands.{first_same}
 
--- the first two of an infile and an outfile, and of a mapfile and its draft if there is one, that have one name
+-- the first two of an infile and an outfile, and of a mapfile and its draft if there is one, that have the same name
 abbrev pub first_same_with_optional_map : (i o : List ℕ) → Option MapNames → Option (Operand × Operand)
 first_same_with_optional_map i o None = if bytes_eq i o then Some (Infile, Outfile) else None
 first_same_with_optional_map i o (Some n) = first_same i o n

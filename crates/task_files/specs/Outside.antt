@@ -32,10 +32,10 @@ pub record HasGainedReads (test : Option (List Status)) (source source' : Source
 pub record Agrees (c : Command) (o : Across) (w : Outside) : Type 0 where
   -- the opens are those that the source counts;
   pub opens : AreOpens w.did.opens o.source o.source'
-  -- where the site tells, the files are its own, and the calls;
+  -- if the site tells, the files are its own, and the calls;
   pub found : IsTrue o.site.tells → w.found ≡ found_in c (files_in o.site)
   pub calls : IsTrue o.site.tells → o.site'.calls ≡ o.site.calls ++ w.did.gain.calls
-  -- where the source tells, the length is its own, and the reads;
+  -- if the source tells, the length is its own, and the reads;
   pub end : IsTrue o.source.tells → w.end ≡ length o.source.bytes
   pub reads : IsTrue o.source.tells → HasGainedReads w.maps.test o.source o.source' w.did.gain.reads
   -- if the clock tells after the call, the readings are its own.

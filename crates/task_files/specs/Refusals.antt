@@ -17,7 +17,7 @@ use Rattle.ddrescue_words.specs.Command.{Command}
 use Rattle.task_files.specs.Names.{first_same_with_optional_map}
 use Rattle.task_files.specs.Asked.{names_by, IsBeyond}
 
--- two files have one name
+-- two files have the same name
 abbrev pub NamesRefused : Command → Ending → Type 0
 NamesRefused c e =
     (first second : Operand) × (first_same_with_optional_map c.infile c.outfile (names_by c) ≡ Some (first, second))
@@ -33,7 +33,7 @@ NamedMapRefused which mode file e =
 abbrev pub PatternEmpty : (end : ℕ) → Ending → Type 0
 PatternEmpty end e = (end ≡ 0) × (e ≡ EmptyPattern)
 
--- the outfile isn't there, where it isn't made
+-- the outfile isn't there, and isn't made
 abbrev pub OutputMissing : (output : Option File) → Ending → Type 0
 OutputMissing output e = (output ≡ None) × (e ≡ NoOutput)
 

@@ -49,7 +49,7 @@ abbrev pub ending_of : Result Ended Ending → Ending
 ending_of (Ok ended) = ended.ending
 ending_of (Err e) = e
 
--- whether a rescue is heard after its parts returned this: where it was refused it is heard as before
+-- whether a rescue is heard after its parts returned this: if it was refused it is heard as before
 abbrev pub heard_after : (heard : Bool) → Result Ended Ending → Bool
 heard_after heard (Ok ended) = ended.heard
 heard_after heard (Err e) = heard
@@ -91,8 +91,8 @@ LoadCause e faults faults' =
     × (faults' ≡ faults))
     ⊎ ((call : SiteCall) × (e ≡ SiteFault call None) × IsResumeCall call × Rose faults faults')
 
--- The record gained this at its end where the site tells; and so did the journal where the input tells, as it is seen,
--- and the readings where the clock tells.
+-- The record gained this at its end if the site tells; and so did the journal if the input tells, as it is seen, and
+-- the readings if the clock tells.
 pub record Gains (test : Option (List Status)) (o : Across) (g : Gain) : Type 0 where
   pub calls : IsTrue o.site.tells → o.site'.calls ≡ o.site.calls ++ g.calls
   pub reads : IsTrue o.source.tells → HasGainedReads test o.source o.source' g.reads
@@ -169,7 +169,7 @@ MapCause which e faults faults' =
     ⊎ ((error : MapError) × (e ≡ MapRefused which error) × (error ≢ OutOfMemory) × (faults' ≡ faults))
     ⊎ ((e ≡ SiteFault MapRead None) × Rose faults faults')
 
--- nothing was done but that maps were read, the last of which may have failed
+-- nothing was done except that maps were read, the last of which may have failed
 pub record IsOnlyMaps (g : Gain) : Type 0 where
   pub maps : List Call
   pub are : AreMapReads maps

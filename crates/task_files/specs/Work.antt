@@ -51,7 +51,7 @@ abbrev pub barrier_of : (mapfile : Option (List ℕ)) → List Call
 barrier_of None = []
 barrier_of (Some name) = barrier_calls (names_of name)
 
--- With a mapfile the barrier makes durable what stands, and the mapfile is read, and may be refused.
+-- With a mapfile the barrier makes durable what is there, and the mapfile is read, and may be refused.
 abbrev pub load_rows : (mapfile : Option (List ℕ)) → (file : Option File) → List (WorkStep Ending)
 load_rows mapfile file = Make (barrier_of mapfile) ∷ Read mapfile file ∷ Look (MapfileRefused file) ∷ []
 

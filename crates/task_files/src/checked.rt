@@ -22,7 +22,7 @@ use std::alloc::Global;
 /// The program's name, which begins its command line and its messages.
 pub const PROGRAM: &str = "ddrescue";
 
-/// The first two files that have one name, of a command with or without a mapfile.
+/// The first two files that have the same name, of a command with or without a mapfile.
 fn find_same_with_optional_map(
     infile: &str,
     outfile: &str,
@@ -65,7 +65,7 @@ pub struct CheckedCommand<'a> {
     pub alloc: Global,
 }
 
-/// Refuses two files of one name, and takes the memory that the saves want for names and heading.
+/// Refuses two files with the same name, and takes the memory that the saves want for names and heading.
 pub fn check_command<'a>(
     alloc: Global,
     words: &Words,

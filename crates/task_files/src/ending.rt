@@ -24,11 +24,11 @@ pub enum Which {
 #[derive(Clone, Copy, Debug, PartialEq, Eq)]
 pub enum Ending {
     /// Everything was tried as often as was asked, or filled or looked up, and the map was saved,
-    /// or the outfile made durable where there is no mapfile.
+    /// or the outfile made durable if there is no mapfile.
     Done,
     /// The words ask for nothing that can be done.
     Usage(UsageFault),
-    /// Two files have one name.
+    /// Two files have the same name.
     SameName {
         first: Operand,
         second: Operand,
@@ -66,7 +66,7 @@ pub enum Ending {
 }
 
 impl Ending {
-    /// The exit status: 0 for what is finished, 2 for a mapfile that is refused, 4 for want of memory, 1 for any
+    /// The exit status: 0 for what is finished, 2 for a mapfile that is refused, 4 for lack of memory, 1 for any
     /// other refusal.
     pub fn code(&self) -> u8
         ensures { result ≡ status_of_ending self.now }

@@ -82,7 +82,7 @@ fn count_run<S: Source, D: Site, K: Clock, C: Console>(
     }
 }
 
-/// Rescues a sample into memory, where a call on the files fails only for want of memory, and counts the last map.
+/// Rescues a sample into memory, and counts the last map. A call on the files fails only for lack of memory.
 fn count_sample<S: Source, K: Clock>(
     alloc: Global,
     source: &mut S,

@@ -28,7 +28,7 @@ use Rattle.task_files.specs.Work.{IsUnbegun, answer_of, files_rows, map_rows, re
 
 -- ---- what is asked for
 
--- how far the map reaches that a mapfile stands for, where it is a map
+-- how far the map reaches that a mapfile stands for, if it is a map
 abbrev pub IsMapEnd : (mapfile : Option File) → (top : ℕ) → Type 0
 IsMapEnd mapfile top = (first end : ℕ) → MapfileLists mapfile first end → end ≡ top
 
@@ -72,7 +72,7 @@ module _ (s : Setting) (w : Sweeper) where
       pub says : lines
           ≡ opening_lines s (length statuses) ++ sweep_lines s w (sweep_begins w statuses state g) pieces end
 
-    -- the sweep, or none where memory ran out before it began
+    -- the sweep, or none if memory ran out before it began
     abbrev pub MaySweep : List Swept → RunEnd → (lines : List (List ℕ)) → Ending → Gain → Type 0
     MaySweep pieces end lines e g =
         (IsUnbegun e g lines × (pieces ≡ [])) ⊎ SweptOver pieces end lines e g
@@ -114,7 +114,7 @@ FillStops b s types buffer pieces end g =
     (pieces_before w (sweep_begins w began shown g) pieces number) map image) true b s g.calls
 
 -- At whatever moment a generating is stopped, what the mapfile found calls finished was so when it began, or has a byte
--- in the output, whose bytes stand.
+-- in the output, whose old bytes stay.
 abbrev pub GenerateStops : Before → Setting → List Swept → RunEnd → Gain → Type 0
 GenerateStops b s pieces end g =
     StopsBy (λ began shown. sweep_saves (generator s) began shown g pieces end)

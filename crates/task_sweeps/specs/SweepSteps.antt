@@ -62,7 +62,7 @@ pub record IsJobOver (names : MapNames) (heading : HeadingLines) (o : Options) (
   pub moment_is : job.moment ≡ moment
   pub heard_is : job.heard ≡ heard
 
--- The record gained this at its end where the site tells, and the readings where the clock tells; nothing was read.
+-- The record gained this at its end if the site tells, and the readings if the clock tells; nothing was read.
 pub record GainsAround (o : Around) (g : Gain) : Type 0 where
   pub calls : IsTrue o.site.tells → o.site'.calls ≡ o.site.calls ++ g.calls
   pub reads : g.reads ≡ []
@@ -120,7 +120,7 @@ pub record WorkedGenerate (c : Command) (line : List ℕ) (heard heard' : Bool) 
   pub end : RunEnd
   pub works : Generates c outside.found outside.end (setting_of c line outside.end outside.maps) pieces end
       outside.lines e outside.did
-  -- the input's length is known where more than maps was read
+  -- the input's length is known if more than maps was read
   pub short : IsOnlyMaps outside.did.gain ⊎ (outside.end < 2 ^ 63)
   pub given : IsTrue o.site.tells
       → AreGiven (setting_of c line outside.end outside.maps) (bytes_of outside.found.output) pieces

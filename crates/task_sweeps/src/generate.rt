@@ -27,8 +27,8 @@ use task_files::open::open_output;
 use task_files::opening::say_line;
 use task_files::places::places_fit;
 
-/// Looks up in the outfile what the map that the mapfile stands for calls non-tried. All memory but that for marks is
-/// taken before the clock is read; the first line is put after that.
+/// Looks up in the outfile what the map that the mapfile stands for calls non-tried. All memory except that for marks
+/// is taken before the clock is read; the first line is put after that.
 fn run<D: Site, K: Clock, C: Console>(
     checked: CheckedCommand<'_>,
     loaded: LoadedFiles,

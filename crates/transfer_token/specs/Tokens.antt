@@ -64,8 +64,8 @@ IfLoaded (Nothing missed) holds = ⊤
 IfLoaded (Ended loaded over) holds = holds loaded
 IfLoaded (Empty over) holds = ⊤
 
--- At the buffer's front stand the bytes of the loaded range: those that the read gave first, as many as are kept, and
--- so the input's own.
+-- At the buffer's front are the bytes of the loaded range: those that the read gave first, as many as are kept, and so
+-- the input's own.
 pub record HoldsLoaded (sector : ℕ) (r : Reading) (source : SourceState) (buf : List ℕ) (loaded : Range) : Type 0 where
   pub given : take (size_of loaded) buf ≡ take (kept sector r) r.given
   pub own : IsTrue source.tells → take (size_of loaded) buf ≡ slice_range source.bytes loaded.from loaded.to

@@ -1,5 +1,5 @@
 //! The phases of a rescue after copying. Each goes on until its passes have no request left, and stops when a turn
-//! does: for want of memory, at a lost read, at a limit, or at a call on the output or the mapfile that failed.
+//! does: for lack of memory, at a lost read, at a limit, or at a call on the output or the mapfile that failed.
 ghost use Rattle.std.specs.Prelude.{◌≡◌, ◌+◌, true, false, IfOk, OnOk};
 ghost use Rattle.rescue_domain.specs.Parts.{covers};
 ghost use Rattle.rescue_rules.specs.declared.phase.Phase.TheVariants.{Copying as CopyingPhase, Trimming as TrimmingPhase, Scraping as ScrapingPhase, Retrying as RetryingPhase};

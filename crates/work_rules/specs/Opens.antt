@@ -5,7 +5,7 @@ use Rattle.faulty_source.specs.SourceState.{SourceState}
 use Rattle.faulty_source.specs.SourceSchedule.{OpenFails}
 use Rattle.work_rules.specs.Work.{Opening, Opened, Unopened}
 
--- The source was asked to open these. If it was asked for none, it stands still.
+-- The source was asked to open these. If it was asked for none, it is unchanged.
 abbrev pub AreOpens : List Opening → (old new : SourceState) → Type 0
 AreOpens [] old new = new ≡ old
 AreOpens (Opened name ∷ []) old new = (new.opens ≡ raised old.opens) × (IsTrue old.tells → new.name ≡ name)

@@ -32,8 +32,8 @@ abbrev pub Did : {E T : Type 0} → Faults E → List (WorkStep E) → (T → Ty
 Did f rows Holds (Ok x) calls = Holds x × WentThrough rows calls
 Did f rows Holds (Err e) calls = StoppedIn f rows e calls
 
--- What rows did that find one file: there is such a file, of which what came of it holds, and there are calls. Where
--- the site tells, these are its own.
+-- What rows did that find one file: there is such a file, of which what came of it holds, and there are calls. If the
+-- site tells, these are its own.
 pub record DidPart {E T : Type 0} (f : Faults E) (rows : Option File → List (WorkStep E)) (own : Option File)
     (Holds : T → Option File → Type 0) (result : Result T E) (old new : SiteState) : Type 0 where
   pub file : Option File

@@ -67,7 +67,7 @@ pub fn held_near(pages: &[Page], entries: &Entries, near: Near, x: u64) -> Near
     }
 }
 
-/// The stretch of equal statuses that holds a position, and where it stands.
+/// The stretch of equal statuses that holds a position, and where it is.
 pub fn stretch_near(pages: &[Page], entries: &Entries, near: &mut Near, x: u64) -> Block
     requires paging { IsPaging pages.now entries.now.items }
     requires within { x < length (flat_map covered (flat pages.now entries.now.items)) }
