@@ -132,7 +132,7 @@ pub record ObjectsStay (o : Around) : Type 0 where
   pub image : o.site'.is_open ≡ true
   pub clock : ClockKeeps o.clock o.clock'
 
--- the end of a sweep saves its map; but after a call on its files that failed it makes no further one
+-- the end of a sweep saves its map; but after a failed call on its files it makes no more
 abbrev pub ClosesFiles : Setting → Sweep → Option Stop → RunEnd → (site site' : SiteState) → Type 0
 ClosesFiles s m stop end site site' =
     EndsBy (closing_calls s (sweep_end (is_none stop) m)) stop end site site'

@@ -30,7 +30,7 @@ those_rise AtCallAfterRead = record none_rises { reads = raised; calls = raised 
 those_rise AtTake = record none_rises { takes = raised }
 those_rise AtPut = record none_rises { puts = raised }
 
--- A failure is answered exactly if its count rose, by one, and no other rose; of a call after a lost read both counts
+-- A failure is answered if and only if its count rose by one and no other rose; of a call after a lost read both counts
 -- rose. So no other answer hides one.
 abbrev pub changes_of : Kind → Changes
 changes_of Asked = none_rises

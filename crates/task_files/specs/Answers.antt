@@ -117,8 +117,8 @@ text_of_ending e = (row_of e).text
 abbrev pub message : Ending → List ℕ
 message e = message_of program_name (text_of_ending e)
 
--- A fault is answered exactly if its count rose, by one: of opens of the input that failed, of losses, or of calls on
--- the files that failed. No other count rose; so after an answer that is no fault all are as before. If a run had
+-- A fault is answered if and only if its count rose by one and no other rose: that of opens of the input that failed,
+-- of losses, or of calls on the files that failed. So after an answer that is no fault all are as before. If a run had
 -- stopped and a call of the save after the stop failed, the answer is that call's; after a loss the count of the losses
 -- rose, too. A count at the end of its type stays there.
 pub record Causes (e : Ending) (source source' : SourceState) (site site' : SiteState) : Type 0 where
