@@ -14,7 +14,7 @@ pub enum LogMode {
     Change(TypeChange),
     /// The map is printed, combined with another map.
     Combine(Op),
-    /// The map is printed, with the gaps between its blocks filled by a status.
+    /// The map is printed, with the gaps between its blocks filled with a status.
     Complete(Status),
     /// The numbers of the blocks in which positions of some types lie are printed.
     ListBlocks(TypeSet),

@@ -52,8 +52,8 @@ impl MapPrinter {
         }
     }
 
-    /// Replaces `out` by the next piece of the text: 4,096 bytes, or as many as are left. False if nothing is left. It
-    /// takes no memory.
+    /// Replaces `out` with the next piece of the text: 4,096 bytes, or as many as are left. False if nothing is left.
+    /// It takes no memory.
     pub fn next<T: Tiles>(
         &mut self,
         state: MapState,

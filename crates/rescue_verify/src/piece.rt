@@ -18,7 +18,7 @@ pub struct Comparison<'a> {
     pub to: u64,
 }
 
-/// A piece: the positions that are compared by one look, and where they are in the image.
+/// A piece: the positions that are compared with one look, and where they are in the image.
 #[derive(Clone, Copy)]
 pub(crate) struct Piece {
     pub from: u64,
