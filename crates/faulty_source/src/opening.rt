@@ -6,6 +6,7 @@ use real_files::devices::is_gone;
 use real_files::direct::{DirectFile, is_direct};
 use real_files::identity::Identity;
 use real_files::launcher::{Launcher, Readiness};
+use real_files::release::caches_by_page;
 use real_files::sectors::{is_optical, logical_sector, physical_sector};
 use std::fs::{self, File, Metadata};
 use std::io::{self, ErrorKind, Seek, SeekFrom};
@@ -23,7 +24,8 @@ pub(crate) struct Input {
     /// Whether a bad sector costs its neighbors: it is a block device that is read through the kernel's cache, whose
     /// pages are larger than its sectors.
     pub loses_neighbors: bool,
-    /// Whether the kernel's read-ahead is asked for again after a failed read: it is a disk that is read through the cache.
+    /// Whether the kernel's read-ahead is asked for again after a failed read: it is a disk that is read through the
+    /// cache, which holds single pages.
     pub renews: bool,
     /// Whether a launcher may ask for a stop, or has the file read past the kernel's cache.
     pub is_led: bool,
@@ -40,7 +42,8 @@ impl Input {
     }
 
     /// Opens the file once more, so that the kernel reads ahead of it again. It takes most of its read-ahead away at
-    /// each read that fails, and reads page by page after a few.
+    /// each read that fails, and reads page by page after a few. A kernel that caches larger pieces than pages loses
+    /// more to a bad sector the more it reads ahead, so it is left as it is.
     fn renew_read_ahead(&mut self, rt: &HostRuntime) {
         if self.renews
             && let Ok(file) = open_again(rt, &self.file)
@@ -49,9 +52,7 @@ impl Input {
         }
     }
 
-    /// Whether the input is still there after a read that didn't give all that it asked for. It stands apart, since few
-    /// reads come to it.
-    #[inline(never)]
+    /// Whether the input is still there after a read that didn't give all that it asked for.
     pub fn stays(&mut self, rt: &HostRuntime) -> bool {
         self.renew_read_ahead(rt);
         self.is_there(rt)
@@ -154,7 +155,7 @@ pub(crate) fn open_to_read(
         length,
         identity: Identity::of(&found),
         loses_neighbors: is_cached_device && has_small_sectors(rt, &found),
-        renews: is_cached_device && !is_optical(found.rdev()),
+        renews: is_cached_device && !is_optical(found.rdev()) && caches_by_page(rt),
         is_stopped: readiness == Readiness::Stop,
     })
 }

@@ -12,4 +12,5 @@ pub mod launcher;
 pub mod mounts;
 pub mod outcome;
 pub mod read_ahead;
+pub mod release;
 pub mod sectors;
