@@ -1,2 +1,3 @@
 -- Other crates cite these.
 pub mod Keeping
+mod RestLemmas

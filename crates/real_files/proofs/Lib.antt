@@ -1,2 +1,4 @@
+-- Other crates cite these.
+pub mod PartLemmas
 mod AheadLemmas
 mod DirectLemmas
