@@ -80,9 +80,10 @@ const STEP: usize = 16;
 pub struct AlignedRoom {
     room: Vec<u8>,
     place: usize,
-    /// Whether a read into that place gave bytes.
-    is_found: bool,
-    /// Whether each place was refused.
+    /// A read of at most this many bytes is made into that place alone: one as large gave bytes there, or each place was
+    /// refused. The kernel may take a small read into a place where it refuses a larger one.
+    settled: usize,
+    /// Whether each place was refused before any gave bytes.
     is_shut: bool,
 }
 
@@ -93,7 +94,7 @@ impl AlignedRoom {
         AlignedRoom {
             room,
             place: ALIGNED - STEP,
-            is_found: false,
+            settled: 0,
             is_shut: false,
         }
     }
@@ -120,14 +121,14 @@ impl AlignedRoom {
         let part = &mut self.room[self.place..self.place + asked];
         let outcome = read_past(reader, part, skip, buf);
         if matches!(outcome, Ok(count) if count > 0) {
-            self.is_found = true;
+            self.settled = self.settled.max(asked);
         }
         outcome
     }
 
-    /// Reads whole sectors through the room, and gives what follows the first `skip` bytes. Until a read gave bytes,
-    /// one that is refused is tried at each other place. What is refused there too is an error of the kind
-    /// `InvalidInput`, as is all that follows.
+    /// Reads whole sectors through the room, and gives what follows the first `skip` bytes. Until a read as large gave
+    /// bytes, one that is refused is tried at each other place. What is refused there too is an error of the kind
+    /// `InvalidInput`, as is all that follows if no read gave bytes before.
     pub fn read<R: Read>(
         &mut self,
         reader: &mut R,
@@ -141,15 +142,17 @@ impl AlignedRoom {
         ensures gives { IfOk result (λ n. GivesPast skip (R.remaining reader.old) (R.remaining reader.new) n buf.new) }
         ensures keeps { IfErr result (λ _. Keeps (R.remaining reader.old) (R.remaining reader.new)) }
     {
+        let wanted = skip + buf.len();
         if !self.is_shut {
             for _ in 0..ALIGNED / STEP {
                 let outcome = self.read_here(reader, sector, skip, buf);
-                if self.is_found || !is_refused(&outcome) {
+                if wanted <= self.settled || !is_refused(&outcome) {
                     return outcome;
                 }
                 self.place = self.place.wrapping_add(STEP) % ALIGNED;
             }
-            self.is_shut = true;
+            self.is_shut = self.settled == 0;
+            self.settled = self.settled.max(wanted);
         }
         Err(ErrorKind::InvalidInput.into())
     }
