@@ -12,7 +12,8 @@ use Rattle.faulty_source.specs.declared.source.Got.TheVariants.{Read, End}
 -- past the kernel's cache.
 abbrev pub answer_of : (is_direct : Bool) → (asked got : ℕ) → Result ⊤ Error → Option Got
 answer_of is_direct asked got (Ok done) = Some (if nat_lt got asked then End got else Read got)
-answer_of is_direct asked got (Err error) = if is_medium_code is_direct (raw_os_error error) then Some (Read got) else None
+answer_of is_direct asked got (Err error) =
+    if is_medium_code is_direct (raw_os_error error) then Some (Read got) else None
 
 -- how many bytes a read's first call of the system gave
 abbrev pub first_count : Result ℕ Error → ℕ
