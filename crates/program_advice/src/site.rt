@@ -7,6 +7,7 @@ use crash_site::folder::SiteTrouble;
 use crash_site::site::SiteCall;
 use real_files::devices::{DeviceUse, User, find_use};
 use real_files::identity::Identity;
+use real_files::outcome::is_in_use;
 use std::fs;
 use std::io::{self, ErrorKind};
 
@@ -27,9 +28,6 @@ fn is_own(error: &io::Error, kind: ErrorKind) -> bool {
     error.raw_os_error().is_none() && error.kind() == kind
 }
 
-/// The kernel's number of the error that says that a device is in use.
-const EBUSY: i32 = 16;
-
 /// What uses the outfile, if it was refused because it is a device in use. The kernel is asked once more.
 pub fn find_outfile_use(
     rt: &HostRuntime,
@@ -39,7 +37,7 @@ pub fn find_outfile_use(
     ensures { IfSome result (λ _. IfSome trouble (λ kept. kept.call ≡ SiteCall.ImageOpen)) }
 {
     let trouble = trouble?;
-    if trouble.call != SiteCall::ImageOpen || trouble.error.raw_os_error() != Some(EBUSY) {
+    if trouble.call != SiteCall::ImageOpen || !is_in_use(&trouble.error) {
         return None;
     }
     let found = Identity::of(&fs::metadata(rt, outfile).ok()?);

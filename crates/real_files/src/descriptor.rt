@@ -1,5 +1,6 @@
 //! Open files by their descriptors.
-use std::fs::{self, File};
+use crate::mounts::read_if_told;
+use std::fs::File;
 use std::io::{self, ErrorKind};
 use std::os::fd::AsRawFd;
 
@@ -14,20 +15,22 @@ fn flags_of(told: &[u8]) -> Option<u64> {
     None
 }
 
+/// What the kernel tells of an open file, if that can be read.
+pub(crate) fn read_told(rt: &HostRuntime, file: &File) -> io::Result<Option<Vec<u8>>> {
+    let descriptor = file.as_raw_fd();
+    let name = format!(in rt.alloc(); "/proc/self/fdinfo/{descriptor}")?;
+    read_if_told(rt, name.as_str())
+}
+
 /// The flags of an open file, as `open` took them. None if they can't be told.
 ///
 /// # Errors
 ///
 /// `OutOfMemory`.
 pub fn open_flags(rt: &HostRuntime, file: &File) -> io::Result<Option<u64>> {
-    let descriptor = file.as_raw_fd();
-    let Ok(name) = format!(in rt.alloc(); "/proc/self/fdinfo/{descriptor}") else {
-        return Err(ErrorKind::OutOfMemory.into());
-    };
-    match fs::read(rt, name.as_str()) {
-        Ok(told) => Ok(flags_of(&told)),
-        Err(error) if error.kind() == ErrorKind::OutOfMemory => Err(error),
-        Err(_) => Ok(None),
+    match read_told(rt, file)? {
+        Some(told) => Ok(flags_of(&told)),
+        None => Ok(None),
     }
 }
 

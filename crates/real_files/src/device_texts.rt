@@ -30,11 +30,18 @@ pub(crate) fn read_number(text: &[u8]) -> Option<u64> {
     Some(device_number(major, minor))
 }
 
+/// The major number of a device with this number.
+pub(crate) fn major(number: u64) -> u64
+    ensures { result ≡ major_of number }
+{
+    (number / 256) % MAJORS
+}
+
 /// Whether a number is a file system's own, and no device's.
 pub(crate) fn is_anonymous(number: u64) -> bool
     ensures { IsTrue result ↔ (major_of number ≡ 0) }
 {
-    (number / 256) % MAJORS == 0
+    major(number) == 0
 }
 
 /// Whether a disk in this state answers no more, in the words of SCSI and of NVMe.
@@ -50,7 +57,7 @@ pub(crate) fn is_lost(state: &str) -> bool
         || state == "deleting (no IO)"
 }
 
-/// The name of swap space, by its line in the kernel's table.
+/// The name of swap space as the kernel's table prints it, by its line there.
 pub(crate) fn swap_name(line: &[u8]) -> Option<&str> {
     let line = str::from_utf8(line).ok()?;
     let name = line.split_ascii_whitespace().next()?;

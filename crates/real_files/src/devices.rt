@@ -1,5 +1,6 @@
 //! What the kernel says of a block device: what it lies on, what uses it, and whether it is gone. What can't be read
 //! isn't known.
+use crate::descriptor::read_told;
 use crate::device_texts::{is_anonymous, is_lost, mount_number, node_name, read_number, swap_name};
 use crate::identity::Identity;
 use crate::mounts::{
@@ -7,7 +8,6 @@ use crate::mounts::{
 };
 use std::fs::{self, File};
 use std::io;
-use std::os::fd::AsRawFd;
 
 /// The folder in which the kernel has an entry for each block device, under its number.
 const DEVICES: &str = "/sys/dev/block";
@@ -171,9 +171,7 @@ fn add_file_system(rt: &HostRuntime, number: u64, found: &mut Vec<Identity>) -> 
 
 /// Adds the device on which the file system lies through which a file was opened.
 fn add_mount(rt: &HostRuntime, file: &File, found: &mut Vec<Identity>) -> io::Result<()> {
-    let descriptor = file.as_raw_fd();
-    let name = format!(in rt.alloc(); "/proc/self/fdinfo/{descriptor}")?;
-    let Some(told) = read_if_told(rt, name.as_str())? else {
+    let Some(told) = read_told(rt, file)? else {
         return Ok(());
     };
     let Some(number) = mount_number(told.as_slice()) else {
@@ -377,9 +375,13 @@ fn find_looped(rt: &HostRuntime, devices: &[Identity]) -> io::Result<Option<Devi
     Ok(None)
 }
 
-/// What uses one of these devices, if that is known.
-fn find_use_of(rt: &HostRuntime, devices: &[Identity]) -> io::Result<Option<DeviceUse>> {
-    let found = match read_mounts(rt)? {
+/// What uses one of these devices, if that is known, by the table of mounts.
+fn find_use_of(
+    rt: &HostRuntime,
+    mounts: &Option<Vec<u8>>,
+    devices: &[Identity],
+) -> io::Result<Option<DeviceUse>> {
+    let found = match mounts {
         Some(table) => find_mounted(rt, table.as_slice(), devices)?,
         None => None,
     };
@@ -400,13 +402,14 @@ fn find_use_of(rt: &HostRuntime, devices: &[Identity]) -> io::Result<Option<Devi
 /// What keeps a block device from being written, if that is known: what uses it, a partition of it, its disk, or a
 /// device that is made of these.
 pub fn find_use(rt: &HostRuntime, number: u64) -> io::Result<Option<DeviceUse>> {
+    let mounts = read_mounts(rt)?;
     let devices = find_above(rt, number)?;
-    let found = find_use_of(rt, devices.as_slice())?;
+    let found = find_use_of(rt, &mounts, devices.as_slice())?;
     if found.is_some() {
         return Ok(found);
     }
     match disk_of(rt, number)? {
-        Some(disk) => find_use_of(rt, &[Identity::of_device(disk)]),
+        Some(disk) => find_use_of(rt, &mounts, &[Identity::of_device(disk)]),
         None => Ok(None),
     }
 }

@@ -1,5 +1,5 @@
 //! What the outcome of a call of the system means.
-ghost use Rattle.std.specs.Prelude.{◌≡◌, ◌≢◌, ◌⊎◌, ◌↔◌, true, false, Ok, Err, None, Some, IsOk, IsErr, IsErrAnd, IfOk, IfErr};
+ghost use Rattle.std.specs.Prelude.{◌≡◌, ◌≢◌, ◌⊎◌, ◌↔◌, pos, true, false, Ok, Err, None, Some, IsOk, IsErr, IsErrAnd, IsTrue, IfOk, IfErr};
 ghost use Rattle.std.specs.IoError.{error_kind, raw_os_error};
 ghost use Rattle.real_files.specs.Medium.{is_medium_code};
 
@@ -79,8 +79,8 @@ const ETIMEDOUT: i32 = 110;
 const EREMOTEIO: i32 = 121;
 
 /// Those of a driver, which only a read past the kernel's cache meets on a block device. The device is busy or has no
-/// room to note a sector, another computer has reserved it, its link failed, it gives a command less time than it takes,
-/// or it doesn't know the command there. A file system means something else by them.
+/// room to note a sector, another computer has reserved it, its link failed, it gives a command less time than it
+/// takes, or it doesn't know the command there. A file system means something else by them.
 const EBUSY: i32 = 16;
 
 const ENOSPC: i32 = 28;
@@ -103,4 +103,18 @@ pub fn is_of_medium(error: &io::Error, is_direct: bool) -> bool
         Some(EBUSY | ENOSPC | EBADE | ETIME | ENOLINK | EOPNOTSUPP) => is_direct,
         _ => false,
     }
+}
+
+/// The error that says that a device is in use.
+pub fn in_use() -> io::Error
+    ensures { raw_os_error result ≡ Some (pos 16) }
+{
+    io::Error::from_raw_os_error(EBUSY)
+}
+
+/// Whether an error of an open says that a device is in use.
+pub fn is_in_use(error: &io::Error) -> bool
+    ensures { IsTrue result ↔ (raw_os_error error.now ≡ Some (pos 16)) }
+{
+    error.raw_os_error() == Some(EBUSY)
 }

@@ -1,4 +1,8 @@
 //! The sizes of a device's sectors, as the kernel tells them.
+ghost use Rattle.std.specs.Prelude.{◌≡◌, ◌↔◌, IsTrue};
+ghost use Rattle.real_files.specs.Devices.{major_of};
+
+use crate::device_texts::major;
 use crate::mounts::device_text;
 use std::fs;
 
@@ -21,8 +25,10 @@ fn queue_number(rt: &HostRuntime, number: u64, what: &str) -> Option<u64> {
 const OPTICAL: u64 = 11;
 
 /// Whether a block device with this number is an optical drive, which looks at its disc at each open.
-pub fn is_optical(number: u64) -> bool {
-    (number / 256) % 4096 == OPTICAL
+pub fn is_optical(number: u64) -> bool
+    ensures { IsTrue result ↔ (major_of number ≡ 11) }
+{
+    major(number) == OPTICAL
 }
 
 /// The least unit in bytes that a block device with this number can be asked for, if it is known.

@@ -4,11 +4,12 @@ use crate::facts::{Found, Place, Storage};
 use real_files::devices::{Mounting, find_mounting, find_under, find_under_open};
 use real_files::identity::Identity;
 use real_files::mounts::{device_text, find_mount, read_mounts};
+use real_files::names::folder_of;
 use real_files::outcome::if_there;
+use real_files::sectors::logical_sector;
 use std::fs::{self, File};
 use std::io;
 use std::os::unix::fs::{FileTypeExt, MetadataExt};
-use std::path::Path;
 
 /// The unit in which the kernel tells a device's length, in bytes.
 const UNIT: u64 = 512;
@@ -19,25 +20,20 @@ fn number_in(rt: &HostRuntime, name: &str) -> Option<u64> {
     text.as_str().trim_ascii().parse().ok()
 }
 
-/// A number that the kernel tells of a device.
-fn device_number(rt: &HostRuntime, device: &str, what: &str) -> Option<u64> {
-    let name = format!(in rt.alloc(); "/sys/dev/block/{device}/{what}").ok()?;
-    number_in(rt, name.as_str())
+/// The length of a block device in bytes.
+fn device_length(rt: &HostRuntime, number: u64) -> Option<u64> {
+    let device = device_text(rt, number).ok()?;
+    let device = device.as_str();
+    let name = format!(in rt.alloc(); "/sys/dev/block/{device}/size").ok()?;
+    number_in(rt, name.as_str())?.checked_mul(UNIT)
 }
 
-/// What is known of a block device with this number. A partition has the sectors of its disk.
-fn look_at_device(rt: &HostRuntime, number: u64) -> Option<Found> {
-    let text = device_text(rt, number).ok()?;
-    let device = text.as_str();
-    let length = match device_number(rt, device, "size") {
-        Some(units) => units.checked_mul(UNIT),
-        None => None,
-    };
-    let sector = match device_number(rt, device, "queue/logical_block_size") {
-        Some(size) => Some(size),
-        None => device_number(rt, device, "../queue/logical_block_size"),
-    };
-    Some(Found::Device { length, sector })
+/// What is known of a block device with this number.
+fn look_at_device(rt: &HostRuntime, number: u64) -> Found {
+    Found::Device {
+        length: device_length(rt, number),
+        sector: logical_sector(rt, number),
+    }
 }
 
 /// What a name reaches, if that is known.
@@ -56,7 +52,7 @@ pub fn look_at_file(rt: &HostRuntime, name: &str) -> Option<Found> {
     if !found.file_type().is_block_device() {
         return None;
     }
-    look_at_device(rt, found.rdev())
+    Some(look_at_device(rt, found.rdev()))
 }
 
 /// How a block device, a part of it or a device that is made of it is mounted, if one is known to be.
@@ -73,17 +69,6 @@ pub fn is_link(rt: &HostRuntime, name: &str) -> bool {
     match fs::symlink_metadata(rt, name) {
         Ok(found) => found.is_symlink(),
         Err(_) => false,
-    }
-}
-
-/// The name of the folder in which a name lies.
-fn folder_of(name: &str) -> &str {
-    match Path::new(name).parent() {
-        None => "/",
-        Some(parent) => {
-            let text = parent.as_str();
-            if text.is_empty() { "." } else { text }
-        }
     }
 }
 

@@ -5,12 +5,13 @@ ghost use Rattle.real_files.specs.Ahead.{nothing_held};
 ghost use Rattle.crash_site.specs.FileAnswers.{is_absent};
 
 use crate::folder::apart::{check_folder, check_input, check_overlap};
-use crate::folder::names::{folder_for, folder_of, open_with, sync_both};
+use crate::folder::names::{folder_for, open_with, sync_both};
 use crate::site::ImageKind;
 use real_files::devices::find_use;
 use real_files::file_cursor::put;
 use real_files::identity::{Identity, OpenInput};
-use real_files::outcome::{if_there, not_held};
+use real_files::names::folder_of;
+use real_files::outcome::{if_there, in_use, not_held};
 use real_files::read_ahead::ReadAhead;
 use std::fs::{self, File, OpenOptions};
 use std::io::{self, ErrorKind, Write};
@@ -42,13 +43,10 @@ impl OpenImage {
     }
 }
 
-/// The kernel's number of the error that says that a device is in use.
-const EBUSY: i32 = 16;
-
 /// Refuses a device that is in use.
 fn check_unused(rt: &HostRuntime, identity: Identity) -> io::Result<()> {
     if identity.is_device() && find_use(rt, identity.device())?.is_some() {
-        return Err(io::Error::from_raw_os_error(EBUSY));
+        return Err(in_use());
     }
     Ok(())
 }

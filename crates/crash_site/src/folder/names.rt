@@ -1,19 +1,8 @@
 //! The folder that holds a file, and its sync.
+use real_files::names::folder_of;
 use real_files::outcome::{folder_synced, if_allowed};
 use std::fs::{self, File, OpenFile, OpenOptions};
 use std::io::{self, ErrorKind};
-use std::path::Path;
-
-/// The name of the folder that holds a name.
-pub(super) fn folder_of(name: &str) -> &str {
-    match Path::new(name).parent() {
-        None => "/",
-        Some(parent) => {
-            let text = parent.as_str();
-            if text.is_empty() { "." } else { text }
-        }
-    }
-}
 
 /// The folder in which the file lies that a name reaches.
 fn open_folder(rt: &HostRuntime, name: &str) -> io::Result<File> {
