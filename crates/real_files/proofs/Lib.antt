@@ -2,3 +2,4 @@
 pub mod PartLemmas
 mod AheadLemmas
 mod DirectLemmas
+mod NameLemmas

@@ -6,6 +6,7 @@ use crate::identity::Identity;
 use crate::mounts::{
     MountLine, device_text, find_mount, find_mount_by_number, if_told, read_if_told, read_mounts,
 };
+use crate::names::{unescaped, without_mark};
 use std::fs::{self, File};
 use std::io;
 
@@ -65,6 +66,14 @@ fn found_as(rt: &HostRuntime, name: &str) -> io::Result<Option<Identity>> {
     match if_told(fs::metadata(rt, name))? {
         Some(found) => Ok(Some(Identity::of(&found))),
         None => Ok(None),
+    }
+}
+
+/// The name that a table of the kernel's prints so. What is no text stays as it is printed.
+fn name_printed(rt: &HostRuntime, printed: &str) -> io::Result<String> {
+    match String::from_utf8(unescaped(rt.alloc(), printed.as_bytes())?) {
+        Ok(name) => Ok(name),
+        Err(_) => Ok(String::from_str(rt.alloc(), printed)?),
     }
 }
 
@@ -148,7 +157,7 @@ fn device_of_mount(rt: &HostRuntime, mount: MountLine<'_>) -> io::Result<Option<
     if !mount.source.starts_with("/dev/") {
         return Ok(None);
     }
-    match found_as(rt, mount.source)? {
+    match found_as(rt, name_printed(rt, mount.source)?.as_str())? {
         Some(source) if source.is_device() => Ok(Some(source)),
         _ => Ok(None),
     }
@@ -287,28 +296,38 @@ fn find_mounted(
         if devices.contains(&device) {
             return Ok(Some(DeviceUse {
                 device: node_of(rt, device.device())?,
-                user: User::Mount(String::from_str(rt.alloc(), mount.folder)?),
+                user: User::Mount(name_printed(rt, mount.folder)?),
             }));
         }
     }
     Ok(None)
 }
 
-/// One of these devices that is swap space.
+/// The file or device with the first of two names, or else with the second one.
+fn found_as_either(rt: &HostRuntime, name: &str, other: &str) -> io::Result<Option<Identity>> {
+    match found_as(rt, name)? {
+        Some(found) => Ok(Some(found)),
+        None => found_as(rt, other),
+    }
+}
+
+/// One of these devices that is swap space. If its name was removed, and made again, the table still calls it removed.
 fn find_swap(rt: &HostRuntime, devices: &[Identity]) -> io::Result<Option<DeviceUse>> {
     let Some(table) = read_if_told(rt, SWAPS)? else {
         return Ok(None);
     };
     for line in table.split(|byte| *byte == b'\n') {
-        let Some(name) = swap_name(line) else {
+        let Some(printed) = swap_name(line) else {
             continue;
         };
-        let Some(space) = found_as(rt, name)? else {
+        let name = name_printed(rt, printed)?;
+        let name = name.as_str();
+        let Some(space) = found_as_either(rt, name, without_mark(name))? else {
             continue;
         };
         if devices.contains(&space) {
             return Ok(Some(DeviceUse {
-                device: String::from_str(rt.alloc(), name)?,
+                device: node_of(rt, space.device())?,
                 user: User::Swap,
             }));
         }
