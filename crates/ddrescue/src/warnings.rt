@@ -47,6 +47,7 @@ fn facts_of(rt: &HostRuntime, work: Work, command: &Command<'_>, stop_is_told: b
             Some(name) => look_at_map_place(rt, disks.as_slice(), name),
             None => Place::unknown(),
         },
+        is_cached: false,
         stop_is_told,
     }
 }

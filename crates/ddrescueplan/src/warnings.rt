@@ -32,6 +32,7 @@ fn facts_of(rt: &HostRuntime, command: &Command<'_>) -> Facts {
         map: look_at_map(rt, command.test_map),
         map_is_link: false,
         map_place: Place::unknown(),
+        is_cached: false,
         stop_is_told: false,
     }
 }

@@ -26,11 +26,13 @@ const ROOM: usize = 65536;
 fn run(rt: HostRuntime) -> io::Result<u8> {
     fill_streams(&rt, ClosedStream::Faulty)?;
     let words = collect_words(&rt, "ddrescueverify")?;
+    let launcher = Launcher::find(&rt)?;
+    let is_cached = launcher.is_cached();
     let input = OpenInput::new(rt.alloc())?;
     let mut source = FileSource::new(rt.clone()?);
     let mut site = FolderSite::new(rt.clone()?);
     source.note_in(input.share()?);
-    source.follow(Launcher::find(&rt)?);
+    source.follow(launcher);
     site.keep_apart(input);
     if let Ok(room) = vec![in rt.alloc(); 0; ROOM] {
         source.read_ahead_in(room);
@@ -39,7 +41,7 @@ fn run(rt: HostRuntime) -> io::Result<u8> {
         site.read_ahead_in(room);
     }
     let mut console = StdConsole::new(rt.clone()?);
-    warn(&rt, &words, &mut console);
+    warn(&rt, &words, &mut console, is_cached);
     let ending = ddrescueverify(rt.alloc(), &words, &mut source, &mut site, &mut console);
     let put = console.trouble(Channel::Out);
     put_line(

@@ -11,7 +11,7 @@ use rescue_warnings::tail::look_at_map;
 use rescue_warnings::warning::{Names, put_warnings};
 
 /// What is known before a comparison.
-fn facts_of(rt: &HostRuntime, command: &Command<'_>) -> Facts {
+fn facts_of(rt: &HostRuntime, command: &Command<'_>, is_cached: bool) -> Facts {
     let options = &command.options;
     let input_position = options.input_position;
     Facts {
@@ -32,12 +32,14 @@ fn facts_of(rt: &HostRuntime, command: &Command<'_>) -> Facts {
         map: look_at_map(rt, command.mapfile),
         map_is_link: false,
         map_place: Place::unknown(),
+        is_cached,
         stop_is_told: false,
     }
 }
 
-/// Puts the lines before the comparison that words ask for, unless nothing is to be said. Nothing else changes.
-pub fn warn<P: Console>(rt: &HostRuntime, words: &Words, console: &mut P) {
+/// Puts the lines before the comparison that words ask for, unless nothing is to be said. `is_cached` says whether a
+/// block device is read through the kernel's cache. Nothing else changes.
+pub fn warn<P: Console>(rt: &HostRuntime, words: &Words, console: &mut P, is_cached: bool) {
     let Ok(command) = read_command(rt.alloc(), words) else {
         return;
     };
@@ -50,6 +52,6 @@ pub fn warn<P: Console>(rt: &HostRuntime, words: &Words, console: &mut P) {
         mapfile: command.mapfile,
         domain: "",
     };
-    let advices = due_advice(&facts_of(rt, &command));
+    let advices = due_advice(&facts_of(rt, &command, is_cached));
     put_warnings(PROGRAM, names, &advices, console);
 }

@@ -9,6 +9,9 @@ const VARIABLE: &str = "DDRESCUE_LAUNCHER";
 
 const STANDARD_INPUT: &str = "stdin";
 
+/// Its value if the launcher leaves the input to be read through the kernel's cache.
+const THROUGH_CACHE: &str = "stdin cached";
+
 /// The byte that says that the input that was opened is ready to be read.
 const READY: u8 = b'r';
 
@@ -30,17 +33,23 @@ pub enum Readiness {
 pub struct Launcher {
     rt: HostRuntime,
     has_pipe: bool,
+    /// Whether no launcher has an input that is a block device read past the kernel's cache.
+    is_cached: bool,
     /// Whether it said that the input is ready.
     is_ready: bool,
 }
 
-/// Whether the environment says that standard input is a launcher's pipe.
-fn is_named(rt: &HostRuntime) -> io::Result<bool> {
+/// What the environment says of standard input, if it says anything.
+fn told(rt: &HostRuntime) -> io::Result<Option<String>> {
     match env::var(rt, VARIABLE) {
-        Ok(text) => Ok(text.as_str() == STANDARD_INPUT),
+        Ok(text) => Ok(Some(text)),
         Err(env::VarError::OutOfMemory) => Err(ErrorKind::OutOfMemory.into()),
-        Err(_) => Ok(false),
+        Err(_) => Ok(None),
     }
+}
+
+fn is_pipe(rt: &HostRuntime) -> bool {
+    matches!(fs::metadata(rt, "/proc/self/fd/0"), Ok(found) if found.file_type().is_fifo())
 }
 
 impl Launcher {
@@ -50,11 +59,17 @@ impl Launcher {
     ///
     /// `OutOfMemory`.
     pub fn find(rt: &HostRuntime) -> io::Result<Launcher> {
-        let has_pipe = is_named(rt)?
-            && matches!(fs::metadata(rt, "/proc/self/fd/0"), Ok(found) if found.file_type().is_fifo());
+        let Some(told) = told(rt)? else {
+            return Launcher::none(rt);
+        };
+        let is_cached = told.as_str() == THROUGH_CACHE;
+        if !(is_cached || told.as_str() == STANDARD_INPUT) || !is_pipe(rt) {
+            return Launcher::none(rt);
+        }
         Ok(Launcher {
             rt: rt.clone()?,
-            has_pipe,
+            has_pipe: true,
+            is_cached,
             is_ready: false,
         })
     }
@@ -68,6 +83,7 @@ impl Launcher {
         Ok(Launcher {
             rt: rt.clone()?,
             has_pipe: false,
+            is_cached: true,
             is_ready: false,
         })
     }
@@ -75,6 +91,11 @@ impl Launcher {
     /// Whether there is a launcher's pipe.
     pub fn is_there(&self) -> bool {
         self.has_pipe
+    }
+
+    /// Whether an input that is a block device is read through the kernel's cache, as far as the launcher tells.
+    pub fn is_cached(&self) -> bool {
+        self.is_cached
     }
 
     /// Takes a byte from the pipe, or meets its end. It is one call of the system.

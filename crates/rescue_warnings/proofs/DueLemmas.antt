@@ -3,11 +3,12 @@ use Rattle.std.proofs.Common.{◌≡◌, ◌≤◌, ◌+◌, ℕ, zero, suc, Boo
 use Rattle.std.specs.Prelude.{⊤, ◌-◌, ◌%◌, not, ◌||◌, is_none, nat_lt, nat_le, nat_eq}
 use Rattle.std.specs.List.{Contains}
 use Rattle.std.proofs.lemmas.List.Elements.{All-nil, All-cons, Contains-append_left, Contains-append_right, Contains-push}
+use Rattle.real_files.specs.declared.devices.Mounting.{Mounting}
 use Rattle.rescue_warnings.specs.declared.facts.Facts.{Facts}
 use Rattle.rescue_warnings.specs.declared.facts.Storage.{Storage}
 use Rattle.rescue_warnings.specs.declared.advice.Advice.{Advice}
 use Rattle.rescue_warnings.specs.declared.advice.Advice.TheVariants.{OutfileShort, MapPastInfile, EmptyInfile, BeginsPastInfile, NothingAsked, NothingListed, NewMapfile, LinkedMapfile, UnsafeOutfile, UnsafeMapfile, NewOutfile, NothingToFill, LongPattern, OtherSector, MountedInfile, OutfileOnDisk, MapfileOnDisk, LongPlan, NothingToCompare, LateMapfile, EmptyDomain, MapBeforeInfile, NoLength}
-use Rattle.rescue_warnings.specs.Due.{Ascends, IsAdvice, IsDue, asked_end, asks_for_all, asks_infile, begins_past_infile, bytes_of, empty_domain, empty_infile, end_of, finished_of, finishes_nothing, if_known, if_so, if_stored, is_absent, is_character_device, is_comparison, is_fill, is_new, is_plan, is_rescue, is_writable, kinds, late_mapfile, length_of, linked_mapfile, lists_nothing, long_pattern, long_plan, map_before_infile, map_past_infile, mapfile_on_disk, may_forget, mounted_infile, new_mapfile, new_outfile, no_length, nothing_asked, nothing_listed, nothing_to_compare, nothing_to_fill, of_kind, other_sector, outfile_on_disk, outfile_short, rank, reads_infile, saves, sector_of, sectors_past, somes, unsafe_mapfile, unsafe_outfile, within, writes_outfile}
+use Rattle.rescue_warnings.specs.Due.{Ascends, IsAdvice, IsDue, asked_end, asks_for_all, asks_infile, begins_past_infile, bytes_of, empty_domain, empty_infile, end_of, finished_of, finishes_nothing, if_known, if_mounted, if_so, if_stored, is_absent, is_character_device, is_comparison, is_fill, is_new, is_plan, is_rescue, is_writable, kinds, late_mapfile, length_of, linked_mapfile, lists_nothing, long_pattern, long_plan, map_before_infile, map_past_infile, mapfile_on_disk, may_be_held, may_forget, mounted_infile, new_mapfile, new_outfile, no_length, nothing_asked, nothing_listed, nothing_to_compare, nothing_to_fill, of_kind, other_sector, outfile_on_disk, outfile_short, rank, reads_infile, saves, sector_of, sectors_past, somes, unsafe_mapfile, unsafe_outfile, within, writes_outfile}
 
 -- what is due by it, if anything is, is so
 record Only (P : Advice → Type 0) (due : Option Advice) : Type 0 where
@@ -37,6 +38,11 @@ stored : (P : Advice → Type 0) (kind : Option Storage) (due : Storage → Opti
     → Only P (if_stored kind due)
 stored P (Some k) due h = h k
 stored P None due h = none P
+
+mounted : (P : Advice → Type 0) (kind : Option Mounting) (due : Mounting → Option Advice)
+    → ((k : Mounting) → Only P (due k)) → Only P (if_mounted kind due)
+mounted P (Some k) due h = h k
+mounted P None due h = none P
 
 -- an advice is of the kind that a definition is about, with this place in the enum
 abbrev IsOf : Facts → ℕ → Option Advice → Advice → Type 0
@@ -154,7 +160,8 @@ other_sector_only f =
 mounted_infile_only : (f : Facts) → Only (IsOf f 14 (mounted_infile f)) (mounted_infile f)
 mounted_infile_only f =
     let P = IsOf f 14 (mounted_infile f) in
-    so P (reads_infile f.work) _ (so P (is_writable f.infile_mounting) _ (one P MountedInfile (refl, refl)))
+    so P (reads_infile f.work) _ (mounted P f.infile_mounting _ (λ kind.
+    so P (is_writable kind || may_be_held f) _ (one P (MountedInfile kind) (refl, refl))))
 
 outfile_on_disk_only : (f : Facts) → Only (IsOf f 15 (outfile_on_disk f)) (outfile_on_disk f)
 outfile_on_disk_only f =
@@ -221,7 +228,7 @@ each_said f NewOutfile h = contained 10 (kinds f) NewOutfile h
 each_said f NothingToFill h = contained 11 (kinds f) NothingToFill h
 each_said f (LongPattern n c) h = contained 12 (kinds f) (LongPattern n c) h
 each_said f (OtherSector n b) h = contained 13 (kinds f) (OtherSector n b) h
-each_said f MountedInfile h = contained 14 (kinds f) MountedInfile h
+each_said f (MountedInfile m) h = contained 14 (kinds f) (MountedInfile m) h
 each_said f OutfileOnDisk h = contained 15 (kinds f) OutfileOnDisk h
 each_said f MapfileOnDisk h = contained 16 (kinds f) MapfileOnDisk h
 each_said f (LongPlan e n) h = contained 17 (kinds f) (LongPlan e n) h

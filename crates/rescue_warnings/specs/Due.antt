@@ -58,11 +58,10 @@ is_character_device (Some (Device _ _)) = false
 is_character_device (Some CharacterDevice) = true
 is_character_device None = false
 
--- what is mounted is known to be so that its file system may change
-abbrev pub is_writable : Option Mounting → Bool
-is_writable (Some Writable) = true
-is_writable (Some ReadOnly) = false
-is_writable None = false
+-- what is mounted so may change
+abbrev pub is_writable : Mounting → Bool
+is_writable Writable = true
+is_writable ReadOnly = false
 
 -- what lies there may be lost by the next boot
 abbrev pub may_forget : Storage → Bool
@@ -212,6 +211,11 @@ abbrev pub if_stored : Option Storage → (Storage → Option Advice) → Option
 if_stored (Some kind) due = due kind
 if_stored None due = None
 
+-- what is due by a mount, if one is known
+abbrev pub if_mounted : Option Mounting → (Mounting → Option Advice) → Option Advice
+if_mounted (Some kind) due = due kind
+if_mounted None due = None
+
 -- ---- when each is due
 
 -- the outfile of a rescue has n bytes, and the mapfile calls a position finished whose place is there or past it: the
@@ -281,9 +285,14 @@ abbrev pub other_sector : Facts → Option Advice
 other_sector f = if_so (is_rescue f.work) (if_known (sector_of f.infile) (λ n.
     if_so (nat_lt 0 n) (if_so (nat_lt 0 (f.sector % n)) (Some (OtherSector n f.sector)))))
 
--- the infile is a device, and a file system on it is mounted and may change
+-- a comparison reads the infile through the kernel's cache, which may answer from what a mount left there
+abbrev pub may_be_held : Facts → Bool
+may_be_held f = is_comparison f.work && f.is_cached
+
+-- the infile is a device, and a file system on it is mounted: it may change, or a comparison be answered from memory
 abbrev pub mounted_infile : Facts → Option Advice
-mounted_infile f = if_so (reads_infile f.work) (if_so (is_writable f.infile_mounting) (Some MountedInfile))
+mounted_infile f = if_so (reads_infile f.work) (if_mounted f.infile_mounting (λ kind.
+    if_so (is_writable kind || may_be_held f) (Some (MountedInfile kind))))
 
 -- the outfile of a rescue lies on the infile's disk
 abbrev pub outfile_on_disk : Facts → Option Advice
@@ -343,7 +352,7 @@ of_kind NewOutfile = new_outfile
 of_kind NothingToFill = nothing_to_fill
 of_kind (LongPattern _ _) = long_pattern
 of_kind (OtherSector _ _) = other_sector
-of_kind MountedInfile = mounted_infile
+of_kind (MountedInfile _) = mounted_infile
 of_kind OutfileOnDisk = outfile_on_disk
 of_kind MapfileOnDisk = mapfile_on_disk
 of_kind (LongPlan _ _) = long_plan
@@ -375,7 +384,7 @@ rank NewOutfile = 10
 rank NothingToFill = 11
 rank (LongPattern _ _) = 12
 rank (OtherSector _ _) = 13
-rank MountedInfile = 14
+rank (MountedInfile _) = 14
 rank OutfileOnDisk = 15
 rank MapfileOnDisk = 16
 rank (LongPlan _ _) = 17

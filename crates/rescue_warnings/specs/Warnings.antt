@@ -4,6 +4,8 @@ use Rattle.std.specs.Fmt.{decimal}
 use Rattle.mapfile_text.specs.Printed.{shown_byte}
 use Rattle.rescue_warnings.specs.declared.advice.Advice.{Advice}
 use Rattle.rescue_warnings.specs.declared.advice.Advice.TheVariants.{OutfileShort, MapPastInfile, EmptyInfile, BeginsPastInfile, NothingAsked, NothingListed, NewMapfile, LinkedMapfile, UnsafeOutfile, UnsafeMapfile, NewOutfile, NothingToFill, LongPattern, OtherSector, MountedInfile, OutfileOnDisk, MapfileOnDisk, LongPlan, NothingToCompare, LateMapfile, EmptyDomain, MapBeforeInfile, NoLength}
+use Rattle.real_files.specs.declared.devices.Mounting.{Mounting}
+use Rattle.real_files.specs.declared.devices.Mounting.TheVariants.{ReadOnly, Writable}
 use Rattle.rescue_warnings.specs.declared.facts.Storage.{Storage}
 use Rattle.rescue_warnings.specs.declared.facts.Storage.TheVariants.{Memory, Overlay, NoJournal, Fuse}
 use Rattle.rescue_warnings.specs.declared.warning.Names.{Names}
@@ -43,6 +45,11 @@ storage_text Overlay = codes " lies on an overlay: on a live system a boot loses
 storage_text NoJournal = codes " lies on a file system without a journal: a power cut may damage it"
 storage_text Fuse = codes " lies on a file system that may lack a journal: a power cut may damage it"
 
+-- what it means that the infile's device is mounted
+abbrev pub mounting_text : Mounting → List ℕ
+mounting_text Writable = codes " or a part of it is mounted for writing: unmount it"
+mounting_text ReadOnly = codes " or a part of it is mounted: the kernel may answer from memory, so unmount it"
+
 -- what the writes of a rescue do to the infile's disk
 abbrev pub disk_text : List ℕ
 disk_text = codes " lies on the infile's disk: each write wears it, so use another disk"
@@ -77,8 +84,7 @@ advice_said front names (LongPattern n c) =
 advice_said front names (OtherSector n b) =
     number_said (number_said (number_said (infile_said front names (codes " has sectors of ")) n
     (codes " B, and option -b takes them for ")) b (codes " B: give option -b ")) n []
-advice_said front names MountedInfile =
-    infile_said front names (codes " or a part of it is mounted for writing: unmount it")
+advice_said front names (MountedInfile kind) = infile_said front names (mounting_text kind)
 advice_said front names OutfileOnDisk = outfile_said front names disk_text
 advice_said front names MapfileOnDisk = mapfile_said front names disk_text
 advice_said front names (LongPlan e n) =

@@ -1,6 +1,6 @@
 //! What a person is warned of before a run.
 ghost use Rattle.std.specs.Prelude.{◌≡◌, ◌+◌, ◌-◌, ◌/◌, ◌%◌, ◌<◌, ◌≤◌, max, ◌∷◌, [], length};
-ghost use Rattle.rescue_warnings.specs.Due.{IsAdvice, asked_end, asks_for_all, asks_infile, begins_past_infile, bytes_of, empty_domain, empty_infile, end_of, ends_by, finished_of, finishes_nothing, is_absent, is_character_device, is_comparison, is_fill, is_new, is_plan, is_rescue, is_writable, kinds, last_of, late_mapfile, length_of, linked_mapfile, lists_nothing, long_pattern, long_plan, map_before_infile, map_past_infile, mapfile_on_disk, may_forget, mounted_infile, new_mapfile, new_outfile, no_length, nothing_asked, nothing_listed, nothing_to_compare, nothing_to_fill, other_sector, outfile_on_disk, outfile_short, reads_infile, saves, sector_of, sectors_past, somes, unsafe_mapfile, unsafe_outfile, within, writes_outfile};
+ghost use Rattle.rescue_warnings.specs.Due.{IsAdvice, asked_end, asks_for_all, asks_infile, begins_past_infile, bytes_of, empty_domain, empty_infile, end_of, ends_by, finished_of, finishes_nothing, is_absent, is_character_device, is_comparison, is_fill, is_new, is_plan, is_rescue, is_writable, kinds, last_of, late_mapfile, length_of, linked_mapfile, lists_nothing, long_pattern, long_plan, map_before_infile, map_past_infile, mapfile_on_disk, may_be_held, may_forget, mounted_infile, new_mapfile, new_outfile, no_length, nothing_asked, nothing_listed, nothing_to_compare, nothing_to_fill, other_sector, outfile_on_disk, outfile_short, reads_infile, saves, sector_of, sectors_past, somes, unsafe_mapfile, unsafe_outfile, within, writes_outfile};
 
 use crate::facts::{Facts, Finished, Found, MapText, Storage, Work};
 use arrayvec::ArrayVec;
@@ -29,8 +29,8 @@ pub enum Advice {
     LongPattern { length: u64, cluster: u64 },
     /// The sectors of the rescue aren't made of whole sectors of the infile.
     OtherSector { own: u64, sector: u64 },
-    /// The infile may change while it is read, and the kernel may answer reads of it from memory.
-    MountedInfile,
+    /// The kernel may answer reads of the infile from memory, and a mount for writing may change it.
+    MountedInfile { mounting: Mounting },
     /// Writes wear the infile's disk, and what was rescued is lost with it.
     OutfileOnDisk,
     MapfileOnDisk,
@@ -106,12 +106,12 @@ fn is_character_device(file: Option<Found>) -> bool
     }
 }
 
-fn is_writable(mounting: Option<Mounting>) -> bool
+fn is_writable(mounting: Mounting) -> bool
     ensures { result ≡ is_writable mounting }
 {
     match mounting {
-        Some(Mounting::Writable) => true,
-        Some(Mounting::ReadOnly) | None => false,
+        Mounting::Writable => true,
+        Mounting::ReadOnly => false,
     }
 }
 
@@ -469,13 +469,24 @@ fn other_sector(facts: &Facts) -> Option<Advice>
     Some(Advice::OtherSector { own, sector })
 }
 
+/// Whether a comparison may be answered from what the kernel holds of a mounted infile.
+fn may_be_held(facts: &Facts) -> bool
+    ensures { result ≡ may_be_held facts.now }
+{
+    is_comparison(facts.work) && facts.is_cached
+}
+
 fn mounted_infile(facts: &Facts) -> Option<Advice>
     ensures { result ≡ mounted_infile facts.now }
 {
-    if !reads_infile(facts.work) || !is_writable(facts.infile_mounting) {
+    if !reads_infile(facts.work) {
         return None;
     }
-    Some(Advice::MountedInfile)
+    let mounting = facts.infile_mounting?;
+    if !is_writable(mounting) && !may_be_held(facts) {
+        return None;
+    }
+    Some(Advice::MountedInfile { mounting })
 }
 
 fn outfile_on_disk(facts: &Facts) -> Option<Advice>

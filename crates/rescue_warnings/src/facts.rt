@@ -113,6 +113,8 @@ pub struct Facts {
     /// The mapfile's name is known to be a link.
     pub map_is_link: bool,
     pub map_place: Place,
+    /// A comparison reads the infile through the kernel's cache, if that is a block device.
+    pub is_cached: bool,
     /// A stop can be asked for, and the program then saves the map before it ends.
     pub stop_is_told: bool,
 }

@@ -4,12 +4,13 @@ ghost use Rattle.std.specs.Fmt.{decimal};
 ghost use Rattle.arrayvec.specs.ArrayVec.{array_vec_len};
 ghost use Rattle.program_advice.specs.Lines.{IsOneLine};
 ghost use Rattle.rescue_console.specs.Speaking.{Speaks};
-ghost use Rattle.rescue_warnings.specs.Warnings.{advice_said, disk_text, file_said, number_said, stop_text, storage_text, warning_pieces, warning_text};
+ghost use Rattle.rescue_warnings.specs.Warnings.{advice_said, disk_text, file_said, mounting_text, number_said, stop_text, storage_text, warning_pieces, warning_text};
 
 use crate::advice::Advice;
 use crate::facts::Storage;
 use itoa::Buffer;
 use program_advice::line::{Line, add, add_quoted, finished};
+use real_files::devices::Mounting;
 use rescue_console::console::{Channel, Console};
 
 /// The names of the command line; empty where there is none.
@@ -68,6 +69,19 @@ fn storage_text(storage: Storage) -> &'static str
         Storage::NoJournal => " lies on a file system without a journal: a power cut may damage it",
         Storage::Fuse => {
             " lies on a file system that may lack a journal: a power cut may damage it"
+        }
+    }
+}
+
+/// What it means that the infile's device is mounted.
+fn mounting_text(mounting: Mounting) -> &'static str
+    ensures text { result.now ≡ mounting_text mounting }
+    ensures len { length result.now ≤ 80 }
+{
+    match mounting {
+        Mounting::Writable => " or a part of it is mounted for writing: unmount it",
+        Mounting::ReadOnly => {
+            " or a part of it is mounted: the kernel may answer from memory, so unmount it"
         }
     }
 }
@@ -165,11 +179,11 @@ fn say(line: &mut Line, names: Names<'_>, advice: Advice)
             say_number(line, sector, " B: give option -b ");
             say_number(line, own, "");
         }
-        Advice::MountedInfile => say_of(
+        Advice::MountedInfile { mounting } => say_of(
             line,
             "infile ",
             names.infile,
-            " or a part of it is mounted for writing: unmount it",
+            mounting_text(mounting),
         ),
         Advice::OutfileOnDisk => say_of(line, "outfile ", names.outfile, disk_text()),
         Advice::MapfileOnDisk => say_of(line, "mapfile ", names.mapfile, disk_text()),
