@@ -3,7 +3,8 @@
 
 use advice::{advise, advise_follower};
 use crash_site::folder::FolderSite;
-use ddrescueshow_cli::follow::{follow, refuse};
+use ddrescueshow_cli::asked::asks_to_follow;
+use ddrescueshow_cli::follow::{follow, refuse, starve};
 use ddrescueshow_cli::show::ddrescueshow;
 use ddrescueshow_words::progress::asks_progress;
 use program_advice::put::put_line;
@@ -34,13 +35,25 @@ fn follow_rescue(
     Ok(ending.code())
 }
 
+/// Says that there wasn't enough memory to read the arguments.
+fn starved(mut console: StdConsole) -> u8 {
+    let ending = starve(&mut console);
+    put_line(&mut console, advise_follower(ending, None, None));
+    ending.code()
+}
+
 fn run(rt: HostRuntime) -> io::Result<u8> {
     fill_streams(&rt, ClosedStream::Faulty)?;
     let words = collect_words(&rt, "ddrescueshow")?;
     let mut console = StdConsole::new(rt.clone()?);
     let terminal = rt.stdout().is_terminal();
     if asks_progress(&words) {
-        return follow_rescue(rt, words.len() == 1, console, terminal);
+        // The word may be the value of an option.
+        match asks_to_follow(rt.alloc(), &words) {
+            Ok(true) => return follow_rescue(rt, words.len() == 1, console, terminal),
+            Ok(false) => {}
+            Err(_) => return Ok(starved(console)),
+        }
     }
     let mut site = FolderSite::new(rt.clone()?);
     let ending = ddrescueshow(rt.alloc(), &words, &mut site, &mut console, terminal);

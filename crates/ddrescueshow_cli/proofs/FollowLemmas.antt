@@ -1,5 +1,5 @@
 -- What is put of the lines of a rescue, step by step.
-use Rattle.std.proofs.Common.{◌≡◌, ◌≢◌, ◌⊎◌, ℕ, ◌+◌, ◌-◌, ◌<◌, ◌≤◌, eqb, Bool, true, false, cond, IsTrue, List, [], ◌∷◌, ◌++◌, length, map, take, drop, get_or, Some, None, Ok, Err, inl, inr, refl, sym, ap, subst, ◌∙◌, append_assoc, append-nil, length-append, take-append-drop, arith}
+use Rattle.std.proofs.Common.{◌≡◌, ◌≢◌, ◌⊎◌, ℕ, ◌+◌, ◌-◌, ◌<◌, ◌≤◌, eqb, Bool, true, false, cond, IsTrue, List, [], ◌∷◌, ◌++◌, length, map, take, drop, get_or, Some, None, Result, Ok, Err, inl, inr, refl, sym, ap, subst, ◌∙◌, append_assoc, append-nil, length-append, take-append-drop, arith}
 use Rattle.std.specs.List.{All, flat_map, position, position_or_len}
 use Rattle.std.proofs.lemmas.List.{map-append, length-take, length-take-le, get_or-take, take_more, take-take}
 use Rattle.std.proofs.lemmas.List.Sums.{fails_before_first, passes_at_first}
@@ -22,8 +22,8 @@ use Rattle.ddrescueshow_cli.specs.declared.follower.Follower.{Follower}
 use Rattle.ddrescueshow_cli.specs.declared.follower.Known.{Known}
 use Rattle.ddrescueshow_cli.specs.Following.{HasCause, ending_of, is_heard, puts_after, takes_after}
 use Rattle.ddrescueshow_cli.specs.Progress.{IsSaid}
-use Rattle.ddrescueshow_cli.specs.PutLines.{AllLinesArePut, AreLines, AreWhole, BreaksOff, Ended, Follows, Goes, HasAllLines, HasNoNewline, IsUnfinished, IsWhole, Longest, PutLine, PutsLast, PutsLines, Stage, Takes, end_texts, first_stage, known_at_first, lines_of, longest, texts_of}
-use Rattle.ddrescueshow_cli.specs.FollowSteps.{Comes, Ends, Fills, Finishes, Fits, GoesOn, IsPart, IsTakeCause, Lacks, LosesText, PutsRest, PutsText, StopsIn, TakesSome, Unmade, Unput, stage_of}
+use Rattle.ddrescueshow_cli.specs.PutLines.{AllLinesArePut, AreLines, AreWhole, AsksOnce, Breaks, BreaksOff, Ended, Follows, Goes, HasAllLines, HasNoNewline, IsUnfinished, IsWhole, Longest, PutLine, PutsLast, PutsLines, Round, Rounds, Stage, Starved, StopsIn, Takes, TakesOnce, Unput, Untaken, end_texts, first_stage, known_at_first, lines_of, longest, texts_of}
+use Rattle.ddrescueshow_cli.specs.FollowSteps.{Comes, Ends, Fills, FindsEnd, Finishes, Fits, GoesOn, GoesRound, GoesRounds, IsPart, IsTakeCause, Lacks, LosesText, PutsRest, PutsText, Unmade, Unsaid, stage_of}
 
 -- ---- a put
 
@@ -50,7 +50,7 @@ pub unput : (t : Bool) (line text put : List ℕ) (e : FollowEnding) (k k' : Kno
     → IsSaid t k k' line text → (e ≡ ConsoleFault) × SpeaksOn (out_pieces (put ∷ [])) true false a b
     → LosesText t line e k a b
 unput t line text put e k k' a b same said broken =
-    Unput k' broken.0 (record { text = put; said = subst (IsSaid t k k' line) (sym same) said; speaks = broken.1 })
+    Unsaid k' broken.0 (record { text = put; said = subst (IsSaid t k k' line) (sym same) said; speaks = broken.1 })
 
 -- ---- no bytes, or some
 
@@ -290,7 +290,7 @@ stops_unput t bytes whole n e s c' whole_is is (Unmade why same) = record {
   puts = no_line t bytes (is_heard e) s (record { line = s.line ++ bytes; known = s.known; console = c' }) (ap is_heard why)
       refl refl same;
 }
-stops_unput t bytes whole n e s c' whole_is is (Unput known why p) =
+stops_unput t bytes whole n e s c' whole_is is (Unsaid known why p) =
     let new : Stage = record { line = drop n bytes; known = known; console = c' } in
     let split : s.line ++ bytes ≡ whole ++ drop n bytes =
     ap (λ (b : List ℕ). s.line ++ b) (sym (take-append-drop n bytes))
@@ -330,110 +330,119 @@ takes_join a b f f' f'' p q = record {
       ∙ sym (append_assoc a b f''.left);
 }
 
-pub came_of : {E : Type 0} (room n : ℕ) (buf piece : List ℕ) (feed feed' : FeedState)
-    → TakeAnswers {E = E} room buf (Ok n) feed feed' → piece ≡ take n buf → Takes piece feed feed'
-came_of room n buf piece feed feed' took front = record {
-  tells = took.keeps.tells;
-  taken = λ tells. took.taken tells ∙ ap (λ (l : List ℕ). l ++ feed'.left) (sym front);
-}
+pub asked_once : {E : Type 0} (room : ℕ) (buf : List ℕ) (r : Result ℕ E) (feed feed' : FeedState)
+    → TakeAnswers {E = E} room buf r feed feed' → AsksOnce feed feed'
+asked_once room buf r feed feed' took =
+    record { scheduled = took.keeps.scheduled; one = λ scheduled. (took.schedule scheduled).schedule }
 
-pub takes_none : (more : Bool) (feed feed' : FeedState) (f : Follower) (c : ConsoleState) → IsUnfinished f.line.items
-    → feed'.tells ≡ feed.tells → (IsTrue feed.tells → feed'.left ≡ feed.left)
-    → (more ≡ false → IsTrue feed.tells → feed'.left ≡ []) → TakesSome more feed feed' f f c c
-takes_none more feed feed' f c unfinished tells same none = record {
-  came = [];
-  takes = record { tells = tells; taken = λ t. sym (same t) };
-  none = none;
-  goes = stays f c unfinished;
+pub came_of : {E : Type 0} (room n : ℕ) (buf piece : List ℕ) (feed feed' : FeedState)
+    → TakeAnswers {E = E} room buf (Ok n) feed feed' → piece ≡ take n buf → n ≤ longest → TakesOnce piece feed feed'
+came_of room n buf piece feed feed' took front few = record {
+  takes = record {
+    tells = took.keeps.tells;
+    taken = λ tells. took.taken tells ∙ ap (λ (l : List ℕ). l ++ feed'.left) (sym front);
+  };
+  asks = asked_once room buf (Ok n) feed feed' took;
+  few = omega (arith, ap length front, length-take n buf, few);
 }
 
 -- a take that gives nothing finds the end
 pub took_none : {E : Type 0} (room n : ℕ) (buf : List ℕ) (feed feed' : FeedState) (f : Follower) (c : ConsoleState)
-    → IsUnfinished f.line.items → n ≡ 0 → TakeAnswers {E = E} room buf (Ok n) feed feed' → TakesSome false feed feed' f f c c
+    → IsUnfinished f.line.items → n ≡ 0 → TakeAnswers {E = E} room buf (Ok n) feed feed' → GoesRound false feed feed' f f c c
 took_none room n buf feed feed' f c unfinished zero took =
     let same : IsTrue feed.tells → feed.left ≡ feed'.left =
     λ tells. took.taken tells ∙ ap (λ (k : ℕ). take k buf ++ feed'.left) zero in
-    takes_none false feed feed' f c unfinished took.keeps.tells (λ tells. sym (same tells))
-    (λ fails tells. sym (same tells) ∙ took.ends tells zero)
+    record {
+      came = [];
+      takes = record {
+        takes = record { tells = took.keeps.tells; taken = same };
+        asks = asked_once room buf (Ok n) feed feed' took;
+        few = omega arith;
+      };
+      none = λ fails tells. sym (same tells) ∙ took.ends tells zero;
+      goes = stays f c unfinished;
+    }
 
-pub at_more : (m n : Bool) (feed feed' : FeedState) (f f' : Follower) (c c' : ConsoleState) → m ≡ n
-    → TakesSome m feed feed' f f' c c' → TakesSome n feed feed' f f' c c'
-at_more m n feed feed' f f' c c' is p = subst (λ (more : Bool). TakesSome more feed feed' f f' c c') is p
+-- ---- rounds
 
-pub takes_more : (m : Bool) (feed feed' feed'' : FeedState) (f f' f'' : Follower) (c c' c'' : ConsoleState)
-    → TakesSome true feed feed' f f' c c' → TakesSome m feed' feed'' f' f'' c' c'' → TakesSome m feed feed'' f f'' c c''
-takes_more m feed feed' feed'' f f' f'' c c' c'' p q = record {
-  came = p.came ++ q.came;
-  takes = takes_join p.came q.came feed feed' feed'' p.takes q.takes;
-  none = λ fails tells. q.none fails (subst IsTrue (sym p.takes.tells) tells);
-  goes = goes_join p.came q.came f f' f'' c c' c'' p.goes q.goes;
+-- rounds, and one more after them
+rounds_one : (t : Bool) (rs : List Round) (r : Round) (a b : FeedState) (s u : Stage) → Rounds t rs a b s u
+    → TakesOnce r.came b r.after → PutsLines t r.came true u r.stage → IsUnfinished r.stage.line
+    → Rounds t (rs ++ r ∷ []) a r.after s r.stage
+rounds_one t [] r a b s u goes takes puts unfinished = (
+  subst (λ (x : FeedState). TakesOnce r.came x r.after) goes.0 takes,
+  subst (λ (x : Stage). PutsLines t r.came true x r.stage) goes.1 puts,
+  unfinished,
+  (refl, refl),
+)
+rounds_one t (x ∷ xs) r a b s u goes takes puts unfinished =
+    (goes.0, goes.1, goes.2, rounds_one t xs r x.after b x.stage u goes.3 takes puts unfinished)
+
+-- what all rounds gave
+abbrev came_in : List Round → List ℕ
+came_in [] = []
+came_in (r ∷ rs) = r.came ++ came_in rs
+
+rounds_take : (t : Bool) (rs : List Round) (a b : FeedState) (s u : Stage) → Rounds t rs a b s u → Takes (came_in rs) a b
+rounds_take t [] a b s u goes = record {
+  tells = ap (λ (x : FeedState). x.tells) goes.0;
+  taken = λ tells. ap (λ (x : FeedState). x.left) (sym goes.0);
+}
+rounds_take t (r ∷ rs) a b s u goes =
+    takes_join r.came (came_in rs) a r.after b goes.0.takes (rounds_take t rs r.after b r.stage u goes.3)
+
+rounds_put : (t : Bool) (rs : List Round) (a b : FeedState) (s u : Stage) → Rounds t rs a b s u
+    → PutsLines t (came_in rs) true s u
+rounds_put t [] a b s u goes =
+    no_line t [] true s u refl (ap (λ (x : Stage). x.line) goes.1 ∙ sym (append-nil s.line))
+    (ap (λ (x : Stage). x.known) goes.1) (ap (λ (x : Stage). x.console) goes.1)
+rounds_put t (r ∷ rs) a b s u goes =
+    puts_join t r.came (came_in rs) true s r.stage u goes.1 (rounds_put t rs r.after b r.stage u goes.3)
+
+-- no round yet
+pub no_rounds : (feed : FeedState) (f : Follower) (c : ConsoleState) → IsUnfinished f.line.items → GoesRounds feed feed f f c c
+no_rounds feed f c unfinished =
+    record { terminal = refl; unfinished = unfinished; rounds = []; goes = (refl, refl) }
+
+pub one_round : (more : Bool) (a b d : FeedState) (f f' f'' : Follower) (c c' c'' : ConsoleState) → GoesRounds a b f f' c c'
+    → GoesRound more b d f' f'' c' c'' → GoesRounds a d f f'' c c''
+one_round more a b d f f' f'' c c' c'' p q =
+    let r : Round = record { came = q.came; after = d; stage = stage_of f'' c'' } in
+    record {
+      terminal = q.goes.terminal ∙ p.terminal;
+      unfinished = q.goes.unfinished;
+      rounds = p.rounds ++ r ∷ [];
+      goes = rounds_one f.teller.terminal p.rounds r a b (stage_of f c) (stage_of f' c') p.goes q.takes
+          (subst (λ (t : Bool). PutsLines t q.came true (stage_of f' c') (stage_of f'' c'')) p.terminal q.goes.puts)
+          q.goes.unfinished;
+    }
+
+-- the last round finds the end
+pub last_round : (more : Bool) (a b d : FeedState) (f f' f'' : Follower) (c c' c'' : ConsoleState) → more ≡ false
+    → GoesRounds a b f f' c c' → GoesRound more b d f' f'' c' c'' → FindsEnd a d f f'' c c''
+last_round more a b d f f' f'' c c' c'' ends p q = record {
+  goes = one_round more a b d f f' f'' c c' c'' p q;
+  none = λ tells. q.none ends
+      (subst IsTrue (sym (rounds_take f.teller.terminal p.rounds a b (stage_of f c) (stage_of f' c') p.goes).tells) tells);
 }
 
 -- a take failed
-pub breaks_taking : (t : Bool) (feed feed' : FeedState) (s : Stage) → IsUnfinished s.line → feed'.tells ≡ feed.tells
-    → (IsTrue feed.tells → feed'.left ≡ feed.left) → BreaksOff t FeedFault feed feed' s s.console
-breaks_taking t feed feed' s unfinished tells same = record {
-  came = [];
-  takes = record { tells = tells; taken = λ told. sym (same told) };
-  line = s.line;
-  known = s.known;
-  puts = no_line t [] true s (record { line = s.line; known = s.known; console = s.console }) refl (sym (append-nil s.line)) refl refl;
-  undone = λ is. cc is;
-  unfinished = λ is. unfinished;
+pub breaks_taking : {E : Type 0} (t : Bool) (room : ℕ) (buf : List ℕ) (e : E) (feed feed' : FeedState) (s : Stage)
+    → TakeAnswers {E = E} room buf (Err e) feed feed' → Breaks t FeedFault feed feed' s s.console
+breaks_taking t room buf e feed feed' s took =
+    Untaken refl (record { tells = took.keeps.tells; taken = λ told. sym (took.stays told) })
+    (asked_once room buf (Err e) feed feed' took) refl
+
+-- a call breaks off after rounds
+pub breaks_after : (e : FollowEnding) (a b d : FeedState) (f f' : Follower) (c c' c'' : ConsoleState) → GoesRounds a b f f' c c'
+    → Breaks f'.teller.terminal e b d (stage_of f' c') c'' → BreaksOff f.teller.terminal e a d (stage_of f c) c''
+breaks_after e a b d f f' c c' c'' p q = record {
+  rounds = p.rounds;
+  last = b;
+  stage = stage_of f' c';
+  goes = p.goes;
+  breaks = subst (λ (t : Bool). Breaks t e b d (stage_of f' c') c'') p.terminal q;
 }
-
-not_done : (e : FollowEnding) → (e ≡ NoMemory) ⊎ (e ≡ ConsoleFault) → e ≢ Done
-not_done e (inl is) done = cc (is, done)
-not_done e (inr is) done = cc (is, done)
-
-not_taking : (e : FollowEnding) → (e ≡ NoMemory) ⊎ (e ≡ ConsoleFault) → e ≢ FeedFault
-not_taking e (inl is) fault = cc (is, fault)
-not_taking e (inr is) fault = cc (is, fault)
-
-pub breaks_putting : (t : Bool) (came : List ℕ) (e : FollowEnding) (feed feed' : FeedState) (s : Stage) (c' : ConsoleState)
-    → Takes came feed feed' → StopsIn t came e s c' → BreaksOff t e feed feed' s c'
-breaks_putting t came e feed feed' s c' takes p = record {
-  came = came;
-  takes = takes;
-  line = p.line;
-  known = p.known;
-  puts = p.puts;
-  undone = not_done e p.ending;
-  unfinished = λ is. absurd (not_taking e p.ending is);
-}
-
--- memory ran out after lines that were put
-pub breaks_held : (e : FollowEnding) (m : Bool) (feed feed' : FeedState) (f f' : Follower) (c c' c'' : ConsoleState) → e ≡ NoMemory
-    → c'' ≡ c' → TakesSome m feed feed' f f' c c' → BreaksOff f.teller.terminal e feed feed' (stage_of f c) c''
-breaks_held e m feed feed' f f' c c' c'' why same p =
-    let t : Bool = f.teller.terminal in
-    let put : PutsLines t p.came (is_heard e) (stage_of f c) (stage_of f' c') =
-    subst (λ (h : Bool). PutsLines t p.came h (stage_of f c) (stage_of f' c')) (sym (ap is_heard why)) p.goes.puts in
-    record {
-      came = p.came;
-      takes = p.takes;
-      line = f'.line.items;
-      known = f'.teller.known;
-      puts = subst (λ (x : ConsoleState). PutsLines t p.came (is_heard e) (stage_of f c) (stage_of f' x)) (sym same) put;
-      undone = not_done e (inl why);
-      unfinished = λ is. absurd (not_taking e (inl why) is);
-    }
-
-pub breaks_after : (e : FollowEnding) (feed feed' feed'' : FeedState) (f f' : Follower) (c c' c'' : ConsoleState)
-    → TakesSome true feed feed' f f' c c' → BreaksOff f'.teller.terminal e feed' feed'' (stage_of f' c') c''
-    → BreaksOff f.teller.terminal e feed feed'' (stage_of f c) c''
-breaks_after e feed feed' feed'' f f' c c' c'' p q =
-    let new : Stage = record { line = q.line; known = q.known; console = c'' } in
-    record {
-      came = p.came ++ q.came;
-      takes = takes_join p.came q.came feed feed' feed'' p.takes q.takes;
-      line = q.line;
-      known = q.known;
-      puts = puts_join f.teller.terminal p.came q.came (is_heard e) (stage_of f c) (stage_of f' c') new p.goes.puts
-          (subst (λ (t : Bool). PutsLines t q.came (is_heard e) (stage_of f' c') new) p.goes.terminal q.puts);
-      undone = q.undone;
-      unfinished = q.unfinished;
-    }
 
 -- ---- the end
 
@@ -466,7 +475,7 @@ rest_broken t s known c' p = record {
 pub rest_lost : (t : Bool) (e : FollowEnding) (s : Stage) (c' : ConsoleState) → IsUnfinished s.line → s.line ≢ []
     → LosesText t s.line e s.known s.console c' → Finishes t e s c'
 rest_lost t e s c' unfinished some (Unmade is same) = Lacks is same
-rest_lost t e s c' unfinished some (Unput known is p) =
+rest_lost t e s c' unfinished some (Unsaid known is p) =
     Comes false is (rest_broken t s known c' (one_rest t false s known c' unfinished some p))
 
 end_is : (known : Known) (up : Bool) → known.is_up ≡ up → end_texts known ≡ cond up ((10 ∷ []) ∷ []) []
@@ -501,17 +510,18 @@ ends_up t h s known c' c'' up p said = record {
 -- ---- all of it
 
 pub goes_to_end : (e : FollowEnding) (feed feed' : FeedState) (f f' : Follower) (c c' c'' : ConsoleState)
-    → TakesSome false feed feed' f f' c c' → Finishes f'.teller.terminal e (stage_of f' c') c''
+    → FindsEnd feed feed' f f' c c' → Finishes f'.teller.terminal e (stage_of f' c') c''
     → Goes f.teller.terminal e feed feed' (stage_of f c) c''
-goes_to_end e feed feed' f f' c c' c'' p (Lacks why same) = inl (breaks_held e false feed feed' f f' c c' c'' why same p)
+goes_to_end e feed feed' f f' c c' c'' p (Lacks why same) =
+    inl (breaks_after e feed feed' feed' f f' c c' c'' p.goes (Starved why refl same))
 goes_to_end e feed feed' f f' c c' c'' p (Comes heard is last) = inr (record {
-  came = p.came;
-  takes = p.takes;
-  none = p.none refl;
+  rounds = p.goes.rounds;
+  stage = stage_of f' c';
+  goes = p.goes.goes;
+  none = p.none;
   heard = heard;
   is = is;
-  puts = last_join f.teller.terminal p.came heard (stage_of f c) (stage_of f' c') c'' p.goes.puts
-      (subst (λ (t : Bool). PutsLast t [] heard (stage_of f' c') c'') p.goes.terminal last);
+  puts = subst (λ (t : Bool). PutsLast t [] heard (stage_of f' c') c'') p.goes.terminal last;
 })
 
 pub goes_first : (t : Bool) (e : FollowEnding) (feed feed' : FeedState) (f : Follower) (c c' : ConsoleState) → f.line.items ≡ []
@@ -546,19 +556,41 @@ faults_at_end : (h : Bool) (n : ℕ) → cond h n (raised n) ≡ puts_after (end
 faults_at_end true n = refl
 faults_at_end false n = refl
 
+-- after rounds no put has failed
+rounds_faults : (t : Bool) (rs : List Round) (a b : FeedState) (s u : Stage) → Rounds t rs a b s u
+    → u.console.out.faults ≡ s.console.out.faults
+rounds_faults t rs a b s u goes =
+    let p : PutsLines t (came_in rs) true s u = rounds_put t rs a b s u goes in
+    said_faults (texts_of p.puts) true s.console u.console p.speaks
+
+breaks_faults : (t : Bool) (e : FollowEnding) (a b : FeedState) (s : Stage) (c' : ConsoleState) → Breaks t e a b s c'
+    → c'.out.faults ≡ puts_after e s.console.out.faults
+breaks_faults t e a b s c' (Untaken is takes asks same) =
+    ap (λ (c : ConsoleState). c.out.faults) same
+    ∙ sym (ap (λ (x : FollowEnding). puts_after x s.console.out.faults) is)
+breaks_faults t e a b s c' (Unput came takes p) =
+    said_faults (texts_of p.puts.puts) (is_heard e) s.console c' p.puts.speaks ∙ faults_by e s.console.out.faults
+breaks_faults t e a b s c' (Starved is still same) =
+    ap (λ (c : ConsoleState). c.out.faults) same
+    ∙ sym (ap (λ (x : FollowEnding). puts_after x s.console.out.faults) is)
+
 pub cause_of : (t : Bool) (e : FollowEnding) (f f' : FeedState) (s : Stage) (c' : ConsoleState) → IsTakeCause e f f'
     → Goes t e f f' s c' → HasCause e f f' s.console c'
 cause_of t e f f' s c' why (inl p) = record {
   alone = why.alone;
   takes = why.takes;
-  puts = said_faults (texts_of p.puts.puts) (is_heard e) s.console c' p.puts.speaks ∙ faults_by e s.console.out.faults;
+  puts = breaks_faults t e p.last f' p.stage c' p.breaks
+      ∙ ap (puts_after e) (rounds_faults t p.rounds f p.last s p.stage p.goes);
 }
-cause_of t e f f' s c' why (inr p) = record {
-  alone = why.alone;
-  takes = why.takes;
-  puts = said_faults (texts_of p.puts.puts ++ end_texts p.puts.known) p.heard s.console c' p.puts.speaks ∙ faults_at_end p.heard s.console.out.faults
-      ∙ ap (λ x. puts_after x s.console.out.faults) (sym p.is);
-}
+cause_of t e f f' s c' why (inr p) =
+    let put : PutsLast t (came_in p.rounds) p.heard s c' =
+    last_join t (came_in p.rounds) p.heard s p.stage c' (rounds_put t p.rounds f f' s p.stage p.goes) p.puts in
+    record {
+      alone = why.alone;
+      takes = why.takes;
+      puts = said_faults (texts_of put.puts ++ end_texts put.known) p.heard s.console c' put.speaks
+          ∙ faults_at_end p.heard s.console.out.faults ∙ ap (λ x. puts_after x s.console.out.faults) (sym p.is);
+    }
 
 pub alone_taking : (feed feed' : FeedState) → feed'.faults ≡ raised feed.faults → IsTakeCause FeedFault feed feed'
 alone_taking feed feed' rose = record { alone = λ is. cc is; takes = rose }
@@ -598,20 +630,35 @@ done_heard : (heard : Bool) → Done ≡ ending_of heard → heard ≡ true
 done_heard true is = refl
 done_heard false is = cc is
 
+not_done : (e : FollowEnding) → (e ≡ NoMemory) ⊎ (e ≡ ConsoleFault) → e ≢ Done
+not_done e (inl is) done = cc (is, done)
+not_done e (inr is) done = cc (is, done)
+
+breaks_undone : (t : Bool) (e : FollowEnding) (a b : FeedState) (s : Stage) (c' : ConsoleState) → Breaks t e a b s c' → e ≢ Done
+breaks_undone t e a b s c' (Untaken is takes asks same) done = cc (is, done)
+breaks_undone t e a b s c' (Unput came takes p) done = not_done e p.ending done
+breaks_undone t e a b s c' (Starved is still same) done = cc (is, done)
+
 goes_done : (t : Bool) (feed feed' : FeedState) (c c' : ConsoleState) → IsTrue feed.tells → IsTrue c.tells
     → Goes t Done feed feed' (first_stage c) c' → HasAllLines t feed c c'
-goes_done t feed feed' c c' feeds tells (inl p) = absurd (p.undone refl)
+goes_done t feed feed' c c' feeds tells (inl p) =
+    absurd (breaks_undone t Done p.last feed' p.stage c' p.breaks refl)
 goes_done t feed feed' c c' feeds tells (inr p) =
-    let texts : List (List ℕ) = texts_of p.puts.puts ++ end_texts p.puts.known in
+    let old : Stage = first_stage c in
+    let came : List ℕ = came_in p.rounds in
+    let takes : Takes came feed feed' = rounds_take t p.rounds feed feed' old p.stage p.goes in
+    let put : PutsLast t came p.heard old c' =
+    last_join t came p.heard old p.stage c' (rounds_put t p.rounds feed feed' old p.stage p.goes) p.puts in
+    let texts : List (List ℕ) = texts_of put.puts ++ end_texts put.known in
     let said : SpeaksOn (out_pieces texts) true true c c' =
-    subst (λ (h : Bool). SpeaksOn (out_pieces texts) true h c c') (done_heard p.heard p.is) p.puts.speaks in
+    subst (λ (h : Bool). SpeaksOn (out_pieces texts) true h c c') (done_heard p.heard p.is) put.speaks in
     record {
-      puts = p.puts.puts;
-      all = sym p.puts.split ∙ sym (append-nil p.came) ∙ ap (λ (l : List ℕ). p.came ++ l) (sym (p.none feeds))
-          ∙ sym (p.takes.taken feeds);
-      lines = p.puts.lines;
-      known = p.puts.known;
-      follows = p.puts.follows;
+      puts = put.puts;
+      all = sym put.split ∙ sym (append-nil came) ∙ ap (λ (l : List ℕ). came ++ l) (sym (p.none feeds))
+          ∙ sym (takes.taken feeds);
+      lines = put.lines;
+      known = put.known;
+      follows = put.follows;
       out = spoken_is_put (out_pieces texts) c c' said tells Out ∙ ap (λ (l : List ℕ). c.out.text ++ l) (joined_is texts);
     }
 

@@ -14,3 +14,5 @@ mod StandLemmas
 mod SvgLemmas
 mod ProgressLemmas
 mod FollowLemmas
+mod RateLemmas
+mod AskedLemmas

@@ -1,17 +1,20 @@
--- All files read as they did, since maps are read and nothing else is called.
-use Rattle.std.proofs.Common.{◌≡◌, ℕ, Bool, List, [], ◌∷◌, ◌++◌, map, Option, Some, None, ap, ◌∙◌, inl, inr}
+-- All files are left as they were, since maps are read and nothing else is called.
+use Rattle.std.proofs.Common.{◌≡◌, ℕ, ◌-◌, ◌≤◌, Bool, List, [], ◌∷◌, ◌++◌, length, map, Option, Some, None, sym, ap, subst, ◌∙◌, inl, inr, arith}
 use Rattle.mapfile_text.specs.declared.read.Mode.{Mode}
 use Rattle.mapfile_text.specs.declared.read.Mode.TheVariants.{Tight}
 use Rattle.crash_site.specs.declared.site.SiteCall.TheVariants.{MapRead}
 use Rattle.crash_site.specs.Files.{File}
 use Rattle.crash_site.specs.Folder.{Folder, after}
-use Rattle.crash_site.specs.Calls.{Call, Entry, Done as Returned}
-use Rattle.crash_site.specs.SiteState.{SiteState, files_in}
-use Rattle.crash_site.proofs.LawLemmas.{after-append}
-use Rattle.save_resume.specs.Loading.{BeginsLoad}
+use Rattle.crash_site.specs.Calls.{Entry, Done as Returned}
+use Rattle.crash_site.specs.Disk.{Disk}
+use Rattle.crash_site.specs.Left.{MayBeLeft, MayShow}
+use Rattle.crash_site.specs.SiteState.{SiteState}
+use Rattle.crash_site.proofs.LawLemmas.{after-append, left_past}
 use Rattle.save_resume.specs.Named.{map_mode}
+use Rattle.save_resume.specs.SaveStops.{CouldBefore, disk_of}
 use Rattle.work_rules.specs.Work.{Deeds, Take, WorkStep, Works}
-use Rattle.work_rules.proofs.FrontLemmas.{broken_stands, load_reads, reads_stand}
+use Rattle.work_rules.proofs.FrontLemmas.{load_reads}
+use Rattle.work_rules.proofs.ReadLemmas.{AreReads, maps_are, maps_broke, maps_then, reads_at, reads_leave, same_reads}
 use Rattle.program_promise.specs.World.{WorldState, Told}
 use Rattle.program_promise.specs.Promise.{Says, Nothing, Message}
 use Rattle.ddrescueshow_words.specs.Command.{Command}
@@ -20,48 +23,61 @@ use Rattle.ddrescueshow_cli.specs.declared.ending.Which.TheVariants.{RunMap, Dom
 use Rattle.ddrescueshow_cli.specs.declared.ending.ShowEnding.{ShowEnding}
 use Rattle.ddrescueshow_cli.specs.Work.{Found, PutsAll, ShowWorks, map_rows, show_faults}
 use Rattle.ddrescueshow_cli.specs.Ddrescueshow.{show_program}
-use Rattle.ddrescueshow_cli.specs.Laws.{FilesStand}
+use Rattle.ddrescueshow_cli.specs.Laws.{FilesStand, LeavesAllFiles}
 
--- calls that leave all files as they read
-abbrev Stand : List Entry → Type 0
-Stand calls = (f : Folder) → after f calls ≡ f
+none_read : (calls : List Entry) → calls ≡ [] → AreReads calls
+none_read calls is = same_reads calls [] is tt
 
-none_stand : (calls : List Entry) → calls ≡ [] → Stand calls
-none_stand calls is f = ap (after f) is
-
-load_stands : (name : List ℕ) (file : Option File) (load : List Call) (rest calls : List Entry)
-    → BeginsLoad name file load → calls ≡ map Returned load ++ rest → Stand rest → Stand calls
-load_stands name file load rest calls begins is stand f =
-    ap (after f) is ∙ after-append f (map Returned load) rest
-    ∙ ap (λ (g : Folder). after g rest) (reads_stand load f (load_reads name file load begins)) ∙ stand f
-
-read_stands : (which : Which) (mode : Mode) (name : Option (List ℕ)) (file : Option File)
+read_reads : (which : Which) (mode : Mode) (name : Option (List ℕ)) (file : Option File)
     (more : List (WorkStep ShowEnding)) (e : ShowEnding) (d : Deeds)
-    → ((x : Deeds) → Works show_faults more PutsAll e x → Stand x.gain.calls)
-    → Works show_faults (map_rows which mode name file ++ more) PutsAll e d → Stand d.gain.calls
-read_stands which mode None file more e d then (inl w) = none_stand d.gain.calls w.1.gain.calls
-read_stands which mode None file more e d then (inr (none, inl w)) = none_stand d.gain.calls w.1.gain.calls
-read_stands which mode None file more e d then (inr (none, inr w)) = then d w.1
-read_stands which mode (Some name) file more e d then (inl (load, is, begins, broke, only)) =
-    λ f. broken_stands MapRead load f [] d.gain.calls (load_reads name file load begins) broke
-read_stands which mode (Some name) file more e d then (inr (inl (load, is, begins, all, only))) =
-    λ f. ap (after f) all ∙ reads_stand load f (load_reads name file load begins)
-read_stands which mode (Some name) file more e d then (inr (inr (load, rest, is, split, inl w))) =
-    load_stands name file load rest d.gain.calls is.begins split (none_stand rest w.1.gain.calls)
-read_stands which mode (Some name) file more e d then (inr (inr (load, rest, is, split, inr w))) =
-    load_stands name file load rest d.gain.calls is.begins split (then _ w.1)
+    → ((x : Deeds) → Works show_faults more PutsAll e x → AreReads x.gain.calls)
+    → Works show_faults (map_rows which mode name file ++ more) PutsAll e d → AreReads d.gain.calls
+read_reads which mode None file more e d then (inl w) = none_read d.gain.calls w.1.gain.calls
+read_reads which mode None file more e d then (inr (none, inl w)) = none_read d.gain.calls w.1.gain.calls
+read_reads which mode None file more e d then (inr (none, inr w)) = then d w.1
+read_reads which mode (Some name) file more e d then (inl (load, is, begins, broke, only)) =
+    maps_broke MapRead load [] d.gain.calls (load_reads name file load begins) tt broke
+read_reads which mode (Some name) file more e d then (inr (inl (load, is, begins, all, only))) =
+    same_reads d.gain.calls (map Returned load) all (maps_are load (load_reads name file load begins))
+read_reads which mode (Some name) file more e d then (inr (inr (load, rest, is, split, inl w))) =
+    maps_then load rest d.gain.calls split (load_reads name file load is.begins) (none_read rest w.1.gain.calls)
+read_reads which mode (Some name) file more e d then (inr (inr (load, rest, is, split, inr w))) =
+    maps_then load rest d.gain.calls split (load_reads name file load is.begins) (then _ w.1)
 
-last_stands : (e : ShowEnding) (d : Deeds) → Works show_faults (Take ∷ []) PutsAll e d → Stand d.gain.calls
-last_stands e d (inl w) = none_stand d.gain.calls w.1.gain.calls
-last_stands e d (inr w) = none_stand d.gain.calls w.1.gain.calls
+last_reads : (e : ShowEnding) (d : Deeds) → Works show_faults (Take ∷ []) PutsAll e d → AreReads d.gain.calls
+last_reads e d (inl w) = none_read d.gain.calls w.1.gain.calls
+last_reads e d (inr w) = none_read d.gain.calls w.1.gain.calls
 
-work_stands : (c : Command) (found : Found) (e : ShowEnding) (d : Deeds) → ShowWorks c found e d → Stand d.gain.calls
-work_stands c found e d (inl w) = none_stand d.gain.calls w.1.gain.calls
-work_stands c found e d (inr (inl w)) = none_stand d.gain.calls w.1.gain.calls
-work_stands c found e d (inr (inr (fits, w))) =
-    read_stands RunMap Tight (Some c.mapfile) found.mapfile
+work_reads : (c : Command) (found : Found) (e : ShowEnding) (d : Deeds) → ShowWorks c found e d → AreReads d.gain.calls
+work_reads c found e d (inl w) = none_read d.gain.calls w.1.gain.calls
+work_reads c found e d (inr (inl w)) = none_read d.gain.calls w.1.gain.calls
+work_reads c found e d (inr (inr (fits, w))) =
+    read_reads RunMap Tight (Some c.mapfile) found.mapfile
     (map_rows DomainMap (map_mode c.options.loose) c.domain_map found.domain ++ Take ∷ []) e d
-    (λ x v. read_stands DomainMap (map_mode c.options.loose) c.domain_map found.domain (Take ∷ []) e x (last_stands e) v) w
+    (λ x v. read_reads DomainMap (map_mode c.options.loose) c.domain_map found.domain (Take ∷ []) e x (last_reads e) v) w
+
+-- a stop after calls, within reads that follow them, finds what a stop before these could
+stop_finds : (old : SiteState) (calls all : List Entry) (k : ℕ) (files : List ℕ → Option File) (name : List ℕ)
+    → AreReads calls → all ≡ old.calls ++ calls → length old.calls ≤ k → MayBeLeft old.start all k files
+    → CouldBefore old name (files name)
+stop_finds old calls all k files name reads is past left =
+    let j : ℕ = k - length old.calls in
+    subst (λ (d : Disk). MayShow (d.shows name) (files name)) (reads_at (disk_of old) calls j reads)
+    (left_past old.start old.calls calls j k files (omega (arith, past))
+    (subst (λ (es : List Entry). MayBeLeft old.start es k files) is left) name)
+
+all_left : (old new : SiteState) (calls : List Entry) → AreReads calls → new.start ≡ old.start
+    → new.calls ≡ old.calls ++ calls → LeavesAllFiles old new
+all_left old new calls reads same grew = record {
+  reads = λ name. ap (λ (f : Folder). f.files name)
+      (ap (λ s. after s new.calls) same
+      ∙ ap (after old.start) grew
+      ∙ after-append old.start old.calls calls
+      ∙ reads_leave (after old.start old.calls) calls reads);
+  stops = λ k files name past within left.
+      stop_finds old calls new.calls k files name reads grew past
+      (subst (λ (s : Folder). MayBeLeft s new.calls k files) same left);
+}
 
 -- what is said changes no file
 said_stands : (terminal : Bool) (t : Told ShowEnding) (between : WorldState) → Says (show_program terminal) t between
@@ -70,15 +86,8 @@ said_stands terminal t between (Nothing why is) = ap (λ (w : WorldState). w.sit
 said_stands terminal t between (Message loud quiet is puts schedule) = ap (λ (w : WorldState). w.site) is
 
 pub all_files_stand : FilesStand
-all_files_stand terminal t c d asks tells name =
+all_files_stand terminal t c d asks tells =
     let done = d.asked_for c asks in
-    let old : SiteState = t.before.site in
-    let new : SiteState = d.between.site in
-    let same : new.start ≡ old.start = d.keeps.keeps.start tells in
-    let folder : after new.start new.calls ≡ after old.start old.calls =
-    ap (λ s. after s new.calls) same
-    ∙ ap (after old.start) (done.agrees.calls tells)
-    ∙ after-append old.start old.calls done.did.gain.calls
-    ∙ work_stands c done.outside t.answer done.did done.work (after old.start old.calls) in
-    ap (λ (s : SiteState). files_in s name) (said_stands terminal t d.between d.says)
-    ∙ ap (λ (f : Folder). f.files name) folder
+    subst (λ (s : SiteState). LeavesAllFiles t.before.site s) (sym (said_stands terminal t d.between d.says))
+    (all_left t.before.site d.between.site done.did.gain.calls
+    (work_reads c done.outside t.answer done.did done.work) (d.keeps.keeps.start tells) (done.agrees.calls tells))

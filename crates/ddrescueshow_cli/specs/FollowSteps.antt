@@ -7,9 +7,9 @@ use Rattle.ddrescueshow_cli.specs.declared.follow.FollowEnding.{FollowEnding}
 use Rattle.ddrescueshow_cli.specs.declared.follow.FollowEnding.TheVariants.{NotAlone, ConsoleFault, NoMemory}
 use Rattle.ddrescueshow_cli.specs.declared.follower.Follower.{Follower}
 use Rattle.ddrescueshow_cli.specs.declared.follower.Known.{Known}
-use Rattle.ddrescueshow_cli.specs.Following.{ending_of, is_heard, takes_after}
+use Rattle.ddrescueshow_cli.specs.Following.{ending_of, takes_after}
 use Rattle.ddrescueshow_cli.specs.Progress.{IsSaid}
-use Rattle.ddrescueshow_cli.specs.PutLines.{AreLines, Follows, HasNoNewline, IsUnfinished, PutLine, PutsLast, PutsLines, Stage, Takes, lines_of, texts_of}
+use Rattle.ddrescueshow_cli.specs.PutLines.{AreLines, Follows, HasNoNewline, IsUnfinished, PutLine, PutsLast, PutsLines, Round, Rounds, Stage, TakesOnce, lines_of, texts_of}
 
 -- This many bytes go on with a line: they end with its newline, or take all of its room, and then it is whole; or there
 -- is room for more.
@@ -30,7 +30,7 @@ pub record PutsText (terminal : Bool) (line : List ℕ) (heard : Bool) (known kn
 pub data LosesText (terminal : Bool) (line : List ℕ) (e : FollowEnding) (known : Known)
     (console console' : ConsoleState) : Type 0 where
   Unmade : e ≡ NoMemory → console' ≡ console → LosesText terminal line e known console console'
-  Unput : (known' : Known) → e ≡ ConsoleFault → PutsText terminal line false known known' console console'
+  Unsaid : (known' : Known) → e ≡ ConsoleFault → PutsText terminal line false known known' console console'
       → LosesText terminal line e known console console'
 
 -- how far a call has come that has this follower and this console
@@ -43,14 +43,6 @@ pub record GoesOn (came : List ℕ) (f f' : Follower) (console console' : Consol
   pub unfinished : IsUnfinished f'.line.items
   pub puts : PutsLines f.teller.terminal came true (stage_of f console) (stage_of f' console')
 
--- bytes came, and not all lines in them could be put
-pub record StopsIn (terminal : Bool) (came : List ℕ) (e : FollowEnding) (old : Stage) (console' : ConsoleState)
-    : Type 0 where
-  pub line : List ℕ
-  pub known : Known
-  pub ending : (e ≡ NoMemory) ⊎ (e ≡ ConsoleFault)
-  pub puts : PutsLines terminal came (is_heard e) old (record { line = line; known = known; console = console' })
-
 -- how the last line went, after which nothing comes
 pub data Finishes (terminal : Bool) (e : FollowEnding) (old : Stage) (console' : ConsoleState) : Type 0 where
   Lacks : e ≡ NoMemory → console' ≡ old.console → Finishes terminal e old console'
@@ -62,13 +54,25 @@ pub record IsTakeCause (e : FollowEnding) (feed feed' : FeedState) : Type 0 wher
   pub alone : e ≢ NotAlone
   pub takes : feed'.faults ≡ takes_after e feed.faults
 
--- some of a feed was taken, or more may be: if not, then none is left
-pub record TakesSome (more : Bool) (feed feed' : FeedState) (f f' : Follower) (console console' : ConsoleState)
+-- one take was made, and the whole lines in what it gave were put; if it gave nothing, then nothing is left
+pub record GoesRound (more : Bool) (feed feed' : FeedState) (f f' : Follower) (console console' : ConsoleState)
     : Type 0 where
   pub came : List ℕ
-  pub takes : Takes came feed feed'
+  pub takes : TakesOnce came feed feed'
   pub none : more ≡ false → IsTrue feed.tells → feed'.left ≡ []
   pub goes : GoesOn came f f' console console'
+
+-- rounds were made, after each of which all whole lines that came were put
+pub record GoesRounds (feed feed' : FeedState) (f f' : Follower) (console console' : ConsoleState) : Type 0 where
+  pub terminal : f'.teller.terminal ≡ f.teller.terminal
+  pub unfinished : IsUnfinished f'.line.items
+  pub rounds : List Round
+  pub goes : Rounds f.teller.terminal rounds feed feed' (stage_of f console) (stage_of f' console')
+
+-- rounds were made, and the last one found the end of the feed
+pub record FindsEnd (feed feed' : FeedState) (f f' : Follower) (console console' : ConsoleState) : Type 0 where
+  pub goes : GoesRounds feed feed' f f' console console'
+  pub none : IsTrue feed.tells → feed'.left ≡ []
 
 -- the last line was put, if there is one, and nothing after it
 pub record PutsRest (terminal heard : Bool) (old : Stage) (known' : Known) (console' : ConsoleState) : Type 0 where

@@ -1,12 +1,31 @@
--- How a call that follows a rescue ends. For contracts and proofs: no promise uses it.
-use Rattle.std.specs.Prelude.{◌≡◌, ◌≢◌, ℕ, Bool, true, false, List, [], codes}
+-- How a call that follows a rescue is asked for, and how it ends. For contracts and proofs: no promise uses it.
+use Rattle.std.specs.Prelude.{◌≡◌, ◌≢◌, ◌≤◌, ℕ, Bool, true, false, List, [], codes}
 use Rattle.fault_count.specs.Counts.{raised}
 use Rattle.rescue_console.specs.ConsoleState.{ConsoleState}
 use Rattle.rescue_console.specs.FeedState.{FeedState}
 use Rattle.console_texts.specs.Texts.{message_of}
+use Rattle.option_words.specs.declared.fault.UsageFault.{UsageFault}
+use Rattle.option_words.specs.declared.fault.UsageFault.TheVariants.{Word}
+use Rattle.option_words.specs.declared.fault.WordFault.TheVariants.{UnknownLong}
+use Rattle.option_words.specs.Words.{word}
+use Rattle.ddrescueshow_words.specs.Command.{AreRefused}
 use Rattle.ddrescueshow_cli.specs.Names.{program_name}
 use Rattle.ddrescueshow_cli.specs.declared.follow.FollowEnding.{FollowEnding}
 use Rattle.ddrescueshow_cli.specs.declared.follow.FollowEnding.TheVariants.{Done, NotAlone, FeedFault, ConsoleFault, NoMemory}
+
+-- the fault is that a word can't be read, and that word is `--progress`
+pub record IsAtProgress (words : List (List ℕ)) (fault : UsageFault) : Type 0 where
+  pub at : ℕ
+  pub unread : fault ≡ Word (UnknownLong at)
+  pub counted : 1 ≤ at
+  pub is : word words at ≡ codes "--progress"
+
+-- the words ask to follow a rescue: as the words of a picture they are refused, since the first of them that can't be
+-- read is `--progress`
+pub record AskToFollow (words : List (List ℕ)) : Type 0 where
+  pub fault : UsageFault
+  pub refused : AreRefused words fault
+  pub is : IsAtProgress words fault
 
 -- all was put, so there is no message
 abbrev pub is_followed : FollowEnding → Bool

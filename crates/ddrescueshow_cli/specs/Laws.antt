@@ -3,10 +3,13 @@ use Rattle.std.specs.Prelude.{◌≡◌, ◌↔◌, ℕ, ◌+◌, ◌*◌, ◌<�
 use Rattle.std.specs.List.{flat_map}
 use Rattle.block_list.specs.declared.status.Status.{Status}
 use Rattle.block_list.specs.declared.status.Status.TheVariants.{NonTried, NonTrimmed, NonScraped, BadSector, Finished}
-use Rattle.crash_site.specs.SiteState.{files_in}
+use Rattle.crash_site.specs.Files.{File}
+use Rattle.crash_site.specs.Left.{MayBeLeft}
+use Rattle.crash_site.specs.SiteState.{SiteState, files_in}
 use Rattle.map_algebra.specs.At.{status_at}
 use Rattle.map_algebra.specs.Compare.{IsDoneIn}
 use Rattle.map_algebra.specs.Summary.{summary_of}
+use Rattle.save_resume.specs.SaveStops.{CouldBefore}
 use Rattle.program_promise.specs.World.{Told}
 use Rattle.program_promise.specs.Kinds.{IsVerdictKind}
 use Rattle.program_promise.specs.Laws.{KeepsPromises}
@@ -131,10 +134,19 @@ abbrev pub HasOneVerdict : Type 0
 HasOneVerdict = (c : Command) (found : Found) (e e' : ShowEnding) (d d' : Deeds) → ShowWorks c found e d
     → ShowWorks c found e' d' → IsVerdict e → IsVerdict e' → e ≡ e'
 
--- If the files tell, all of them read as they did, whatever is asked for and however the call ends.
+-- All files are left as they were:
+pub record LeavesAllFiles (old new : SiteState) : Type 0 where
+  -- each reads as it did,
+  pub reads : (name : List ℕ) → files_in new name ≡ files_in old name
+  -- and at whatever moment a call is stopped, between or within its calls on the files, each is found as it could be
+  -- before.
+  pub stops : (k : ℕ) (files : List ℕ → Option File) (name : List ℕ) → length old.calls ≤ k → k ≤ length new.calls
+      → MayBeLeft new.start new.calls k files → CouldBefore old name (files name)
+
+-- If the files tell, all of them are left as they were, whatever is asked for, and however and whenever the call ends.
 abbrev pub FilesStand : Type 0
 FilesStand = (terminal : Bool) (t : Told ShowEnding) (c : Command) → Ddrescueshow terminal t → Asks t.words c
-    → IsTrue t.before.site.tells → (name : List ℕ) → files_in t.after.site name ≡ files_in t.before.site name
+    → IsTrue t.before.site.tells → LeavesAllFiles t.before.site t.after.site
 
 -- ---- a small picture
 

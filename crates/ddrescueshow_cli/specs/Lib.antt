@@ -7,6 +7,7 @@ pub mod Answers
 pub mod Work
 pub mod Ddrescueshow
 pub mod Steps
+pub mod Rate
 pub mod Progress
 pub mod Following
 pub mod PutLines

@@ -12,6 +12,7 @@ use Rattle.rescue_lines.specs.Lines.{IsHead, IsReport, figures_line, head_text, 
 use Rattle.ddrescueshow_cli.specs.declared.follower.Known.{Known}
 use Rattle.ddrescueshow_cli.specs.declared.rate.Sample.{Sample}
 use Rattle.ddrescueshow_cli.specs.Picture.{share, share_text}
+use Rattle.ddrescueshow_cli.specs.Rate.{lines_at, lines_with, rate_from}
 
 -- how many columns a line has at most
 abbrev pub columns : ℕ
@@ -79,12 +80,6 @@ progress_text size rate f =
 abbrev pub ProgressFits : Type 0
 ProgressFits = (size rate : Option ℕ) (f : Figures) → IsHead f.head → length (progress_text size rate f) ≤ columns
 
--- how many bytes a second were rescued from an earlier line up to a later one
-abbrev pub rate_between : (earlier later : Sample) → Option ℕ
-rate_between earlier later =
-    if nat_lt earlier.seconds later.seconds
-    then Some ((later.rescued - earlier.rescued) / (later.seconds - earlier.seconds)) else None
-
 -- ---- what is put
 
 -- Over a line on a terminal the next one is put from its front on, and so are blanks up to the last column.
@@ -108,16 +103,30 @@ pub data IsSizeAfter (line : List ℕ) (size size' : Option ℕ) : Type 0 where
   Another : ((n : ℕ) (rest : List ℕ) → n < 2 ^ 64 → line ≢ opening_front n ++ rest) → size' ≡ size
       → IsSizeAfter line size size'
 
--- what is known after a line of figures
-abbrev pub after_figures : (terminal : Bool) → Known → Known
-after_figures terminal known = record { is_up = terminal; size = known.size }
+-- what a line of figures tells for the rate
+abbrev pub sample_of : Figures → Sample
+sample_of f = record { seconds = f.seconds; rescued = f.rescued }
 
--- What is put of a line: that of its figures, if a rescue prints such a line, and else the line itself. Nothing more is
--- told of the rate.
+-- the rate at a line of figures, from an earlier one
+abbrev pub rate_in : Known → Figures → Option ℕ
+rate_in known f = rate_from (sample_of f) (lines_at (sample_of f) known.lately)
+
+-- what is known after a line of figures
+abbrev pub after_figures : (terminal : Bool) → Known → Figures → Known
+after_figures terminal known f = record {
+  is_up = terminal;
+  size = known.size;
+  lately = lines_with (sample_of f) (lines_at (sample_of f) known.lately);
+}
+
+-- what is put of a line of figures
+abbrev pub figures_text : (terminal : Bool) → Known → Figures → List ℕ
+figures_text terminal known f = shown_text terminal (progress_text known.size (rate_in known f) f)
+
+-- What is put of a line: that of its figures, if a rescue prints such a line, and else the line itself.
 pub data IsSaid (terminal : Bool) (known known' : Known) (line text : List ℕ) : Type 0 where
-  OfFigures : (f : Figures) (rate : Option ℕ) → line ≡ figures_line f
-      → text ≡ shown_text terminal (progress_text known.size rate f) → known' ≡ after_figures terminal known
-      → IsSaid terminal known known' line text
+  OfFigures : (f : Figures) → line ≡ figures_line f → text ≡ figures_text terminal known f
+      → known' ≡ after_figures terminal known f → IsSaid terminal known known' line text
   Passed : ((head : Head) (r : Report) → IsHead head → IsReport r → line ≢ report_text (head_text head) r)
       → text ≡ passed_text known.is_up line → known'.is_up ≡ false → IsSizeAfter line known.size known'.size
-      → IsSaid terminal known known' line text
+      → known'.lately ≡ known.lately → IsSaid terminal known known' line text

@@ -2,12 +2,13 @@
 -- For contracts and proofs: no promise uses it.
 use Rattle.std.specs.Prelude.{◌≡◌, ◌≢◌, ◌⊎◌, ℕ, ◌<◌, ◌≤◌, ⊤, Bool, true, false, IsTrue, List, [], ◌∷◌, ◌++◌, length, map, None, if◌then◌else◌}
 use Rattle.std.specs.List.{All, flat_map}
+use Rattle.fault_count.specs.Schedule.{with_call}
 use Rattle.program_promise.specs.Saying.{SaysAs}
 use Rattle.rescue_console.specs.ConsoleState.{ConsoleState}
 use Rattle.rescue_console.specs.FeedState.{FeedState}
 use Rattle.rescue_console.specs.Speaking.{SpeaksOn, out_pieces}
 use Rattle.ddrescueshow_cli.specs.declared.follow.FollowEnding.{FollowEnding}
-use Rattle.ddrescueshow_cli.specs.declared.follow.FollowEnding.TheVariants.{Done, FeedFault}
+use Rattle.ddrescueshow_cli.specs.declared.follow.FollowEnding.TheVariants.{Done, FeedFault, ConsoleFault, NoMemory}
 use Rattle.ddrescueshow_cli.specs.declared.follower.Known.{Known}
 use Rattle.ddrescueshow_cli.specs.Following.{ending_of, follow_message, is_followed, is_heard}
 use Rattle.ddrescueshow_cli.specs.Progress.{IsSaid}
@@ -71,7 +72,7 @@ pub record Stage : Type 0 where
 
 -- what is known before the first line
 abbrev pub known_at_first : Known
-known_at_first = record { is_up = false; size = None }
+known_at_first = record { is_up = false; size = None; lately = [] }
 
 -- how far a call has come before the first line
 abbrev pub first_stage : ConsoleState → Stage
@@ -108,26 +109,67 @@ pub record Takes (came : List ℕ) (feed feed' : FeedState) : Type 0 where
   pub tells : feed'.tells ≡ feed.tells
   pub taken : IsTrue feed.tells → feed.left ≡ came ++ feed'.left
 
--- A call broke off before the end of the feed was found. After a take that failed no whole line is left.
-pub record BreaksOff (terminal : Bool) (e : FollowEnding) (feed feed' : FeedState) (old : Stage)
-    (console' : ConsoleState) : Type 0 where
-  pub came : List ℕ
+-- a feed was asked once: if it counts its calls, there is one more
+pub record AsksOnce (feed feed' : FeedState) : Type 0 where
+  pub scheduled : feed'.is_scheduled ≡ feed.is_scheduled
+  pub one : IsTrue feed.is_scheduled → feed'.schedule ≡ with_call feed.schedule
+
+-- one take gave these bytes, at most as many as the longest line has
+pub record TakesOnce (came : List ℕ) (feed feed' : FeedState) : Type 0 where
   pub takes : Takes came feed feed'
+  pub asks : AsksOnce feed feed'
+  pub few : length came ≤ longest
+
+-- a round of a call: what one take gave, the feed after it, and how far the call has come when the lines are put
+pub record Round : Type 0 where
+  pub came : List ℕ
+  pub after : FeedState
+  pub stage : Stage
+
+-- Rounds, one after another. Before a round's take, each whole line that came in the rounds before it was put.
+abbrev pub Rounds : (terminal : Bool) → List Round → (feed feed' : FeedState) → (old new : Stage) → Type 0
+Rounds terminal [] feed feed' old new = (feed' ≡ feed) × (new ≡ old)
+Rounds terminal (r ∷ rs) feed feed' old new =
+    TakesOnce r.came feed r.after × PutsLines terminal r.came true old r.stage × IsUnfinished r.stage.line
+    × Rounds terminal rs r.after feed' r.stage new
+
+-- of the lines in what a take gave not all could be put: a put failed, which is the last one, or memory ran out
+pub record StopsIn (terminal : Bool) (came : List ℕ) (e : FollowEnding) (old : Stage) (console' : ConsoleState)
+    : Type 0 where
   pub line : List ℕ
   pub known : Known
+  pub ending : (e ≡ NoMemory) ⊎ (e ≡ ConsoleFault)
   pub puts : PutsLines terminal came (is_heard e) old (record { line = line; known = known; console = console' })
-  pub undone : e ≢ Done
-  pub unfinished : e ≡ FeedFault → IsUnfinished line
 
--- A call came to the end of the feed, and all was put, or a put failed.
+-- how a call broke off after some rounds: it made one more take, which failed, or whose lines couldn't all be put; or
+-- memory ran out before it made one
+pub data Breaks (terminal : Bool) (e : FollowEnding) (feed feed' : FeedState) (old : Stage) (console' : ConsoleState)
+    : Type 0 where
+  Untaken : e ≡ FeedFault → Takes [] feed feed' → AsksOnce feed feed' → console' ≡ old.console
+      → Breaks terminal e feed feed' old console'
+  Unput : (came : List ℕ) → TakesOnce came feed feed' → StopsIn terminal came e old console'
+      → Breaks terminal e feed feed' old console'
+  Starved : e ≡ NoMemory → feed' ≡ feed → console' ≡ old.console → Breaks terminal e feed feed' old console'
+
+-- A call broke off before all was put. Before its last take, all whole lines that had come were put.
+pub record BreaksOff (terminal : Bool) (e : FollowEnding) (feed feed' : FeedState) (old : Stage)
+    (console' : ConsoleState) : Type 0 where
+  pub rounds : List Round
+  pub last : FeedState
+  pub stage : Stage
+  pub goes : Rounds terminal rounds feed last old stage
+  pub breaks : Breaks terminal e last feed' stage console'
+
+-- A call came to the end of the feed, before which all whole lines were put. Then the rest was put, or a put failed.
 pub record ComesToEnd (terminal : Bool) (e : FollowEnding) (feed feed' : FeedState) (old : Stage)
     (console' : ConsoleState) : Type 0 where
-  pub came : List ℕ
-  pub takes : Takes came feed feed'
+  pub rounds : List Round
+  pub stage : Stage
+  pub goes : Rounds terminal rounds feed feed' old stage
   pub none : IsTrue feed.tells → feed'.left ≡ []
   pub heard : Bool
   pub is : e ≡ ending_of heard
-  pub puts : PutsLast terminal came heard old console'
+  pub puts : PutsLast terminal [] heard stage console'
 
 -- how a call goes before the message: it broke off, or came to the end of the feed
 abbrev pub Goes : (terminal : Bool) → FollowEnding → (feed feed' : FeedState) → Stage → ConsoleState → Type 0

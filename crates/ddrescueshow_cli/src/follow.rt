@@ -105,6 +105,17 @@ pub fn follow<I: Feed, P: Console>(
     ending
 }
 
+/// Says that there wasn't enough memory to read the words, by one message.
+pub fn starve<P: Console>(console: &mut P) -> FollowEnding
+    ensures answer { result ≡ FollowEnding.NoMemory }
+    ensures said { SaysAs false false (follow_message FollowEnding.NoMemory) (P.state console.old)
+        (P.state console.new) }
+{
+    let ending = FollowEnding::NoMemory;
+    say_ending(console, ending, false);
+    ending
+}
+
 /// Refuses a call that has other arguments, by one message.
 pub fn refuse<P: Console>(console: &mut P) -> FollowEnding
     ensures answer { result ≡ FollowEnding.NotAlone }

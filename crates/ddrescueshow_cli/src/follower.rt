@@ -1,11 +1,11 @@
 //! A rescue that is followed: its lines, and what is put of each.
-ghost use Rattle.std.specs.Prelude.{◌≡◌, ℕ, ◌-◌, ◌<◌, ◌≤◌, true, false, [], ◌∷◌, length, take, Option, IfErr, IfOk, IfSome, OnOk};
+ghost use Rattle.std.specs.Prelude.{◌≡◌, ℕ, ◌-◌, ◌<◌, ◌≤◌, true, false, [], ◌∷◌, length, take, IfErr, IfOk, IfSome, OnOk};
 ghost use Rattle.std.specs.List.{position};
 ghost use Rattle.mapfile_text.specs.Lines.{is_newline};
 ghost use Rattle.rescue_console.specs.Speaking.{SpeaksOn, out_pieces};
-ghost use Rattle.ddrescueshow_cli.specs.Progress.{IsSaid, IsSizeAfter, after_figures, passed_text, progress_text, shown_text};
-ghost use Rattle.ddrescueshow_cli.specs.PutLines.{BreaksOff, Goes, IsUnfinished, known_at_first};
-ghost use Rattle.ddrescueshow_cli.specs.FollowSteps.{Finishes, GoesOn, IsPart, IsTakeCause, LosesText, PutsRest, PutsText, StopsIn, TakesSome, stage_of};
+ghost use Rattle.ddrescueshow_cli.specs.Progress.{IsSaid, IsSizeAfter, after_figures, figures_text, passed_text};
+ghost use Rattle.ddrescueshow_cli.specs.PutLines.{Breaks, BreaksOff, Goes, IsUnfinished, StopsIn, known_at_first};
+ghost use Rattle.ddrescueshow_cli.specs.FollowSteps.{FindsEnd, Finishes, GoesOn, GoesRound, IsPart, IsTakeCause, LosesText, PutsRest, PutsText, stage_of};
 
 use crate::follow::FollowEnding;
 use crate::progress::{passed_text, text_of_figures};
@@ -20,12 +20,14 @@ use std::alloc::Global;
 const LONGEST: usize = 4096;
 
 /// What is known after some lines.
-#[derive(Clone, Copy)]
+#[derive(Drop)]
 struct Known {
     /// A line of figures is up on the terminal.
     is_up: bool,
     /// The size of the domain, if a line said it.
     size: Option<u64>,
+    /// The lines of figures from which the rate is counted.
+    lately: Lately,
 }
 
 /// Bytes that go on with a line.
@@ -96,7 +98,6 @@ struct Teller {
     /// Standard output is a terminal.
     terminal: bool,
     known: Known,
-    lately: Lately,
 }
 
 impl Teller {
@@ -105,24 +106,23 @@ impl Teller {
         ensures text { IfOk result (λ text. text.items ≡ passed_text self.old.known.is_up line.now) }
         ensures up { OnOk result (self.new.known.is_up ≡ false) }
         ensures size { OnOk result (IsSizeAfter line.now self.old.known.size self.new.known.size) }
+        ensures lately { self.new.known.lately ≡ self.old.known.lately }
         ensures terminal { self.new.terminal ≡ self.old.terminal }
     {
         let text = passed_text(self.alloc, self.known.is_up, line)?;
-        self.known = Known {
-            is_up: false,
-            size: size_after(line, self.known.size),
-        };
+        self.known.is_up = false;
+        self.known.size = size_after(line, self.known.size);
         Ok(text)
     }
 
     /// What is put of a line, which is a rescue's.
     fn shown(&mut self, figures: &Figures) -> Result<Vec<u8>, NoMemory>
-        ensures text { IfOk result (λ text. (rate : Option ℕ)
-            × (text.items ≡ shown_text self.old.terminal (progress_text self.old.known.size rate figures.now))) }
-        ensures known { self.new.known ≡ after_figures self.old.terminal self.old.known }
+        ensures text { IfOk result (λ text. text.items
+            ≡ figures_text self.old.terminal self.old.known figures.now) }
+        ensures known { self.new.known ≡ after_figures self.old.terminal self.old.known figures.now }
         ensures terminal { self.new.terminal ≡ self.old.terminal }
     {
-        let rate = self.lately.rate_at(Sample {
+        let rate = self.known.lately.rate_at(Sample {
             seconds: figures.seconds,
             rescued: figures.rescued,
         });
@@ -183,8 +183,8 @@ impl Follower {
                 known: Known {
                     is_up: false,
                     size: None,
+                    lately: Lately::new(),
                 },
-                lately: Lately::new(),
             },
             line: Vec::new(alloc),
         }
@@ -230,7 +230,7 @@ impl Follower {
         Ok(())
     }
 
-    /// Takes what has come. Says whether more may come.
+    /// Takes what has come, by one take, and puts each line that is whole with it. Says whether more may come.
     fn take_some<I: Feed, P: Console>(
         &mut self,
         feed: &mut I,
@@ -239,9 +239,9 @@ impl Follower {
         requires { IsUnfinished self.old.line.items }
         ensures takes { OnOk result ((I.state feed.new).faults ≡ (I.state feed.old).faults) }
         ensures cause { IfErr result (λ e. IsTakeCause e (I.state feed.old) (I.state feed.new)) }
-        ensures goes { IfOk result (λ more. TakesSome more (I.state feed.old) (I.state feed.new) self.old self.new
+        ensures goes { IfOk result (λ more. GoesRound more (I.state feed.old) (I.state feed.new) self.old self.new
             (P.state console.old) (P.state console.new)) }
-        ensures breaks { IfErr result (λ e. BreaksOff self.old.teller.terminal e (I.state feed.old) (I.state feed.new)
+        ensures breaks { IfErr result (λ e. Breaks self.old.teller.terminal e (I.state feed.old) (I.state feed.new)
             (stage_of self.old (P.state console.old)) (P.state console.new)) }
     {
         let mut buffer = [0u8; LONGEST];
@@ -256,7 +256,7 @@ impl Follower {
         Ok(true)
     }
 
-    /// Takes all that comes.
+    /// Takes all that comes. What one take gave is put before the next one is made.
     fn take_all<I: Feed, P: Console>(
         &mut self,
         feed: &mut I,
@@ -265,7 +265,7 @@ impl Follower {
         requires { IsUnfinished self.old.line.items }
         ensures takes { OnOk result ((I.state feed.new).faults ≡ (I.state feed.old).faults) }
         ensures cause { IfErr result (λ e. IsTakeCause e (I.state feed.old) (I.state feed.new)) }
-        ensures goes { OnOk result (TakesSome false (I.state feed.old) (I.state feed.new) self.old self.new
+        ensures goes { OnOk result (FindsEnd (I.state feed.old) (I.state feed.new) self.old self.new
             (P.state console.old) (P.state console.new)) }
         ensures breaks { IfErr result (λ e. BreaksOff self.old.teller.terminal e (I.state feed.old) (I.state feed.new)
             (stage_of self.old (P.state console.old)) (P.state console.new)) }

@@ -58,7 +58,7 @@ pub fn maps_have_one_verdict()
     ensures { HasOneVerdict }
 {}
 
-/// After a call every file reads as it did before.
+/// After a call every file reads as it did before, and a stop at any moment finds each as it could be before.
 pub fn files_stand()
     ensures { FilesStand }
 {}

@@ -1,6 +1,7 @@
 //! `ddrescueshow`: the picture of a map, its answers, what it promises, and its top call.
 #![tactic(auto)]
 
+pub mod asked;
 mod cells;
 pub mod ending;
 mod figures;

@@ -1,8 +1,9 @@
 -- What was taken is gone on with.
-use Rattle.std.proofs.Common.{◌∙◌, refl, sym}
+use Rattle.std.proofs.Common.{arith}
 use Rattle.std.proofs.lemmas.Result.{err_from_is_err_and}
 use Rattle.ddrescueshow_cli.specs.FollowSteps.{stage_of}
-use Rattle.ddrescueshow_cli.proofs.FollowLemmas.{alone_putting, alone_taking, breaks_putting, breaks_taking, came_of, takes_none, took_none}
+use Rattle.ddrescueshow_cli.specs.PutLines.{Unput}
+use Rattle.ddrescueshow_cli.proofs.FollowLemmas.{alone_putting, alone_taking, breaks_taking, came_of, took_none}
 use Rattle.ddrescueshow_cli.proofs.follower.Follower.take_some.Goals as goal
 
 pub returns-in_default-clause-cause : goal.returns-in_default-clause-cause
@@ -10,9 +11,8 @@ returns-in_default-clause-cause g c = alone_taking (g.I.Feed.state c.args.feed.n
 
 pub returns-in_default-clause-breaks : goal.returns-in_default-clause-breaks
 returns-in_default-clause-breaks g c =
-    breaks_taking c.args.self.now.teller.terminal (g.I.Feed.state c.args.feed.now) _
-    (stage_of c.args.self.now (g.P.Console.state c.args.console.now)) c.requires c.in_default.ensures.call.keeps.tells
-    c.in_default.ensures.call.stays
+    breaks_taking c.args.self.now.teller.terminal _ _ _ (g.I.Feed.state c.args.feed.now) _
+    (stage_of c.args.self.now (g.P.Console.state c.args.console.now)) c.in_default.ensures.call
 
 pub returns-then-count-eq0-clause-goes : goal.returns-then-count-eq0-clause-goes
 returns-then-count-eq0-clause-goes g c =
@@ -30,15 +30,16 @@ pub returns-in_err-add_all-clause-breaks : goal.returns-in_err-add_all-clause-br
 returns-in_err-add_all-clause-breaks g c =
     let p = err_from_is_err_and c.from_residual.result c.from_residual.ensures.1 in
     rw (p.1, p.2)
-    (breaks_putting c.args.self.now.teller.terminal _ _ (g.I.Feed.state c.args.feed.now) (g.I.Feed.state c.take.new.self)
-    (stage_of c.args.self.now (g.P.Console.state c.args.console.now)) _
-    (came_of _ c.in-Ok.count _ _ (g.I.Feed.state c.args.feed.now) (g.I.Feed.state c.take.new.self) c.in-Ok.ensures.call c.split_at.ensures.front)
+    (Unput _
+    (came_of _ c.in-Ok.count _ _ (g.I.Feed.state c.args.feed.now) (g.I.Feed.state c.take.new.self) c.in-Ok.ensures.call
+    c.split_at.ensures.front (omega (arith, c.in-Ok.ensures.count)))
     c.in_err-add_all.ensures.stops)
 
 pub returns-clause-goes : goal.returns-clause-goes
 returns-clause-goes g c = record {
   came = _;
-  takes = came_of _ c.in-Ok.count _ _ (g.I.Feed.state c.args.feed.now) (g.I.Feed.state c.take.new.self) c.in-Ok.ensures.call c.split_at.ensures.front;
+  takes = came_of _ c.in-Ok.count _ _ (g.I.Feed.state c.args.feed.now) (g.I.Feed.state c.take.new.self) c.in-Ok.ensures.call
+      c.split_at.ensures.front (omega (arith, c.in-Ok.ensures.count));
   none = λ ended. cc ended;
   goes = c.in_ok-add_all.ensures.goes;
 }

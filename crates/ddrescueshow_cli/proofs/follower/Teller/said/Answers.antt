@@ -4,10 +4,9 @@ use Rattle.ddrescueshow_cli.proofs.follower.Teller.said.Goals as goal
 
 pub returns-clause-said : goal.returns-clause-said
 returns-clause-said c =
-    OfFigures c.in-Some.figures c.in_ok-text-2.ensures.text.0 c.in-Some.ensures.printed c.in_ok-text-2.ensures.text.1
-    c.in_ok-text-2.ensures.known
+    OfFigures c.in-Some.figures c.in-Some.ensures.printed c.in_ok-text-2.ensures.text c.in_ok-text-2.ensures.known
 
 pub returns-in_default-clause-said : goal.returns-in_default-clause-said
 returns-in_default-clause-said c =
     Passed (λ head r is_head is_report is. c.in_default.not-Some _ (c.read_line.ensures.read head r is_head is_report is))
-    c.in_ok-text.ensures.text c.in_ok-text.ensures.up c.in_ok-text.ensures.size
+    c.in_ok-text.ensures.text c.in_ok-text.ensures.up c.in_ok-text.ensures.size c.in_ok-text.ensures.lately
