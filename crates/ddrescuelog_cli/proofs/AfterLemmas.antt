@@ -19,17 +19,18 @@ use Rattle.program_promise.specs.Printing.{PutsByKind}
 use Rattle.program_promise.specs.Rows.{usage_kind}
 use Rattle.ddrescuelog_cli.specs.declared.ending.LogEnding.{LogEnding}
 use Rattle.ddrescuelog_cli.specs.declared.ending.LogEnding.TheVariants.{Done, NotDone, Differ, Usage, FeedFault, ConsoleFault}
-use Rattle.ddrescuelog_cli.specs.Modes.{prints, removes_map}
+use Rattle.ddrescuelog_cli.specs.Modes.{prints, puts_pieces, removes_map}
 use Rattle.ddrescuelog_cli.specs.Maps.{Maps}
 use Rattle.ddrescuelog_cli.specs.Refusals.{PlacesRefused}
 use Rattle.ddrescuelog_cli.specs.Answers.{FitsCommand, TakesFeed, drafting_left, row_of}
 use Rattle.ddrescuelog_cli.specs.After.{SiteLeft, feed_count, site_count}
-use Rattle.ddrescuelog_cli.specs.Printing.{PutsAs, PutsWhole}
+use Rattle.ddrescuelog_cli.specs.Printing.{PutsAs, PutsInPieces, PutsWhole}
 use Rattle.ddrescuelog_cli.specs.Ddrescuelog.{handed}
 use Rattle.ddrescuelog_cli.specs.Steps.{ReadCause}
 use Rattle.ddrescuelog_cli.specs.Work.{EndsPrinted, EndsAs, WorksOver}
 use Rattle.ddrescuelog_cli.specs.Worked.{FeedAfter}
 use Rattle.ddrescuelog_cli.proofs.FoundLemmas.{answers_have}
+use Rattle.ddrescuelog_cli.proofs.PieceLemmas.{pieces_print}
 
 -- ---- nothing happened to an object
 
@@ -89,6 +90,7 @@ pub plain_after : (e : LogEnding) (old new : SiteState) → IsPlain e → Stays 
     → SiteLeft e old new
 plain_after e old new plain stays kept = record {
   keeps = stays.keeps;
+  image = stays.image;
   counts = kept ∙ sym (plain.counts old.faults);
   also = plain.also;
   draft = λ none. stays.draft ∙ none ∙ sym plain.draft;
@@ -100,16 +102,17 @@ record ReadEnds (faults faults' : ℕ) (e : LogEnding) : Type 0 where
   also : (row_of e).also
   draft : drafting_left e ≡ false
   puts : (prints_text : Bool) (text : List ℕ) (s : ConsoleState) → PutsAs prints_text e text s s
+  pieces : (text : List ℕ) (s : ConsoleState) → PutsInPieces e text s s
 
 read_ends : (e : LogEnding) (faults faults' : ℕ) → ReadCause e faults faults' → ReadEnds faults faults' e
 read_ends e n n' (inl (is, kept)) =
-    subst (ReadEnds n n') (sym is) (record { counts = kept; also = tt; draft = refl; puts = λ b text s. refl })
+    subst (ReadEnds n n') (sym is) (record { counts = kept; also = tt; draft = refl; puts = λ b text s. refl; pieces = λ text s. refl })
 read_ends e n n' (inr (inl (which, is, kept))) =
-    subst (ReadEnds n n') (sym is) (record { counts = kept; also = tt; draft = refl; puts = λ b text s. refl })
+    subst (ReadEnds n n') (sym is) (record { counts = kept; also = tt; draft = refl; puts = λ b text s. refl; pieces = λ text s. refl })
 read_ends e n n' (inr (inr (inl (which, error, is, other, kept)))) =
-    subst (ReadEnds n n') (sym is) (record { counts = kept; also = other; draft = refl; puts = λ b text s. refl })
+    subst (ReadEnds n n') (sym is) (record { counts = kept; also = other; draft = refl; puts = λ b text s. refl; pieces = λ text s. refl })
 read_ends e n n' (inr (inr (inr (is, rose)))) =
-    subst (ReadEnds n n') (sym is) (record { counts = rose; also = tt; draft = refl; puts = λ b text s. refl })
+    subst (ReadEnds n n') (sym is) (record { counts = rose; also = tt; draft = refl; puts = λ b text s. refl; pieces = λ text s. refl })
 
 pub read_after : (e : LogEnding) (old new : SiteState) → Stays old new → ReadCause e old.faults new.faults
     → SiteLeft e old new
@@ -117,6 +120,7 @@ read_after e old new stays cause =
     let r : ReadEnds old.faults new.faults e = read_ends e old.faults new.faults cause in
     record {
       keeps = stays.keeps;
+      image = stays.image;
       counts = r.counts;
       also = r.also;
       draft = λ none. stays.draft ∙ none ∙ sym r.draft;
@@ -126,6 +130,10 @@ read_after e old new stays cause =
 pub read_puts : (e : LogEnding) (faults faults' : ℕ) (prints_text : Bool) (text : List ℕ) (s : ConsoleState)
     → ReadCause e faults faults' → PutsAs prints_text e text s s
 read_puts e n n' b text s cause = (read_ends e n n' cause).puts b text s
+
+pub read_pieces : (e : LogEnding) (faults faults' : ℕ) (text : List ℕ) (s : ConsoleState) → ReadCause e faults faults'
+    → PutsInPieces e text s s
+read_pieces e n n' text s cause = (read_ends e n n' cause).pieces text s
 
 -- what became of the files after reads that returned and what came then
 pub after_reads : (e : LogEnding) (old mid new : SiteState) → Stays old mid → mid.faults ≡ old.faults
@@ -137,6 +145,7 @@ after_reads e old mid new stays kept b = record {
     scheduled = b.keeps.scheduled ∙ stays.keeps.scheduled;
     later = omega (arith, stays.keeps.later, b.keeps.later);
   };
+  image = b.image ∙ stays.image;
   counts = b.counts ∙ ap (site_count e) kept;
   also = b.also;
   draft = λ none. b.draft (stays.draft ∙ none);
@@ -180,6 +189,11 @@ pub puts_nothing : (e : LogEnding) (c : Command) (text : List ℕ) (s : ConsoleS
     → FitsCommand e c → PutsAs (prints c.mode) e text s s
 puts_nothing e c text s off fits =
     subst (λ (b : Bool). PutsAs b e text s s) (sym off) (nothing_put e c text s off fits)
+
+-- nor does it put pieces
+pub no_pieces_put : (e : LogEnding) (c : Command) (text : List ℕ) (s : ConsoleState) → prints c.mode ≡ false
+    → puts_pieces c.mode ≡ true → PutsInPieces e text s s
+no_pieces_put e c text s off on = absurd (both_ways (prints c.mode) off (pieces_print c.mode on))
 
 -- ---- the cause
 

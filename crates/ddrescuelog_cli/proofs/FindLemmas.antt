@@ -1,5 +1,5 @@
 -- What a mode that reads finds and prints, as its work.
-use Rattle.std.proofs.Common.{◌≡◌, ◌≢◌, ◌⊎◌, ℕ, Bool, true, false, List, [], length, flat_map, unwrap_or, Result, Ok, Err, OnOk, OnErr, IfOk, refl, sym, ap, ◌∙◌, inl, inr, subst}
+use Rattle.std.proofs.Common.{◌≡◌, ◌≢◌, ◌⊎◌, ℕ, Bool, true, false, List, [], length, flat_map, unwrap_or, Result, Ok, Err, is_ok, OnOk, OnErr, IfOk, refl, sym, ap, ◌∙◌, inl, inr, subst}
 use Rattle.std.proofs.Math.Path.{fun_ext}
 use Rattle.std.proofs.lemmas.Bool.{both_ways}
 use Rattle.block_list.specs.declared.status.Status.{Status}
@@ -28,15 +28,16 @@ use Rattle.ddrescuelog_words.specs.Command.{Command}
 use Rattle.ddrescuelog_cli.specs.declared.load.LoadedMaps.{LoadedMaps}
 use Rattle.ddrescuelog_cli.specs.declared.ending.LogEnding.{LogEnding}
 use Rattle.ddrescuelog_cli.specs.declared.ending.LogEnding.TheVariants.{Done, Usage, ConsoleFault, NoMemory}
-use Rattle.ddrescuelog_cli.specs.Modes.{looks_at_places, prints}
+use Rattle.ddrescuelog_cli.specs.Modes.{looks_at_places, prints, puts_pieces}
 use Rattle.ddrescuelog_cli.specs.Maps.{Maps, shape_of, domain_of}
 use Rattle.ddrescuelog_cli.specs.Results.{map_text, number_line, summary_text, text_of}
 use Rattle.ddrescuelog_cli.specs.Refusals.{PlacesRefused}
 use Rattle.work_rules.specs.Parts.{only_calls}
 use Rattle.work_rules.proofs.PartLemmas.{idle}
 use Rattle.ddrescuelog_cli.specs.Work.{EndsPrinted, EndsAs, WorksOver}
-use Rattle.ddrescuelog_cli.specs.Printing.{PutsAs}
+use Rattle.ddrescuelog_cli.specs.Printing.{PutsAs, PutsInPieces, PutsPieces}
 use Rattle.ddrescuelog_cli.specs.Steps.{IsLoadedAs, HasFound, printed_as}
+use Rattle.ddrescuelog_cli.proofs.PieceLemmas.{pieces_as, printed_pieces}
 
 -- the heading of a map with this command line
 abbrev pub heading_of : List ℕ → HeadingLines
@@ -52,8 +53,9 @@ found_as : (c : Command) (mode : LogMode) (h : HeadingLines) (m : Maps) (e : Log
     → c.mode ≡ mode → looks_at_places mode ≡ false
     → ((line list : List ℕ) → EndsAs mode c line list m e (only_calls []))
     → ((line : List ℕ) → h ≡ heading_of line → PutsAs (prints mode) e (text_of mode c line m) old new)
+    → ((line : List ℕ) → puts_pieces mode ≡ true → PutsInPieces e (text_of mode c line m) old new)
     → HasFound c h m e old new
-found_as c mode h m e old new is looks ends out = record {
+found_as c mode h m e old new is looks ends out pieces = record {
   ends = λ line list.
       inr (inr (
         passes c mode m is looks,
@@ -61,6 +63,9 @@ found_as c mode h m e old new is looks ends out = record {
       ));
   out = λ line heads.
       subst (λ (x : LogMode). PutsAs (prints x) e (text_of x c line m) old new) (sym is) (out line heads);
+  pieces = λ line heads.
+      subst (λ (x : LogMode). puts_pieces x ≡ true → PutsInPieces e (text_of x c line m) old new) (sym is)
+      (pieces line);
 }
 
 -- memory ran out for what was to be printed
@@ -70,6 +75,8 @@ starved_as c h m e old new is same = record {
   ends = λ line list. inl (is, idle);
   out = λ line heads.
       subst (λ (x : LogEnding). PutsAs (prints c.mode) x (text_of c.mode c line m) old new) (sym is) same;
+  pieces = λ line heads on.
+      subst (λ (x : LogEnding). PutsInPieces x (text_of c.mode c line m) old new) (sym is) same;
 }
 
 -- ---- a text that was put, or not all of it
@@ -112,18 +119,20 @@ same_text line h shown shown' s t heads shows same =
 -- the map that a mode makes was printed, if there was memory for it
 made_printed : {F : Type 0} (c : Command) (mode : LogMode) (h : HeadingLines) (m : Maps) (made : Result Tiled F)
     (shown : MapState) (statuses : List Status) (e : LogEnding) (old new : ConsoleState) → c.mode ≡ mode
-    → prints mode ≡ true → looks_at_places mode ≡ false → ((line list : List ℕ) → EndsPrinted e (only_calls [])
+    → prints mode ≡ true → puts_pieces mode ≡ false → looks_at_places mode ≡ false
+    → ((line list : List ℕ) → EndsPrinted e (only_calls [])
     → EndsAs mode c line list m e (only_calls []))
     → ((line : List ℕ) → map_text line m.shown statuses ≡ text_of mode c line m) → shown ≡ m.shown
     → IfOk made (λ t. t.statuses ≡ statuses) → OnErr made ((e ≡ NoMemory) × (new ≡ old)) → OnOk made (IsPrinted e)
     → IfOk made (λ t. PutsAs true e (printed h shown t.statuses) old new) → HasFound c h m e old new
-made_printed c mode h m (Ok t) shown statuses e old new is has looks ends texts shows makes starved answers put =
+made_printed c mode h m (Ok t) shown statuses e old new is has whole looks ends texts shows makes starved answers put =
     found_as c mode h m e old new is looks (λ line list. ends line list (ends_printed e answers))
     (λ line heads.
     subst (λ (b : Bool). PutsAs b e (text_of mode c line m) old new) (sym has)
     (subst (λ (x : List ℕ). PutsAs true e x old new)
     (same_text line h shown m.shown t.statuses statuses heads shows makes ∙ texts line) put))
-made_printed c mode h m (Err f) shown statuses e old new is has looks ends texts shows makes starved answers put =
+    (λ line on. absurd (both_ways (puts_pieces mode) whole on))
+made_printed c mode h m (Err f) shown statuses e old new is has whole looks ends texts shows makes starved answers put =
     starved_as c h m e old new starved.0 starved.1
 
 domain_is : (c : Command) (m : Maps) (l : LoadedMaps) → IsLoadedAs c m l → covers l.domain ≡ domain_of c m
@@ -155,7 +164,7 @@ pub changed_found : {F : Type 0} (c : Command) (change : TypeChange) (h : Headin
     → IfOk made (λ t. PutsAs true e (printed h l.state t.statuses) old new) → HasFound c h m e old new
 changed_found c change h m l made e old new is loaded makes starved answers put =
     made_printed c (Change change) h m made l.state (changed_map (domain_of c m) change m.statuses) e old new is refl
-    refl
+    refl refl
     (λ line list ends. ends) (λ line. refl) loaded.shown
     (then_is made (changed_map (covers l.domain) change l.tiles.statuses)
     (changed_map (domain_of c m) change m.statuses)
@@ -169,7 +178,7 @@ pub combined_found : {F : Type 0} (c : Command) (op : Op) (h : HeadingLines) (m 
     → IfOk made (λ t. PutsAs true e (printed h l.state t.statuses) old new) → HasFound c h m e old new
 combined_found c op h m l made e old new is loaded makes starved answers put =
     made_printed c (Combine op) h m made l.state (combined_map op (domain_of c m) m.statuses m.other) e old new is refl
-    refl
+    refl refl
     (λ line list ends. ends) (λ line. refl) loaded.shown
     (then_is made (combined_map op (covers l.domain) l.tiles.statuses l.other.statuses)
     (combined_map op (domain_of c m) m.statuses m.other) (combined_is c op m l loaded) makes)
@@ -186,6 +195,7 @@ completed_found c status h m l r e old new is loaded answers put part =
     (same_text line h l.state m.shown l.tiles.statuses m.statuses heads loaded.shown loaded.statuses)
     (puts_as r e (printed h l.state l.tiles.statuses) old new answers put part
     (on_err r (printed h l.state l.tiles.statuses ≢ []) (map_is_some h l.state l.tiles.statuses))))
+    (λ line on. absurd (both_ways false refl on))
 
 -- ---- a summary
 
@@ -200,13 +210,14 @@ summary_is c m l is =
 pub summarized_found : {T F : Type 0} (c : Command) (h : HeadingLines) (m : Maps) (l : LoadedMaps) (text : List ℕ)
     (r : Result T F) (e : LogEnding) (old new : ConsoleState) → c.mode ≡ Summarize → IsLoadedAs c m l
     → text ≡ summary_text l.state (summary_of (covers l.domain) l.tiles.statuses) → e ≡ printed_as r
-    → OnOk r (Puts Out text old new) → OnErr r (PutsPart Out text old new) → OnErr r (text ≢ [])
-    → HasFound c h m e old new
-summarized_found c h m l text r e old new is loaded makes answers put part some =
+    → PutsPieces text (is_ok r) old new → HasFound c h m e old new
+summarized_found c h m l text r e old new is loaded makes answers puts =
+    let whole : List ℕ = summary_text m.shown (summary_of (domain_of c m) m.statuses) in
+    let put : PutsInPieces e whole old new =
+    subst (λ (x : List ℕ). PutsInPieces e x old new) (makes ∙ summary_is c m l loaded)
+    (printed_pieces r e text old new answers puts) in
     found_as c Summarize h m e old new is refl (λ line list. ends_printed e (is_printed r e answers))
-    (λ line heads.
-    subst (λ (x : List ℕ). PutsAs true e x old new) (makes ∙ summary_is c m l loaded)
-    (puts_as r e text old new answers put part some))
+    (λ line heads. pieces_as e whole old new put) (λ line on. put)
 
 -- ---- numbers of blocks
 
@@ -282,7 +293,7 @@ pub listed_found : (c : Command) (types : TypeSet) (h : HeadingLines) (m : Maps)
     → AreAllPlaced (whole_of c l.tiles.statuses) c.options.input_position
     (unwrap_or c.options.output_position c.options.input_position))
     → IsPlaceRefused e ⊎ (e ≡ Done) ⊎ (e ≡ ConsoleFault)
-    → PutsAs true e (flat_map number_line (listed_in c types l)) old new → HasFound c h m e old new
+    → PutsInPieces e (flat_map number_line (listed_in c types l)) old new → HasFound c h m e old new
 listed_found c types h m l e old new is loaded beyond fit answers put = record {
   ends = list_ends c types m e is
       (λ refused. subst (λ (s : List Status). IsAnyBeyond (whole_of c s) c.options.input_position
@@ -294,5 +305,9 @@ listed_found c types h m l e old new is loaded beyond fit answers put = record {
       answers;
   out = λ line heads.
       subst (λ (x : LogMode). PutsAs (prints x) e (text_of x c line m) old new) (sym is)
-      (subst (λ (x : List ℕ). PutsAs true e x old new) (listed_is c types line m l loaded) put);
+      (subst (λ (x : List ℕ). PutsAs true e x old new) (listed_is c types line m l loaded)
+      (pieces_as e (flat_map number_line (listed_in c types l)) old new put));
+  pieces = λ line heads.
+      subst (λ (x : LogMode). puts_pieces x ≡ true → PutsInPieces e (text_of x c line m) old new) (sym is)
+      (λ on. subst (λ (x : List ℕ). PutsInPieces e x old new) (listed_is c types line m l loaded) put);
 }

@@ -1,5 +1,5 @@
 -- What a call that is done left in the mapfile's place.
-use Rattle.std.proofs.Common.{◌≡◌, ℕ, ◌+◌, List, ◌++◌, length, Option, sym, ap, ◌∙◌, subst, length-append}
+use Rattle.std.proofs.Common.{◌≡◌, ℕ, ◌+◌, List, ◌++◌, length, Option, refl, sym, ap, ◌∙◌, subst, arith, length-append}
 use Rattle.crash_site.specs.Files.{File}
 use Rattle.crash_site.specs.Calls.{Entry}
 use Rattle.crash_site.specs.Folder.{Folder, after}
@@ -33,5 +33,8 @@ mapfile_is_left t c d asks done changing tells =
     let p = d.asked_for c asks in
     subst (λ (s : SiteState). Replaces c.mode c (line_by log_program t.words) p.outside.list p.outside.maps
     (files_in s c.mapfile)) (sym (files_beside t d.between d.says))
-    (p.leaves.stops.kept (files_in d.between.site) done changing
-    (reads_left t.before.site d.between.site p.did.gain.calls (d.keeps.site.start tells) (p.agrees.calls tells)))
+    ((p.leaves.stops (length p.did.gain.calls) (files_in d.between.site) (record {
+      within = omega arith;
+      left = reads_left t.before.site d.between.site p.did.gain.calls (d.keeps.site.start tells)
+          (p.agrees.calls tells);
+    })).kept (record { changes = changing; done = done; last = refl }))

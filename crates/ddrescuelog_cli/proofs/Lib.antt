@@ -15,6 +15,7 @@ mod LookLemmas
 mod MapsLemmas
 mod NumberLemmas
 mod OtherLemmas
+mod PieceLemmas
 mod PromiseLemmas
 mod ReadLemmas
 mod RemoveLemmas

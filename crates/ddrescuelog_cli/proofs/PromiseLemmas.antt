@@ -85,7 +85,7 @@ Idle e = (w : WorldState) → w.site.is_drafting ≡ false → LogKeeps e w w
 
 still : (e : LogEnding) → drafting_left e ≡ false → Idle e
 still e none w begins =
-    record { site = keeps_self w.site; feed_ = feed_keeps w.feed_; draft = begins ∙ sym none }
+    record { site = keeps_self w.site; feed_ = feed_keeps w.feed_; image = refl; draft = begins ∙ sym none }
 
 pub log_made : IsWellMade log_program
 log_made = record {

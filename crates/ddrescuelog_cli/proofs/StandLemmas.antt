@@ -10,6 +10,6 @@ use Rattle.work_rules.proofs.ReadLemmas.{AreReads, reads_at}
 use Rattle.ddrescuelog_cli.specs.Stops.{LeavesAll}
 
 pub leave_all : (site : SiteState) (calls : List Entry) → AreReads calls → LeavesAll site calls
-leave_all site calls reads k files name le left =
+leave_all site calls reads k files stop name =
     subst (λ (d : Disk). MayShow (d.shows name) (files name)) (reads_at (disk_of site) calls k reads)
-    (left_past site.start site.calls calls k (length site.calls + k) files refl left name)
+    (left_past site.start site.calls calls k (length site.calls + k) files refl stop.left name)

@@ -93,7 +93,8 @@ pub record Leaving (mode : LogMode) (c : Command) (line list : List ℕ) (m : Ma
 leaves_all : (mode : LogMode) (c : Command) (line list : List ℕ) (m : Maps) (site : SiteState) (calls : List Entry)
     (e : LogEnding) → AreReads calls → (e ≡ Done → IsChanging mode → ⊥) → Leaving mode c line list m site calls e
 leaves_all mode c line list m site calls e reads short = record {
-  each = λ k files le left name apart. inl (leave_all site calls reads k files name le left);
+  each = λ k files le left name apart.
+      inl (leave_all site calls reads k files (record { within = le; left = left }) name);
   kept = λ files done changing left. absurd (short done changing);
 }
 
@@ -407,13 +408,14 @@ pub stops_safely : (c : Command) (line list : List ℕ) (found : Found) (m : Map
     → StopsSafely c line list m site calls e
 stops_safely c line list found m site e calls w =
     let l : Leaving c.mode c line list m site calls e = works_leave c line list found m site e calls w in
-    record {
-      mapfile = λ k files le left.
-          elim (l.each k files le left c.mapfile (λ on. apart_draft c.mapfile)) [
+    λ k files stop. record {
+      mapfile =
+          elim (l.each k files stop.within stop.left c.mapfile (λ on. apart_draft c.mapfile)) [
             | inl old ↦ inl old
             | inr new ↦ inr new.1
           ];
-      kept = l.kept;
-      others = λ k files name le left apart draft.
-          elim (l.each k files le left name draft) [ inl old ↦ old | inr new ↦ absurd (apart new.0) ];
+      kept = λ over.
+          l.kept files over.done over.changes (subst (λ (n : ℕ). LeftAt site calls n files) over.last stop.left);
+      others = λ name apart draft.
+          elim (l.each k files stop.within stop.left name draft) [ inl old ↦ old | inr new ↦ absurd (apart new.0) ];
     }

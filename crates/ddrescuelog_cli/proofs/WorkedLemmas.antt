@@ -16,7 +16,7 @@ use Rattle.save_resume.proofs.FillLemmas.{keeps_self}
 use Rattle.ddrescuelog_cli.specs.declared.load.LoadedMaps.{LoadedMaps}
 use Rattle.ddrescuelog_cli.specs.declared.ending.LogEnding.{LogEnding}
 use Rattle.ddrescuelog_cli.specs.declared.ending.LogEnding.TheVariants.{NoMemory}
-use Rattle.ddrescuelog_cli.specs.Modes.{prints, removes_map}
+use Rattle.ddrescuelog_cli.specs.Modes.{prints, puts_pieces, removes_map}
 use Rattle.ddrescuelog_cli.specs.Maps.{Found, Maps, found_in, AreMapsOf, AreAskedFor}
 use Rattle.ddrescuelog_cli.specs.Results.{text_of}
 use Rattle.ddrescuelog_cli.specs.Outside.{Outside}
@@ -26,7 +26,7 @@ use Rattle.ddrescuelog_cli.specs.Answers.{TakesFeed}
 use Rattle.ddrescuelog_cli.specs.After.{FeedLeft, SiteLeft}
 use Rattle.ddrescuelog_cli.specs.Creating.{CreatesMap}
 use Rattle.ddrescuelog_cli.specs.Removing.{RemovesDone}
-use Rattle.ddrescuelog_cli.specs.Printing.{PutsAs}
+use Rattle.ddrescuelog_cli.specs.Printing.{PutsAs, PutsInPieces}
 use Rattle.ddrescuelog_cli.specs.Stops.{OnlyReads, LeavesFiles, LeavesAll}
 use Rattle.ddrescuelog_cli.specs.Steps.{ReadCause, LoadsMaps, IsLoadedAs, HasFound}
 use Rattle.ddrescuelog_cli.specs.Worked.{FeedAfter, Ran}
@@ -39,7 +39,7 @@ use Rattle.ddrescuelog_cli.proofs.StopsLemmas.{stops_safely, works_read}
 use Rattle.ddrescuelog_cli.proofs.OtherLemmas.{others_stand}
 use Rattle.ddrescuelog_cli.proofs.MapsLemmas.{MapsOf, maps_of}
 use Rattle.ddrescuelog_cli.proofs.FitLemmas.{answers_fit}
-use Rattle.ddrescuelog_cli.proofs.AfterLemmas.{causes_by, feed_keeps, feed_untaken, over_plain, plain_after, puts_nothing, read_puts}
+use Rattle.ddrescuelog_cli.proofs.AfterLemmas.{causes_by, feed_keeps, feed_untaken, no_pieces_put, over_plain, plain_after, puts_nothing, read_pieces, read_puts}
 use Rattle.ddrescuelog_cli.proofs.FindLemmas.{heading_of}
 
 -- ---- nothing was done, for want of memory
@@ -73,10 +73,17 @@ starved_ran c line w =
       };
       work = starved_works (creates c.mode) c line w.feed_.left found m.maps;
       out = refl;
+      pieces = λ on. refl;
     }
 
 pub starved_after : (s : SiteState) → SiteLeft NoMemory s s
-starved_after s = record { keeps = keeps_self s; counts = refl; also = tt; draft = λ none. none }
+starved_after s = record {
+  keeps = keeps_self s;
+  image = refl;
+  counts = refl;
+  also = tt;
+  draft = λ none. none;
+}
 
 pub starved_feed : (new : Bool) (f : FeedState) → FeedAfter new NoMemory f f
 starved_feed true f = record { keeps = feed_keeps f; counts = refl; takes = λ tells. ([], refl) }
@@ -112,6 +119,7 @@ load_stopped c line e old new feed console reads l cause =
           (stopped_more log_faults (Take ∷ read_rows c l.found) [] (WorksOver c line feed.left m.maps) e
           (only_calls l.calls) l.did);
       out = read_puts e old.faults new.faults (prints c.mode) (text_of c.mode c line m.maps) console cause;
+      pieces = λ on. read_pieces e old.faults new.faults (text_of c.mode c line m.maps) console cause;
     }
 
 -- what came after the maps
@@ -121,6 +129,7 @@ record Ended (c : Command) (line : List ℕ) (m : Maps) (e : LogEnding) (mid new
   gained : IsTrue mid.tells → new.calls ≡ mid.calls ++ calls
   ends : (list : List ℕ) → WorksOver c line list m e (only_calls calls)
   out : PutsAs (prints c.mode) e (text_of c.mode c line m) console between
+  pieces : puts_pieces c.mode ≡ true → PutsInPieces e (text_of c.mode c line m) console between
 
 load_ended : (c : Command) (line : List ℕ) (l : LoadedMaps) (e : LogEnding) (old mid new : SiteState) (feed : FeedState)
     (console between : ConsoleState) → creates c.mode ≡ false → LoadsMaps c (Ok l) old mid → Stays old mid
@@ -149,6 +158,7 @@ load_ended c line l e old mid new feed console between reads loads stays ends =
           (only_calls d.calls)
           loads.did.4 (d.ends feed.left));
       out = d.out;
+      pieces = d.pieces;
     }
 
 -- the mode changed no file
@@ -164,6 +174,7 @@ load_found c line l h e old new feed console between reads loads stays heads fin
       gained = λ tells. sym (append-nil new.calls);
       ends = (finds m is).ends line;
       out = (finds m is).out line heads;
+      pieces = (finds m is).pieces line heads;
     })
 
 pub found_after : (c : Command) (l : LoadedMaps) (h : HeadingLines) (e : LogEnding) (old new : SiteState)
@@ -196,6 +207,7 @@ load_removed c line l e old mid new feed console reads off loads stays removes =
       ends = (removes n is).ends line;
       out = puts_nothing e c (text_of c.mode c line n) console off
           (answers_fit c line [] loads.found m e (only_calls (loads.calls ++ r.calls)) works);
+      pieces = no_pieces_put e c (text_of c.mode c line n) console off;
     })
 
 -- ---- a map was to be created
@@ -225,6 +237,7 @@ creates_ran c line e site site' feed feed' console new off made =
       work = works;
       out = puts_nothing e c (text_of c.mode c line m) console off
           (answers_fit c line made.list made.found m e (only_calls made.calls) works);
+      pieces = no_pieces_put e c (text_of c.mode c line m) console off;
     } in
     let m : MapsOf c made.found = maps_of c made.found in
     elim made.did [
@@ -266,6 +279,7 @@ ran_done c line e old new keeps takes r =
       leaves = record {
         named = r.named;
         out = r.out;
+        pieces = r.pieces;
         takes = takes;
         stops = stops_safely c line o.list o.found o.maps old.site e r.calls r.work;
         stands = stands_by c line e old new keeps r;
@@ -291,7 +305,7 @@ ran_worked c words e s s' f f' p p' none r site feed =
       done = ran_done c line e (handed s f p) (handed s' f' p') site.keeps feed.takes r;
       cause = causes_by e (prints c.mode) (text_of c.mode c line r.outside.maps) s s' f f' p p' site feed.counts r.out;
       also = site.also;
-      keeps = record { site = site.keeps; feed_ = feed.keeps; draft = site.draft none };
+      keeps = record { site = site.keeps; feed_ = feed.keeps; image = site.image; draft = site.draft none };
     }
 
 -- memory ran out first

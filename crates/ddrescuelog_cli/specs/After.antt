@@ -16,10 +16,11 @@ site_count e faults = (changes_of (row_of e).kind).calls faults
 abbrev pub feed_count : LogEnding → ℕ → ℕ
 feed_count e faults = (changes_of (row_of e).kind).takes faults
 
--- what stays of the files, by how much their count rose, what more holds of the answer, and whether a draft is left
--- begun
+-- what stays of the files, also whether an image is open, by how much their count rose, what more holds of the answer,
+-- and whether a draft is left begun
 pub record SiteLeft (e : LogEnding) (old new : SiteState) : Type 0 where
   pub keeps : SiteKeeps old new
+  pub image : new.is_open ≡ old.is_open
   pub counts : new.faults ≡ site_count e old.faults
   pub also : (row_of e).also
   pub draft : old.is_drafting ≡ false → new.is_drafting ≡ drafting_left e

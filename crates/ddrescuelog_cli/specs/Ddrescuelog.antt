@@ -14,13 +14,13 @@ use Rattle.ddrescuelog_words.specs.Command.{Command, log_grammar}
 use Rattle.ddrescuelog_cli.specs.declared.ending.LogEnding.{LogEnding}
 use Rattle.ddrescuelog_cli.specs.declared.ending.LogEnding.TheVariants.{Usage}
 use Rattle.ddrescuelog_cli.specs.Names.{program_name}
-use Rattle.ddrescuelog_cli.specs.Modes.{prints}
+use Rattle.ddrescuelog_cli.specs.Modes.{prints, puts_pieces}
 use Rattle.ddrescuelog_cli.specs.Outside.{Agrees, Outside}
 use Rattle.ddrescuelog_cli.specs.Results.{text_of}
 use Rattle.ddrescuelog_cli.specs.Work.{RunsAs, first_rows, log_faults}
 use Rattle.ddrescuelog_cli.specs.Stops.{StopsSafely, OnlyReads, LeavesFiles, LeavesAll}
 use Rattle.ddrescuelog_cli.specs.Answers.{FitsCommand, IsModeFault, TakesFeed, drafting_left, row_of}
-use Rattle.ddrescuelog_cli.specs.Printing.{PutsAs}
+use Rattle.ddrescuelog_cli.specs.Printing.{PutsAs, PutsInPieces}
 
 -- what it is handed: files, a feed and a console
 abbrev pub handed : SiteState → FeedState → ConsoleState → WorldState
@@ -34,11 +34,13 @@ pub record LeavesAs (c : Command) (line : List ℕ) (o : Outside) (e : LogEnding
   pub named : o.line ≡ line
   -- What is put on standard output is what the mode prints of the maps, or where that failed a beginning of it.
   pub out : PutsAs (prints c.mode) e (text_of c.mode c line o.maps) old.console new.console
+  -- -l and -t put their text in pieces of at most 4,096 bytes, each by one put.
+  pub pieces : puts_pieces c.mode ≡ true → PutsInPieces e (text_of c.mode c line o.maps) old.console new.console
   -- The feed is taken from only to create a map; then, once its numbers are read, nothing of it is left.
   pub takes : TakesFeed (creates c.mode) e old.feed_ new.feed_
-  -- At whatever moment the call is stopped, the mapfile that is found is one that could be found before, or the created
-  -- map, whole, or none if it was done and is to be removed. Every other file but the draft is found as it could be
-  -- before.
+  -- If the files tell: at whatever moment the call is stopped, the mapfile that is found is one that could be found
+  -- before, or the created map, whole, or none if it was done and is to be removed. Every other file but the draft is
+  -- found as it could be before.
   pub stops : StopsSafely c line o.list o.maps old.site did.gain.calls e
   -- A mode that only reads leaves everything as it was, and so does any other where the work isn't done and no call on
   -- the files failed: the files as they read, and what a stop may find of them.
@@ -48,10 +50,12 @@ pub record LeavesAs (c : Command) (line : List ℕ) (o : Outside) (e : LogEnding
   pub others : IsTrue old.site.tells → (name : List ℕ) → name ≢ c.mapfile
       → (creates c.mode ≡ true → name ≢ (names_of c.mapfile).draft) → files_in new.site name ≡ files_in old.site name
 
--- What stays of files and feed. A draft is left begun exactly where an append to it failed, or its sync.
+-- What stays of files and feed, also whether an image is open. A draft is left begun exactly if an append to it failed,
+-- or its sync.
 pub record LogKeeps (e : LogEnding) (old new : WorldState) : Type 0 where
   pub site : SiteKeeps old.site new.site
   pub feed_ : FeedKeeps old.feed_ new.feed_
+  pub image : new.site.is_open ≡ old.site.is_open
   pub draft : new.site.is_drafting ≡ drafting_left e
 
 -- The program is called with no draft begun. Its work finds the maps and the list outside of it.

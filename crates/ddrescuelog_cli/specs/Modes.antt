@@ -36,6 +36,17 @@ prints (Test removes) = false
 prints (Compare finished) = false
 prints Summarize = true
 
+-- the mode puts its text in pieces of at most 4,096 bytes, as it makes them
+abbrev pub puts_pieces : LogMode → Bool
+puts_pieces (Change change) = false
+puts_pieces (Combine op) = false
+puts_pieces (Complete status) = false
+puts_pieces (ListBlocks types) = true
+puts_pieces (Create listed rest) = false
+puts_pieces (Test removes) = false
+puts_pieces (Compare finished) = false
+puts_pieces Summarize = true
+
 -- the mode removes a mapfile that is done
 abbrev pub removes_map : LogMode → Bool
 removes_map (Change change) = false

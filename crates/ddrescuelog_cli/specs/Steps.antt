@@ -25,8 +25,8 @@ use Rattle.ddrescuelog_cli.specs.declared.ending.LogEnding.{LogEnding}
 use Rattle.ddrescuelog_cli.specs.declared.ending.LogEnding.TheVariants.{Done, NoMap, MapRefused, SiteFault, ConsoleFault, NoMemory}
 use Rattle.ddrescuelog_cli.specs.Maps.{Found, Maps, found_in, AreMapsOf, AreAskedFor, domain_of}
 use Rattle.ddrescuelog_cli.specs.Results.{text_of}
-use Rattle.ddrescuelog_cli.specs.Modes.{prints}
-use Rattle.ddrescuelog_cli.specs.Printing.{PutsAs}
+use Rattle.ddrescuelog_cli.specs.Modes.{prints, puts_pieces}
+use Rattle.ddrescuelog_cli.specs.Printing.{PutsAs, PutsInPieces}
 use Rattle.work_rules.specs.Parts.{DidPart, only_calls, StoppedIn, WentThrough}
 use Rattle.ddrescuelog_cli.specs.Work.{log_faults, map_rows, read_rows, WorksOver}
 
@@ -106,3 +106,5 @@ pub record HasFound (c : Command) (h : HeadingLines) (m : Maps) (e : LogEnding) 
   pub ends : (line list : List ℕ) → WorksOver c line list m e (only_calls [])
   pub out : (line : List ℕ) → h ≡ record { program = Ddrescuelog; line = line; start_s = 0; now_s = 0 }
       → PutsAs (prints c.mode) e (text_of c.mode c line m) old new
+  pub pieces : (line : List ℕ) → h ≡ record { program = Ddrescuelog; line = line; start_s = 0; now_s = 0 }
+      → puts_pieces c.mode ≡ true → PutsInPieces e (text_of c.mode c line m) old new

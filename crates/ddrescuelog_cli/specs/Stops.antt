@@ -45,19 +45,32 @@ IsChanging (Test false) = ⊥
 IsChanging (Compare finished) = ⊥
 IsChanging Summarize = ⊥
 
--- At whatever moment a call is stopped, between or within its calls on the files:
-pub record StopsSafely (c : Command) (line list : List ℕ) (m : Maps) (site : SiteState) (calls : List Entry)
-    (answer : LogEnding) : Type 0 where
-  -- under the mapfile's name stands what could be found there before, or what the mode leaves in its place, whole
-  pub mapfile : (k : ℕ) (files : List ℕ → Option File) → k ≤ length calls → LeftAt site calls k files
-      → CouldBefore site c.mapfile (files c.mapfile) ⊎ Replaces c.mode c line list m (files c.mapfile)
-  -- once a mode that changes the mapfile's place is done, only what it leaves is found there
-  pub kept : (files : List ℕ → Option File) → answer ≡ Done → IsChanging c.mode → LeftAt site calls (length calls) files
-      → Replaces c.mode c line list m (files c.mapfile)
-  -- every file but the mapfile, and the draft of a map that is created, could be found so before
-  pub others : (k : ℕ) (files : List ℕ → Option File) (name : List ℕ) → k ≤ length calls → LeftAt site calls k files
-      → name ≢ c.mapfile → (creates c.mode ≡ true → name ≢ (names_of c.mapfile).draft)
+-- a stop of a call, after its first k calls on the files or within the next one, and the files that are found then
+pub record StopAt (site : SiteState) (calls : List Entry) (k : ℕ) (files : List ℕ → Option File) : Type 0 where
+  pub within : k ≤ length calls
+  pub left : LeftAt site calls k files
+
+-- What is found at a stop, by what the mode leaves in the mapfile's place, and by whether it has left that for good:
+pub record IsSafe (c : Command) (site : SiteState) (Left : Option File → Type 0) (Over : Type 0)
+    (files : List ℕ → Option File) : Type 0 where
+  -- under the mapfile's name what could be found there before, or what the mode leaves, whole;
+  pub mapfile : CouldBefore site c.mapfile (files c.mapfile) ⊎ Left (files c.mapfile)
+  -- once that is for good, only this;
+  pub kept : Over → Left (files c.mapfile)
+  -- and every file but the mapfile, and the draft of a map that is created, as it could be found before.
+  pub others : (name : List ℕ) → name ≢ c.mapfile → (creates c.mode ≡ true → name ≢ (names_of c.mapfile).draft)
       → CouldBefore site name (files name)
+
+-- all calls were made, and a mode that changes what is in the mapfile's place is done
+pub record IsOver (mode : LogMode) (answer : LogEnding) (calls : List Entry) (k : ℕ) : Type 0 where
+  pub changes : IsChanging mode
+  pub done : answer ≡ Done
+  pub last : k ≡ length calls
+
+-- At whatever moment a call is stopped, between or within its calls on the files, what is found is safe.
+abbrev pub StopsSafely : Command → (line list : List ℕ) → Maps → SiteState → List Entry → LogEnding → Type 0
+StopsSafely c line list m site calls answer = (k : ℕ) (files : List ℕ → Option File) → StopAt site calls k files
+    → IsSafe c site (Replaces c.mode c line list m) (IsOver c.mode answer calls k) files
 
 -- a mode that only reads: of it `StopsSafely` says that everything is found as it could be before
 abbrev pub OnlyReads : LogMode → Type 0
@@ -70,5 +83,5 @@ pub record LeavesFiles (e : LogEnding) : Type 0 where
 
 -- the mode leaves everything as it could be found before, under every name
 abbrev pub LeavesAll : SiteState → List Entry → Type 0
-LeavesAll site calls = (k : ℕ) (files : List ℕ → Option File) (name : List ℕ) → k ≤ length calls
-    → LeftAt site calls k files → CouldBefore site name (files name)
+LeavesAll site calls = (k : ℕ) (files : List ℕ → Option File) → StopAt site calls k files
+    → (name : List ℕ) → CouldBefore site name (files name)

@@ -18,7 +18,7 @@ ghost use Rattle.ddrescuelog_cli.specs.Creating.{AreOfList, AsksIfThere, Creates
 
 use crate::ending::{LogEnding, Which};
 use crate::load::read_named;
-use crate::out::PIECE;
+use crate::pieces::PIECE;
 use crate::places::shape_of;
 use block_list::plain_tiles::PlainTiles;
 use block_list::status::Status;

@@ -12,7 +12,7 @@ ghost use Rattle.ddrescuelog_cli.specs.Steps.{IsLoadedAs, HasFound, answer_if};
 use crate::ending::LogEnding;
 use crate::list::list_blocks;
 use crate::load::LoadedMaps;
-use crate::out::{printed, put_rest};
+use crate::pieces::{printed, put_rest};
 use crate::print::print_map;
 use crate::summary::make_summary;
 use console_texts::printing::put_map;

@@ -9,7 +9,7 @@ mod list;
 mod load;
 pub mod log;
 mod message;
-mod out;
+mod pieces;
 mod places;
 mod print;
 mod remove;

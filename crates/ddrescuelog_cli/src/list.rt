@@ -1,7 +1,5 @@
 //! Lists the blocks of the output in which positions of some types stand.
-ghost use Rattle.std.specs.Prelude.{◌≡◌, ◌⊎◌, ℕ, ◌<◌, ◌≤◌, ◌^◌, [], true, length, flat_map, unwrap_or, OnOk, OnErr};
-ghost use Rattle.rescue_console.specs.declared.console.Channel.TheVariants.{Out};
-ghost use Rattle.rescue_console.specs.ConsoleState.{Puts, PutsPart};
+ghost use Rattle.std.specs.Prelude.{◌≡◌, ◌⊎◌, ℕ, ◌<◌, ◌≤◌, ◌^◌, true, length, flat_map, unwrap_or, is_ok};
 ghost use Rattle.rescue_domain.specs.Parts.{covers};
 ghost use Rattle.rescue_domain.specs.Domain.{whole_domain};
 ghost use Rattle.rescue_domain.specs.Places.{AreAllPlaced, IsAnyBeyond};
@@ -9,11 +7,11 @@ ghost use Rattle.map_algebra.specs.At.{IsWithinMap};
 ghost use Rattle.map_algebra.specs.Listing.{listed, wanted_of};
 ghost use Rattle.ddrescuelog_cli.specs.Maps.{shape_of};
 ghost use Rattle.ddrescuelog_cli.specs.Results.{number_line};
-ghost use Rattle.ddrescuelog_cli.specs.Printing.{PutsAs};
+ghost use Rattle.ddrescuelog_cli.specs.Printing.{PutsInPieces, PutsPieces};
 
 use crate::ending::LogEnding;
 use crate::load::LoadedMaps;
-use crate::out::{Buffer, add_line, printed, put_rest};
+use crate::pieces::{Buffer, add_line, printed, put_rest};
 use block_list::tiles::Tiles;
 use block_list::types::TypeSet;
 use console_texts::message::{Message, add_number};
@@ -44,14 +42,9 @@ fn put_numbers<T: Tiles, P: Console>(
     requires within { IsWithinMap (covers domain.now) (T.statuses tiles.now) }
     requires from { (x : ℕ) → covers domain.now x ≡ true → listing.old.shape.ipos ≤ x }
     requires placed { AreAllPlaced (covers domain.now) listing.old.shape.ipos listing.old.shape.opos }
-    ensures put { OnOk result (Puts Out
+    ensures { PutsPieces
         (flat_map number_line (listed (wanted_of listing.old (covers domain.now) (T.statuses tiles.now))))
-        (P.state console.old) (P.state console.new)) }
-    ensures fault { OnErr result (PutsPart Out
-        (flat_map number_line (listed (wanted_of listing.old (covers domain.now) (T.statuses tiles.now))))
-        (P.state console.old) (P.state console.new)) }
-    ensures some { OnErr result
-        (flat_map number_line (listed (wanted_of listing.old (covers domain.now) (T.statuses tiles.now))) ≡ [] → ⊥) }
+        (is_ok result) (P.state console.old) (P.state console.new) }
 {
     let mut buffer = Buffer::new();
     'numbers: while let Some(number) = listing.next(tiles, domain) {
@@ -83,7 +76,7 @@ pub(crate) fn list_blocks<P: Console>(
         options.now.input_position (unwrap_or options.now.output_position options.now.input_position) }
     ensures answers { (result ≡ LogEnding.Usage UsageFault.PlaceTooLarge) ⊎ (result ≡ LogEnding.Done)
         ⊎ (result ≡ LogEnding.ConsoleFault) }
-    ensures put { PutsAs true result
+    ensures put { PutsInPieces result
         (flat_map number_line (listed (record {
           domain = covers loaded.now.domain;
           types = types;

@@ -4,7 +4,7 @@ ghost use Rattle.mapfile_text.specs.Printed.{printed};
 ghost use Rattle.ddrescuelog_cli.specs.Printing.{PutsAs};
 
 use crate::ending::LogEnding;
-use crate::out::printed;
+use crate::pieces::printed;
 use block_list::plain_tiles::PlainTiles;
 use block_list::tiles::NoMemory;
 use console_texts::printing::put_map;

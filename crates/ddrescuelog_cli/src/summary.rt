@@ -3,7 +3,7 @@ ghost use Rattle.std.specs.Prelude.{◌≡◌, ◌+◌, ◌≤◌, ◌++◌, []}
 ghost use Rattle.arrayvec.specs.ArrayVec.{array_vec_len};
 ghost use Rattle.ddrescuelog_cli.specs.Results.{status_name, count_line, domain_line, shown_line, summary_text};
 
-use crate::out::Buffer;
+use crate::pieces::Buffer;
 use block_list::areas::Count;
 use block_list::status::Status;
 use console_texts::message::{Message, add, add_number};

@@ -39,4 +39,4 @@ returns-in-Summarize g c =
     summarized_found (told_by c.args.command.now) c.args.heading.now m c.args.loaded.now c.make_summary.result.items
     c.put_rest.result c.printed-in-Summarize.result _ _ c.in-Summarize.is loaded
     (c.make_summary.ensures ∙ ap (summary_text c.args.loaded.now.state) c.of-summary.ensures)
-    c.printed-in-Summarize.ensures c.put_rest.ensures.put c.put_rest.ensures.fault c.put_rest.ensures.some
+    c.printed-in-Summarize.ensures c.put_rest.ensures

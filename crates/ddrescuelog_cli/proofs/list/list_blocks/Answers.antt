@@ -8,4 +8,4 @@ returns-clause-put g c =
     listed_as c.args.options.now c.args.types c.unwrap_or-to.result c.begin-listing.result
     (covers c.args.loaded.now.domain) c.args.loaded.now.tiles.statuses c.put_numbers.result _ _ _
     c.begin-listing.ensures c.unwrap_or-to.ensures c.printed.ensures
-    c.put_numbers.ensures.put c.put_numbers.ensures.fault c.put_numbers.ensures.some
+    c.put_numbers.ensures

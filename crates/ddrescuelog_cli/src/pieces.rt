@@ -1,8 +1,6 @@
-//! Prints texts on standard output, through one buffer of 4,096 bytes.
-ghost use Rattle.std.specs.Prelude.{◌≡◌, ◌≤◌, [], length, OnOk, OnErr};
-ghost use Rattle.rescue_console.specs.declared.console.Channel.TheVariants.{Out};
-ghost use Rattle.rescue_console.specs.ConsoleState.{Puts, PutsPart};
-ghost use Rattle.ddrescuelog_cli.specs.Printing.{Adds};
+//! Prints texts on standard output in pieces, through one buffer of 4,096 bytes.
+ghost use Rattle.std.specs.Prelude.{◌≡◌, ◌<◌, ◌≤◌, false, length, is_ok, OnOk, OnErr};
+ghost use Rattle.ddrescuelog_cli.specs.Printing.{Adds, PutsPieces};
 ghost use Rattle.ddrescuelog_cli.specs.Steps.{printed_as};
 
 use crate::ending::LogEnding;
@@ -15,6 +13,15 @@ pub(crate) const PIECE: usize = 4096;
 /// A beginning of a text that wasn't put yet.
 pub(crate) type Buffer = ArrayVec<u8, PIECE>;
 
+/// Puts a piece of a text.
+fn put_piece<P: Console>(console: &mut P, piece: &[u8]) -> Result<(), ConsoleFault>
+    requires some { 0 < length piece.now }
+    requires short { length piece.now ≤ 4096 }
+    ensures { PutsPieces piece.now (is_ok result) (P.state console.old) (P.state console.new) }
+{
+    console.put(Channel::Out, piece)
+}
+
 /// Adds a line to a text, and puts the buffer first where it has no room for that.
 pub(crate) fn add_line<P: Console>(
     console: &mut P,
@@ -24,10 +31,10 @@ pub(crate) fn add_line<P: Console>(
     requires { length line.now ≤ 4096 }
     ensures added { OnOk result (Adds line.now buffer.old.items buffer.new.items
         (P.state console.old) (P.state console.new)) }
-    ensures fault { OnErr result (PutsPart Out buffer.old.items (P.state console.old) (P.state console.new)) }
+    ensures fault { OnErr result (PutsPieces buffer.old.items false (P.state console.old) (P.state console.new)) }
 {
     if buffer.remaining_capacity() < line.len() {
-        console.put(Channel::Out, buffer.as_slice())?;
+        put_piece(console, buffer.as_slice())?;
         buffer.clear();
     }
     let _fits = buffer.try_extend_from_slice(line);
@@ -36,14 +43,12 @@ pub(crate) fn add_line<P: Console>(
 
 /// Puts what is left of a text in the buffer, if there is any.
 pub(crate) fn put_rest<P: Console>(console: &mut P, buffer: &Buffer) -> Result<(), ConsoleFault>
-    ensures put { OnOk result (Puts Out buffer.now.items (P.state console.old) (P.state console.new)) }
-    ensures fault { OnErr result (PutsPart Out buffer.now.items (P.state console.old) (P.state console.new)) }
-    ensures some { OnErr result (buffer.now.items ≡ [] → ⊥) }
+    ensures { PutsPieces buffer.now.items (is_ok result) (P.state console.old) (P.state console.new) }
 {
     if buffer.is_empty() {
         return Ok(());
     }
-    console.put(Channel::Out, buffer.as_slice())
+    put_piece(console, buffer.as_slice())
 }
 
 /// The answer of a mode whose text was put.
