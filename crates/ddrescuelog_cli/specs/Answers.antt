@@ -30,7 +30,7 @@ which_text DomainMap = codes "domain mapfile"
 which_text RunMap = codes "mapfile"
 which_text OtherMap = codes "other mapfile"
 
--- Want of memory isn't told as an error of a map.
+-- Lack of memory isn't reported as an error of a map.
 abbrev pub row_of : LogEnding → AnswerRow
 row_of Done = asked_row 0
 row_of NotDone = asked_row 1
@@ -63,7 +63,7 @@ text_of_ending e = (row_of e).text
 abbrev pub message : LogEnding → List ℕ
 message e = message_of program_name (text_of_ending e)
 
--- the faults that words may have; no options conflict, and want of memory is no fault of words
+-- the faults that words may have; no options conflict, and lack of memory is no fault of words
 abbrev pub IsModeFault : UsageFault → Type 0
 IsModeFault (Word fault) = fault ≢ WordNoMemory
 IsModeFault (BadValue n) = ⊤
@@ -109,7 +109,7 @@ FitsUsage PlaceTooLarge c = looks_at_places c.mode ≡ true
 abbrev pub Untaken : (old new : FeedState) → Type 0
 Untaken old new = new ≡ old
 
--- what was taken of the feed, if anything was, is its front, where it tells
+-- what was taken of the feed, if anything was, is its front, if it tells
 abbrev pub TookFront : (old new : FeedState) → Type 0
 TookFront old new = IsTrue old.tells → (front : List ℕ) × (old.left ≡ front ++ new.left)
 
@@ -156,8 +156,8 @@ never old new = ⊥
 abbrev pub IsCreating : Command → Type 0
 IsCreating c = creates c.mode ≡ true
 
--- An answer comes only where the words ask for what it speaks of. A draft that was begun is left so after a failed
--- append or sync.
+-- An answer comes only if the words ask for what it speaks of. A draft that was begun is left so after a failed append
+-- or sync.
 abbrev pub meaning_of : LogEnding → Meaning
 meaning_of Done = means (λ c. ⊤) AllTaken
 meaning_of NotDone = means (λ c. tests c.mode ≡ true) never

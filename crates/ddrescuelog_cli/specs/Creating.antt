@@ -28,7 +28,7 @@ use Rattle.ddrescuelog_cli.specs.Work.{log_faults, OnlyAnswers, SaysIfThere, Unl
 use Rattle.ddrescuelog_cli.specs.Steps.{ReadCause}
 use Rattle.ddrescuelog_cli.specs.After.{FeedLeft}
 
--- the answer of a part of the work: where it came to its end, that it is done
+-- the answer of a part of the work: if it came to its end, that it is done
 abbrev pub ended_as : {T : Type 0} → Result T LogEnding → LogEnding
 ended_as (Ok x) = Done
 ended_as (Err e) = e
@@ -48,7 +48,7 @@ abbrev pub DidAsk : {T : Type 0} → (forced : Bool) → (name : List ℕ) → O
 DidAsk forced name file (Ok x) calls = IsFree forced name file calls
 DidAsk forced name file (Err e) calls = UnlessThere forced name file (λ e d. ⊥) e (only_calls calls)
 
--- What the question for a file found and its calls are the site's own where it tells; and files read as they did.
+-- What the question for a file found and its calls are the site's own if it tells; and files read as they did.
 pub record AsksIfThere {T : Type 0} (forced : Bool) (name : List ℕ) (result : Result T LogEnding)
     (old new : SiteState) : Type 0 where
   pub file : Option File
@@ -79,7 +79,7 @@ DidLook c found (Ok tiles) calls =
     HasStatuses c.domain_map (map_mode c.options.loose) found.domain (statuses_in tiles) × CameOver c found calls
 DidLook c found (Err e) calls = StoppedEarly c found e calls
 
--- There are files that were found, and calls, which are the site's own where it tells.
+-- There are files that were found, and calls, which are the site's own if it tells.
 pub record Looks (c : Command) (result : Result (Option Tiled) LogEnding) (old new : SiteState) : Type 0 where
   pub found : Found
   pub calls : List Entry
@@ -115,7 +115,7 @@ pub record TakesAll (bytes : List ℕ) (old new : FeedState) : Type 0 where
 abbrev pub ListCause : LogEnding → (list : List ℕ) → Type 0
 ListCause e list = (e ≡ NoMemory) ⊎ (e ≡ FeedFault) ⊎ ((e ≡ ListTooLong) × (list_limit < length list))
 
--- The list wasn't taken. There is a list all the same, which is the feed's own where it tells.
+-- The list wasn't taken. There is a list all the same, which is the feed's own if it tells.
 pub record StopsTaking (e : LogEnding) (old new : FeedState) : Type 0 where
   pub list : List ℕ
   pub is_own : IsTrue old.tells → list ≡ old.left
@@ -141,14 +141,14 @@ DidMake o listed rest domain (Ok tiles) list =
     AreOfList o listed rest domain list tiles.statuses × (length list ≤ list_limit)
 DidMake o listed rest domain (Err e) list = (e ≡ NoMemory) ⊎ (e ≡ FeedFault) ⊎ ListRefused o list e
 
--- There is a list, which is the feed's own where it tells.
+-- There is a list, which is the feed's own if it tells.
 pub record MakesList (o : LogOptions) (listed rest : Status) (domain : Option (List Status))
     (result : Result Tiled LogEnding) (old new : FeedState) : Type 0 where
   pub list : List ℕ
   pub is_own : IsTrue old.tells → list ≡ old.left
   pub did : DidMake o listed rest domain result list
 
--- the save of a map: there are its calls, which are the site's own where it tells
+-- the save of a map: there are its calls, which are the site's own if it tells
 pub record SavesText (names : MapNames) (text : List ℕ) (e : LogEnding) (old new : SiteState) : Type 0 where
   pub calls : List Entry
   pub gained : IsTrue old.tells → new.calls ≡ old.calls ++ calls
@@ -162,7 +162,7 @@ DidCreate c line list found e calls =
     ((m : Maps) → WorksAs true c line list found m e (only_calls calls))
     ⊎ ((m : Maps) × AreMapsOf c found m × AreAskedFor c m × WorksAs true c line list found m e (only_calls calls))
 
--- There are files that were found, a list and calls, which are what files and feed tell, where they do.
+-- There are files that were found, a list and calls, which are what files and feed tell, if they do.
 pub record CreatesMap (c : Command) (line : List ℕ) (e : LogEnding) (site site' : SiteState) (feed : FeedState)
     : Type 0 where
   pub found : Found

@@ -32,7 +32,7 @@ pub record LeavesAs (c : Command) (line : List ℕ) (o : Outside) (e : LogEnding
     : Type 0 where
   -- A map that is saved shows the command line.
   pub named : o.line ≡ line
-  -- What is put on standard output is what the mode prints of the maps, or where that failed a beginning of it.
+  -- What is put on standard output is what the mode prints of the maps, or, if that failed, a beginning of it.
   pub out : PutsAs (prints c.mode) e (text_of c.mode c line o.maps) old.console new.console
   -- -l and -t put their text in pieces of at most 4,096 bytes, each by one put.
   pub pieces : puts_pieces c.mode ≡ true → PutsInPieces e (text_of c.mode c line o.maps) old.console new.console
@@ -42,8 +42,8 @@ pub record LeavesAs (c : Command) (line : List ℕ) (o : Outside) (e : LogEnding
   -- before, or the created map, whole, or none if it was done and is to be removed. Every other file but the draft is
   -- found as it could be before.
   pub stops : StopsSafely c line o.list o.maps old.site did.gain.calls e
-  -- A mode that only reads leaves everything as it was, and so does any other where the work isn't done and no call on
-  -- the files failed: the files as they read, and what a stop may find of them.
+  -- A mode that only reads leaves everything as it was, and so does any other if the work isn't done and no call on the
+  -- files failed: the files as they read, and what a stop may find of them.
   pub stands : OnlyReads c.mode ⊎ LeavesFiles e → IsTrue old.site.tells
       → ((name : List ℕ) → files_in new.site name ≡ files_in old.site name) × LeavesAll old.site did.gain.calls
   -- Always all files read as they did, except the mapfile and the draft of a map that is created.

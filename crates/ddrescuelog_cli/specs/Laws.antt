@@ -58,7 +58,7 @@ abbrev pub AnswersAreFound : Type 0
 AnswersAreFound = (c : Command) (line list : List ℕ) (found : Found) (m : Maps) (e : LogEnding) (d : Deeds)
     → LogWorks c line list found m e d → IsModeAnswer e (Finds c.mode c m)
 
--- An answer of the work comes only where the words ask for what it speaks of.
+-- An answer of the work comes only if the words ask for what it speaks of.
 abbrev pub AnswersFit : Type 0
 AnswersFit = (c : Command) (line list : List ℕ) (found : Found) (m : Maps) (e : LogEnding) (d : Deeds)
     → LogWorks c line list found m e d → FitsCommand e c
@@ -92,7 +92,7 @@ pub record NothingIsRefused (c : Command) (list : List ℕ) (found : Found) (m :
   pub free : creates c.mode ≡ true → c.options.forced ≡ false → (v : LogEnding) → MapIsThere found.mapfile v → ⊥
   pub numbers : creates c.mode ≡ true → (v : LogEnding) → ListRefused c.options list v → ⊥
 
--- Where nothing failed, nothing is refused and memory doesn't run out, the answer is what the mode finds.
+-- If nothing failed, nothing is refused and memory doesn't run out, the answer is what the mode finds.
 abbrev pub IsFoundUnless : Type 0
 IsFoundUnless = (t : Told LogEnding) (c : Command) (d : Ddrescuelog t) (asks : Asks t.words c) → NothingFailed t
     → NothingIsRefused c (d.asked_for c asks).outside.list (d.asked_for c asks).outside.found

@@ -15,13 +15,13 @@ use Rattle.ddrescuelog_words.specs.declared.options.LogOptions.{LogOptions}
 use Rattle.ddrescuelog_words.specs.Modes.{creates}
 use Rattle.ddrescuelog_words.specs.Command.{Command}
 
--- The files that steps of the work found, each by its own name; none where no name is given.
+-- The files that steps of the work found, each by its own name; none if no name is given.
 pub record Found : Type 0 where
   pub mapfile : Option File
   pub other : Option File
   pub domain : Option File
 
--- what a command finds among files that stand
+-- what a command finds among files that don't change
 abbrev pub found_in : Command → (List ℕ → Option File) → Found
 found_in c files = record {
   mapfile = files c.mapfile;
@@ -68,7 +68,7 @@ pub record AreMapsOf (c : Command) (found : Found) (m : Maps) : Type 0 where
   pub domain : (name : List ℕ) (statuses : List Status) → c.domain_map ≡ Some name
       → IsMapOf found.domain (map_mode c.options.loose) statuses → m.domain ≡ Some statuses
 
--- There are statuses only where the words ask for a map.
+-- There are statuses only if the words ask for a map.
 pub record AreAskedFor (c : Command) (m : Maps) : Type 0 where
   pub mapfile : creates c.mode ≡ true → m.statuses ≡ []
   pub other : c.other ≡ None → m.other ≡ []

@@ -26,7 +26,7 @@ MapIsRefused which mode file e =
 abbrev pub IfNamed : Option (List ℕ) → (LogEnding → Type 0) → LogEnding → Type 0
 IfNamed name refuses e = (is_some name ≡ true) × refuses e
 
--- a file is there already, where a map is to be created
+-- a file is there already where a map is to be created
 abbrev pub MapIsThere : (file : Option File) → LogEnding → Type 0
 MapIsThere file e = (is_some file ≡ true) × (e ≡ Exists)
 

@@ -8,7 +8,7 @@ use Rattle.ddrescuelog_cli.specs.Maps.{Maps}
 use Rattle.work_rules.specs.Parts.{only_calls}
 use Rattle.ddrescuelog_cli.specs.Work.{WorksOver}
 
--- A removal ends as the work over these maps does, with calls that are the site's own where it tells.
+-- A removal ends as the work over these maps does, with calls that are the site's own if it tells.
 pub record RemovesDone (c : Command) (m : Maps) (e : LogEnding) (old new : SiteState) : Type 0 where
   pub calls : List Entry
   pub gained : IsTrue old.tells → new.calls ≡ old.calls ++ calls

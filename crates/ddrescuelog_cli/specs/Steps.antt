@@ -72,7 +72,7 @@ DidLoad c found (Ok l) calls =
     (m : Maps) × AreMapsOf c found m × AreAskedFor c m × IsLoadedAs c m l × WentThrough (Take ∷ read_rows c found) calls
 DidLoad c found (Err e) calls = StoppedIn log_faults (Take ∷ read_rows c found) e calls
 
--- There are files that were read, and calls, which are the site's own where it tells.
+-- There are files that were read, and calls, which are the site's own if it tells.
 pub record LoadsMaps (c : Command) (result : Result LoadedMaps LogEnding) (old new : SiteState) : Type 0 where
   pub found : Found
   pub calls : List Entry

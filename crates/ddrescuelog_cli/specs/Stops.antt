@@ -18,7 +18,7 @@ use Rattle.ddrescuelog_cli.specs.Maps.{Maps, shape_of, domain_of}
 use Rattle.ddrescuelog_cli.specs.Results.{IsCreated}
 use Rattle.ddrescuelog_cli.specs.Answers.{row_of}
 
--- What a mode leaves in the place of the mapfile: -c the map that it creates, whole; -d nothing, where the mapfile is
+-- What a mode leaves in the place of the mapfile: -c the map that it creates, whole; -d nothing, if the mapfile is
 -- done; no other mode anything.
 abbrev pub Replaces : LogMode → Command → (line : List ℕ) → (list : List ℕ) → Maps → (found : Option File) → Type 0
 Replaces (Change change) c line list m found = ⊥

@@ -110,7 +110,7 @@ SaysIfThere None (Bytes n) = ⊥
 SaysIfThere (Some file) Absent = ⊥
 SaysIfThere (Some file) (Bytes n) = ⊤
 
--- Unless that is forced, a map is created only where no file is, which one read asks; then the work goes on. A read
+-- Unless that is forced, a map is created only if there is no file, which one read asks; then the work goes on. A read
 -- that failed has no answer.
 abbrev pub UnlessThere : (forced : Bool) → (name : List ℕ) → Option File → (LogEnding → Deeds → Type 0)
     → LogEnding → Deeds → Type 0

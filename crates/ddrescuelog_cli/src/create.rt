@@ -91,7 +91,7 @@ fn look<D: Site>(
 }
 
 /// Takes a piece onto the end of a list, and answers whether any was left. It asks for memory before the take, so that
-/// nothing that was taken is lost for want of it.
+/// nothing that was taken is lost for lack of it.
 fn take_piece<I: Feed>(feed: &mut I, list: &mut Vec<u8>) -> Result<bool, LogEnding>
     ensures took { IfOk result (λ some. TakesFeedPiece some list.old.items list.new.items
         (I.state feed.old) (I.state feed.new)) }

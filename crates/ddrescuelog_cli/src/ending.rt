@@ -49,7 +49,7 @@ pub enum LogEnding {
 }
 
 impl LogEnding {
-    /// The exit status: 0 for what is done, 2 for a map or a list that is refused, 4 for want of memory, 1 for all
+    /// The exit status: 0 for what is done, 2 for a map or a list that is refused, 4 for lack of memory, 1 for all
     /// else.
     pub fn code(&self) -> u8
         ensures { result ≡ status_of_ending self.now }

@@ -16,7 +16,7 @@ pub fn answers_are_found()
     ensures { AnswersAreFound }
 {}
 
-/// An answer of the work comes only where the words ask for what it speaks of.
+/// An answer of the work comes only if the words ask for what it speaks of.
 pub fn answers_fit()
     ensures { AnswersFit }
 {}
@@ -36,7 +36,7 @@ pub fn maps_are_there()
     ensures { MapsAreThere }
 {}
 
-/// Nothing else is answered than what the mode finds, a refusal, a failure or want of memory.
+/// Nothing else is answered than what the mode finds, a refusal, a failure or lack of memory.
 pub fn nothing_else_is_answered()
     ensures { IsFoundUnless }
 {}

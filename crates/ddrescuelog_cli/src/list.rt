@@ -1,4 +1,4 @@
-//! Lists the blocks of the output in which positions of some types stand.
+//! Lists the blocks of the output in which positions of some types lie.
 ghost use Rattle.std.specs.Prelude.{◌≡◌, ◌⊎◌, ℕ, ◌<◌, ◌≤◌, ◌^◌, true, length, flat_map, unwrap_or, is_ok};
 ghost use Rattle.rescue_domain.specs.Parts.{covers};
 ghost use Rattle.rescue_domain.specs.Domain.{whole_domain};
@@ -56,7 +56,7 @@ fn put_numbers<T: Tiles, P: Console>(
     put_rest(console, &buffer)
 }
 
-/// Puts the numbers of the blocks in which positions of some types stand, unless one has no place in the output.
+/// Puts the numbers of the blocks in which positions of some types lie, unless one has no place in the output.
 pub(crate) fn list_blocks<P: Console>(
     options: &LogOptions,
     types: TypeSet,

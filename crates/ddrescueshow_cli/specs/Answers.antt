@@ -19,7 +19,7 @@ abbrev pub which_text : Which → List ℕ
 which_text RunMap = codes "mapfile"
 which_text DomainMap = codes "domain mapfile"
 
--- Of the calls on the files only a read of a map may fail, and want of memory isn't told as an error of a map.
+-- Of the calls on the files only a read of a map may fail, and lack of memory isn't reported as an error of a map.
 abbrev pub row_of : ShowEnding → AnswerRow
 row_of Done = asked_row 0
 row_of (Usage fault) = wrong_row fault

@@ -84,8 +84,8 @@ abbrev pub ending_of : (heard : Bool) → FollowEnding
 ending_of true = Done
 ending_of false = ConsoleFault
 
--- Why an answer came of a call without other arguments: a failure is answered exactly if its count rose, and no other
--- rose.
+-- Why an answer came of a call without other arguments: a failure is answered if and only if its count rose and no
+-- other rose.
 pub record HasCause (e : FollowEnding) (feed feed' : FeedState) (console console' : ConsoleState) : Type 0 where
   pub alone : e ≢ NotAlone
   pub takes : feed'.faults ≡ takes_after e feed.faults

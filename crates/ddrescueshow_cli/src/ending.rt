@@ -52,7 +52,7 @@ impl ShowEnding {
         }
     }
 
-    /// The exit status: 0 if the picture was put, 2 for a map that is refused, 4 for want of memory, 1 for all else.
+    /// The exit status: 0 if the picture was put, 2 for a map that is refused, 4 for lack of memory, 1 for all else.
     pub fn code(&self) -> u8
         ensures { result ≡ status_of_ending self.now }
     {

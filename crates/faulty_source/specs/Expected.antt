@@ -2,7 +2,7 @@
 use Rattle.std.specs.Prelude.{ℕ, ◌-◌, ◌&&◌, ◌||◌, nat_le, if◌then◌else◌}
 use Rattle.real_files.specs.Ahead.{Ahead}
 
--- How many bytes may be read ahead from a position on, where positions from one up to another are expected: those up to
+-- How many bytes may be read ahead from a position on, if positions from one up to another are expected: those up to
 -- the end of these, if the position is one of them or follows them. None up to where the last read ahead asked, if that
 -- one didn't come whole: a place there can't be read.
 abbrev pub most_ahead : Ahead → (from to pos : ℕ) → ℕ

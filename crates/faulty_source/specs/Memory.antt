@@ -9,7 +9,7 @@ use Rattle.faulty_source.specs.Got.{count_of, is_end}
 abbrev pub name_limit : ℕ
 name_limit = 4096
 
--- whether attempts at a bad range will still fail; without a number they fail for ever
+-- whether attempts at a bad range will still fail; without a number they fail forever
 abbrev pub fails_still : Option ℕ → Bool
 fails_still None = true
 fails_still (Some n) = nat_lt 0 n
@@ -22,7 +22,7 @@ is_bad_at x r = nat_le r.from x && nat_lt x r.to && fails_still r.attempts
 abbrev pub is_bad : List BadRange → ℕ → Bool
 is_bad bad x = list_any (is_bad_at x) bad
 
--- the attempts that still fail after one more; without a number they fail for ever
+-- the attempts that still fail after one more; without a number they fail forever
 abbrev pub one_less : Option ℕ → Option ℕ
 one_less None = None
 one_less (Some n) = Some (n - 1)

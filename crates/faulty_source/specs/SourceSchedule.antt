@@ -15,6 +15,6 @@ pub record CountsCall (old new : SourceSchedule) : Type 0 where
   pub calls : new.calls ≡ with_call old.calls
   pub room : new.room ≡ old.room
 
--- by its schedule an open fails where its number is one of those that fail, at one name, and at names over the limit
+-- by its schedule an open fails if its number is one of those that fail, at one name, and at names over the limit
 abbrev pub OpenFails : SourceSchedule → (name : List ℕ) → Type 0
 OpenFails schedule name = FailsNext schedule.calls ⊎ (name ≡ codes "missing") ⊎ (name_limit < length name)

@@ -50,7 +50,7 @@ abbrev pub bad_line_text : Named → List ℕ → List ℕ
 bad_line_text file line = named_text file ++ codes " isn't a mapfile, or it was damaged: that line is '" ++ cut 80 line
     ++ codes "'"
 
--- the advice on want of memory for the map of a file
+-- the advice on lack of memory for the map of a file
 abbrev pub large_map_text : Named → ℕ → List ℕ
 large_map_text file bytes = codes "memory is short, and " ++ named_text file ++ codes " has " ++ decimal bytes
     ++ codes " B: end other programs and give the same command"

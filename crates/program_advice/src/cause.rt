@@ -75,7 +75,7 @@ pub enum Stream {
 /// The advice that names nothing.
 #[derive(Clone, Copy)]
 pub enum Hint {
-    /// The infile and the outfile are one file with two names.
+    /// The infile and the outfile are the same file, with two names.
     SameFile,
     InputLost,
     /// A rescue that has a mapfile was stopped, because someone asked for that.

@@ -142,7 +142,7 @@ fn add_bad_line(line: &mut Line, file: Named<'_>, text: &[u8])
     add(line, "'");
 }
 
-/// Adds the advice on want of memory for a map.
+/// Adds the advice on lack of memory for a map.
 fn add_large_map(line: &mut Line, file: Named<'_>, bytes: u64)
     requires { array_vec_len line.old ≤ 20 }
     ensures text { line.new.items ≡ line.old.items ++ large_map_text file.entry bytes }

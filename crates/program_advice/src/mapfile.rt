@@ -119,7 +119,7 @@ pub fn line_on_map(rt: &HostRuntime, program: &str, file: Named<'_>, error: MapE
     }
 }
 
-/// The line that follows the message on want of memory. It says how large the mapfile is, if that can be found.
+/// The line that follows the message on lack of memory. It says how large the mapfile is, if that can be found.
 pub fn line_on_memory(rt: &HostRuntime, program: &str, file: Named<'_>) -> Line
     requires { length program.now ≤ 18 }
     ensures { IsOneLine result.items }

@@ -57,7 +57,7 @@ fn word_cause<'a>(words: &'a Words, fault: WordFault, manual: Manual) -> Option<
     Some(Cause::Argument { word, wanted })
 }
 
-/// The long name of the option whose value begins in a word, and None where that word is no option's value.
+/// The long name of the option whose value begins in a word, and None if that word is no option's value.
 fn option_at(
     alloc: Global,
     words: &Words,
@@ -141,8 +141,8 @@ fn usage_cause<'a>(
     }
 }
 
-/// The line that follows the message on arguments that ask for nothing. There is none where they ask that nothing be
-/// said, and none where it wouldn't help.
+/// The line that follows the message on arguments that ask for nothing. There is none if they ask that nothing be said,
+/// and none if it wouldn't help.
 pub fn line_on_words(
     program: &str,
     alloc: Global,

@@ -66,7 +66,7 @@ pub fn device_text(rt: &HostRuntime, number: u64) -> io::Result<String> {
     }
 }
 
-/// What the kernel told, and None where it didn't tell. That memory was short stays an error.
+/// What the kernel told, and None if it didn't tell. That memory was short stays an error.
 pub(crate) fn if_told<T>(outcome: io::Result<T>) -> io::Result<Option<T>>
     ensures told { IfOk outcome (λ value. result ≡ Ok (Some value)) }
     ensures memory { IfErr outcome (λ e. error_kind e ≡ ErrorKind.OutOfMemory → IsErr result) }

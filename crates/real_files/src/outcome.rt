@@ -6,7 +6,7 @@ ghost use Rattle.real_files.specs.Medium.{is_medium_code};
 use std::fs::TryLockError;
 use std::io::{self, ErrorKind};
 
-/// What was found, and None where nothing is there. Whatever else went wrong stays an error.
+/// What was found, and None if nothing is there. Whatever else went wrong stays an error.
 pub fn if_there<T>(outcome: io::Result<T>) -> io::Result<Option<T>>
     ensures there { IfOk outcome (λ value. result ≡ Ok (Some value)) }
     ensures absent { IfErr outcome (λ e. error_kind e ≡ ErrorKind.NotFound → result ≡ Ok None) }
@@ -19,7 +19,7 @@ pub fn if_there<T>(outcome: io::Result<T>) -> io::Result<Option<T>>
     }
 }
 
-/// Whether a folder was synced. Where the file system has no such operation, nothing more can be asked of it.
+/// Whether a folder was synced. If the file system has no such operation, nothing more can be asked of it.
 pub fn folder_synced(outcome: io::Result<()>) -> io::Result<()>
     ensures { IsOk result ↔ (IsOk outcome ⊎ IsErrAnd outcome (λ e. error_kind e ≡ ErrorKind.InvalidInput)) }
 {
@@ -29,7 +29,7 @@ pub fn folder_synced(outcome: io::Result<()>) -> io::Result<()>
     }
 }
 
-/// What was opened, and None where it may not be opened and isn't needed. Whatever else went wrong stays an error.
+/// What was opened, and None if it may not be opened and isn't needed. Whatever else went wrong stays an error.
 pub fn if_allowed<T>(outcome: io::Result<T>, needed: bool) -> io::Result<Option<T>>
     ensures there { IfOk outcome (λ value. result ≡ Ok (Some value)) }
     ensures denied { needed ≡ false
@@ -44,7 +44,7 @@ pub fn if_allowed<T>(outcome: io::Result<T>, needed: bool) -> io::Result<Option<
     }
 }
 
-/// Whether no other run holds a file. Where the file system has no locks nothing is held.
+/// Whether no other run holds a file. If the file system has no locks nothing is held.
 pub fn not_held(outcome: Result<(), TryLockError>) -> io::Result<()>
     ensures { IsErr result ↔ (outcome ≡ Err TryLockError.WouldBlock) }
 {

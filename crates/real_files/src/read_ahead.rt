@@ -86,8 +86,8 @@ impl ReadAhead {
     }
 
     /// Fills a buffer with the bytes at a position: with those that are held, or else by one read ahead from there, of
-    /// up to `most` bytes. The buffer stays as it was where such a read gives too few, and where it would ask for no
-    /// more than the buffer takes. The reader is at the position.
+    /// up to `most` bytes. The buffer stays as it was if such a read gives too few, and if it would ask for no more
+    /// than the buffer takes. The reader is at the position.
     pub fn give<R: Read>(&mut self, reader: &mut R, pos: u64, most: u64, buf: &mut [u8]) -> bool
         requires place { pos + length buf.old < 2 ^ 63 }
         ensures held { holds self.old pos (length buf.old) ≡ true
@@ -113,7 +113,7 @@ impl ReadAhead {
         given
     }
 
-    /// Fills a buffer where all of it is held.
+    /// Fills a buffer if all of it is held.
     fn give_held(&mut self, pos: u64, buf: &mut [u8]) -> bool
         requires place { pos + length buf.old < 2 ^ 63 }
         ensures held { result ≡ holds self.old pos (length buf.old) }

@@ -30,7 +30,7 @@ enum Said {
     NoMap,
 }
 
-/// What a text says that has the front of a mapfile or stands after it.
+/// What a text says that has the front of a mapfile or comes after it.
 fn said_by(alloc: Global, front: bool, lines: &[u8]) -> Said {
     let Ok(mut text) = Vec::from_slice(alloc, if front { b"" } else { STATUS_LINE }) else {
         return Said::NoMap;

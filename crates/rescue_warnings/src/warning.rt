@@ -13,7 +13,7 @@ use program_advice::line::{Line, add, add_quoted, finished};
 use real_files::devices::Mounting;
 use rescue_console::console::{Channel, Console};
 
-/// The names of the command line; empty where there is none.
+/// The names of the command line; empty if there is none.
 #[derive(Clone, Copy)]
 pub struct Names<'a> {
     pub infile: &'a str,
