@@ -1,13 +1,13 @@
 //! How an input that is a real file or device is opened.
 ghost use Rattle.std.specs.Prelude.{◌<◌, ◌^◌, IfOk};
 
-use real_files::descriptor::open_again;
-use real_files::devices::is_gone;
-use real_files::direct::{DirectFile, is_direct};
-use real_files::identity::Identity;
+use kernel_devices::descriptor::{is_direct, open_again};
+use kernel_devices::devices::is_gone;
+use kernel_devices::identity::Identity;
+use kernel_devices::release::caches_by_page;
+use kernel_devices::sectors::{is_optical, logical_sector, physical_sector};
+use real_files::direct::DirectFile;
 use real_files::launcher::{Launcher, Readiness};
-use real_files::release::caches_by_page;
-use real_files::sectors::{is_optical, logical_sector, physical_sector};
 use std::fs::{self, File, Metadata};
 use std::io::{self, ErrorKind, Seek, SeekFrom};
 use std::os::unix::fs::{FileTypeExt, MetadataExt};

@@ -2,4 +2,3 @@
 pub mod PartLemmas
 mod AheadLemmas
 mod DirectLemmas
-mod NameLemmas

@@ -6,24 +6,10 @@ ghost use Rattle.std.specs.Io.{ReadsAtMost};
 ghost use Rattle.std.specs.Io.KnownBytes.{Keeps};
 ghost use Rattle.real_files.specs.Direct.{GivesPast};
 
-use crate::descriptor::open_flags;
 use crate::file_cursor::FileCursor;
 use std::fs::File;
 use std::io::{self, ErrorKind, Read};
 use std::os::unix::fs::FileExt;
-
-/// The flag of an open past the kernel's cache, `O_DIRECT`.
-const PAST_CACHE: u64 = 0o40000;
-
-/// Whether a file is open past the kernel's cache. What can't be told isn't so.
-///
-/// # Errors
-///
-/// `OutOfMemory`.
-pub fn is_direct(rt: &HostRuntime, file: &File) -> io::Result<bool> {
-    let flags = open_flags(rt, file)?;
-    Ok(flags.is_some_and(|flags| flags & PAST_CACHE != 0))
-}
 
 /// Whether a read was refused before anything was asked of the device, as one into memory that isn't aligned.
 fn is_refused(outcome: &io::Result<usize>) -> bool

@@ -3,7 +3,7 @@ use Rattle.std.proofs.Common.{◌≡◌, ◌≤◌, ◌+◌, ℕ, zero, suc, Boo
 use Rattle.std.specs.Prelude.{⊤, ◌-◌, ◌%◌, not, ◌||◌, is_none, nat_lt, nat_le, nat_eq}
 use Rattle.std.specs.List.{Contains}
 use Rattle.std.proofs.lemmas.List.Elements.{All-nil, All-cons, Contains-append_left, Contains-append_right, Contains-push}
-use Rattle.real_files.specs.declared.devices.Mounting.{Mounting}
+use Rattle.kernel_devices.specs.declared.devices.Mounting.{Mounting}
 use Rattle.rescue_warnings.specs.declared.facts.Facts.{Facts}
 use Rattle.rescue_warnings.specs.declared.facts.Storage.{Storage}
 use Rattle.rescue_warnings.specs.declared.advice.Advice.{Advice}

@@ -1,7 +1,7 @@
 -- What a person is warned of before a run, and when. For contracts and proofs: no promise uses it.
 use Rattle.std.specs.Prelude.{ℕ, Bool, true, false, List, [], ◌∷◌, ◌≡◌, ◌+◌, ◌-◌, ◌/◌, ◌%◌, ◌≤◌, ⊤, min, max, not, ◌&&◌, ◌||◌, nat_lt, nat_le, nat_eq, is_none, Option, Some, None, All, Contains}
-use Rattle.real_files.specs.declared.devices.Mounting.{Mounting}
-use Rattle.real_files.specs.declared.devices.Mounting.TheVariants.{ReadOnly, Writable}
+use Rattle.kernel_devices.specs.declared.devices.Mounting.{Mounting}
+use Rattle.kernel_devices.specs.declared.devices.Mounting.TheVariants.{ReadOnly, Writable}
 use Rattle.rescue_warnings.specs.declared.facts.Work.{Work}
 use Rattle.rescue_warnings.specs.declared.facts.Work.TheVariants.{Rescue, Fill, Generate, Comparison, Plan}
 use Rattle.rescue_warnings.specs.declared.facts.Found.{Found}

@@ -4,8 +4,8 @@ use Rattle.std.specs.Fmt.{decimal}
 use Rattle.mapfile_text.specs.Printed.{shown_byte}
 use Rattle.rescue_warnings.specs.declared.advice.Advice.{Advice}
 use Rattle.rescue_warnings.specs.declared.advice.Advice.TheVariants.{OutfileShort, MapPastInfile, EmptyInfile, BeginsPastInfile, NothingAsked, NothingListed, NewMapfile, LinkedMapfile, UnsafeOutfile, UnsafeMapfile, NewOutfile, NothingToFill, LongPattern, OtherSector, MountedInfile, OutfileOnDisk, MapfileOnDisk, LongPlan, NothingToCompare, LateMapfile, EmptyDomain, MapBeforeInfile, NoLength}
-use Rattle.real_files.specs.declared.devices.Mounting.{Mounting}
-use Rattle.real_files.specs.declared.devices.Mounting.TheVariants.{ReadOnly, Writable}
+use Rattle.kernel_devices.specs.declared.devices.Mounting.{Mounting}
+use Rattle.kernel_devices.specs.declared.devices.Mounting.TheVariants.{ReadOnly, Writable}
 use Rattle.rescue_warnings.specs.declared.facts.Storage.{Storage}
 use Rattle.rescue_warnings.specs.declared.facts.Storage.TheVariants.{Memory, Overlay, NoJournal, Fuse}
 use Rattle.rescue_warnings.specs.declared.warning.Names.{Names}

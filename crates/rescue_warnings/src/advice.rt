@@ -4,7 +4,7 @@ ghost use Rattle.rescue_warnings.specs.Due.{IsAdvice, asked_end, asks_for_all, a
 
 use crate::facts::{Facts, Finished, Found, MapText, Storage, Work};
 use arrayvec::ArrayVec;
-use real_files::devices::Mounting;
+use kernel_devices::devices::Mounting;
 
 /// A warning. Positions and lengths are in bytes.
 #[derive(Clone, Copy, Debug, Default, PartialEq, Eq)]

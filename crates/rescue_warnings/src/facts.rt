@@ -1,6 +1,6 @@
 //! What is known before a run: what the command asks for, and what was read without changing anything.
 
-use real_files::devices::Mounting;
+use kernel_devices::devices::Mounting;
 
 /// What a program is to do.
 #[derive(Clone, Copy, Debug, PartialEq, Eq)]

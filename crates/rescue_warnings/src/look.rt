@@ -1,12 +1,12 @@
 //! What is read of files before a run, without changing anything. No contract says what a file holds: what couldn't be
 //! read, or isn't understood, isn't known.
 use crate::facts::{Found, Place, Storage};
-use real_files::devices::{Mounting, find_mounting, find_under, find_under_open};
-use real_files::identity::Identity;
-use real_files::mounts::{device_text, find_mount, read_mounts};
-use real_files::names::folder_of;
+use kernel_devices::devices::{Mounting, find_mounting, find_under, find_under_open};
+use kernel_devices::identity::Identity;
+use kernel_devices::mounts::{device_text, find_mount, read_mounts};
+use kernel_devices::names::folder_of;
+use kernel_devices::sectors::logical_sector;
 use real_files::outcome::if_there;
-use real_files::sectors::logical_sector;
 use std::fs::{self, File};
 use std::io;
 use std::os::unix::fs::{FileTypeExt, MetadataExt};

@@ -9,8 +9,8 @@ ghost use Rattle.rescue_warnings.specs.Warnings.{advice_said, disk_text, file_sa
 use crate::advice::Advice;
 use crate::facts::Storage;
 use itoa::Buffer;
+use kernel_devices::devices::Mounting;
 use program_advice::line::{Line, add, add_quoted, finished};
-use real_files::devices::Mounting;
 use rescue_console::console::{Channel, Console};
 
 /// The names of the command line; empty if there is none.

@@ -1,8 +1,8 @@
 //! The files that no mapfile and no draft may be, and what may not be written since it is the infile's.
 use crate::folder::image::OpenImage;
-use real_files::devices::{find_under, find_under_open};
-use real_files::identity::{Identity, OpenInput};
-use real_files::names::folder_of;
+use kernel_devices::devices::{find_under, find_under_open};
+use kernel_devices::identity::{Identity, OpenInput};
+use kernel_devices::names::folder_of;
 use std::fs::{File, Metadata};
 use std::io::{self, ErrorKind};
 

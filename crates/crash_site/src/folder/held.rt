@@ -1,7 +1,7 @@
 //! The locks on a mapfile and on its draft, by which rescues with one mapfile keep apart.
 use crate::folder::apart::Apart;
 use crate::folder::names::open_with;
-use real_files::identity::Identity;
+use kernel_devices::identity::Identity;
 use real_files::outcome::not_held;
 use std::fs::{self, File, Metadata, OpenOptions};
 use std::io;

@@ -1,5 +1,5 @@
 //! The folder that holds a file, and its sync.
-use real_files::names::folder_of;
+use kernel_devices::names::folder_of;
 use real_files::outcome::{folder_synced, if_allowed};
 use std::fs::{self, File, OpenFile, OpenOptions};
 use std::io::{self, ErrorKind};

@@ -3,7 +3,7 @@ use crate::folder::apart::Apart;
 use crate::folder::held::{HeldMap, check_free, hold_map};
 use crate::folder::mapfile::find_map;
 use crate::folder::names::{folder_for, make_new, open_with, sync_entries};
-use real_files::names::folder_of;
+use kernel_devices::names::folder_of;
 use real_files::outcome::{if_there, removable};
 use std::fs::{self, File, OpenOptions};
 use std::io::{self, ErrorKind};

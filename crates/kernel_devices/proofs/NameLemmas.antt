@@ -2,7 +2,7 @@
 use Rattle.std.proofs.Common.{◌≡◌, ℕ, zero, suc, ◌+◌, ◌<◌, ◌≤◌, Bool, true, false, nat_eq, List, [], ◌∷◌, ◌++◌, length, get_or, drop, Option, Some, None, ◌⊎◌, inl, inr, sym, ap, refl, ◌∙◌, arith, append-nil, append_assoc, drop-cons}
 use Rattle.std.proofs.Math.ListN.{drop_of_length-le}
 use Rattle.std.proofs.lemmas.Bool.Decides.{nat_tests}
-use Rattle.real_files.specs.Names.{byte_of, escape_of, escaped, escaped_byte, octal_byte, taken_with, unescaped, unescaped_after}
+use Rattle.kernel_devices.specs.Names.{byte_of, escape_of, escaped, escaped_byte, octal_byte, taken_with, unescaped, unescaped_after}
 
 -- A byte that was taken with an earlier one gives nothing.
 pub passed : (text items : List ℕ) (place skip after : ℕ) → place < length text

@@ -1,6 +1,6 @@
 //! The sizes of a device's sectors, as the kernel tells them.
 ghost use Rattle.std.specs.Prelude.{◌≡◌, ◌↔◌, IsTrue};
-ghost use Rattle.real_files.specs.Devices.{major_of};
+ghost use Rattle.kernel_devices.specs.Devices.{major_of};
 
 use crate::device_texts::major;
 use crate::mounts::device_text;

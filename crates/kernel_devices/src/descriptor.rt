@@ -27,11 +27,24 @@ pub(crate) fn read_told(rt: &HostRuntime, file: &File) -> io::Result<Option<Vec<
 /// # Errors
 ///
 /// `OutOfMemory`.
-pub fn open_flags(rt: &HostRuntime, file: &File) -> io::Result<Option<u64>> {
+fn open_flags(rt: &HostRuntime, file: &File) -> io::Result<Option<u64>> {
     match read_told(rt, file)? {
         Some(told) => Ok(flags_of(&told)),
         None => Ok(None),
     }
+}
+
+/// The flag of an open past the kernel's cache, `O_DIRECT`.
+const PAST_CACHE: u64 = 0o40000;
+
+/// Whether a file is open past the kernel's cache. What can't be told isn't so.
+///
+/// # Errors
+///
+/// `OutOfMemory`.
+pub fn is_direct(rt: &HostRuntime, file: &File) -> io::Result<bool> {
+    let flags = open_flags(rt, file)?;
+    Ok(flags.is_some_and(|flags| flags & PAST_CACHE != 0))
 }
 
 /// Opens an open file once more to read it, through the kernel's cache.

@@ -1,6 +1,6 @@
 //! What the kernel's texts about devices say, each read from any bytes.
 ghost use Rattle.std.specs.Prelude.{◌≡◌, ◌^◌, ◌<◌, ◌↔◌, IsTrue};
-ghost use Rattle.real_files.specs.Devices.{is_lost_state, major_of, minor_of};
+ghost use Rattle.kernel_devices.specs.Devices.{is_lost_state, major_of, minor_of};
 
 /// The first number past the kernel's major numbers.
 const MAJORS: u64 = 1 << 12;

@@ -1,6 +1,6 @@
 use Rattle.std.proofs.Common.{◌≡◌, ◌++◌, drop}
-use Rattle.real_files.proofs.names.unescaped.Given as goal
-use Rattle.real_files.specs.Names.{unescaped, unescaped_after}
+use Rattle.kernel_devices.proofs.names.unescaped.Given as goal
+use Rattle.kernel_devices.specs.Names.{unescaped, unescaped_after}
 
 abbrev pub invariant-loop-place : goal.invariant-loop-place
 invariant-loop-place l = unescaped l.text ≡ l.name.items ++ unescaped_after l.skip (drop l.place l.text)

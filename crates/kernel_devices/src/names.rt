@@ -1,6 +1,6 @@
 //! Names of files: the folder that holds one, and how the kernel's tables print one.
 ghost use Rattle.std.specs.Prelude.{◌≡◌, List, ℕ, IfOk};
-ghost use Rattle.real_files.specs.Names.{escaped, escaped_byte, octal_byte, unescaped};
+ghost use Rattle.kernel_devices.specs.Names.{escaped, escaped_byte, octal_byte, unescaped};
 
 use std::alloc::{AllocError, Global};
 use std::path::Path;

@@ -1,9 +1,9 @@
 use Rattle.std.proofs.Common.{length, get_or, Some, None, slice_range, ap, refl, ◌∙◌, arith, le_refl}
 use Rattle.std.proofs.lemmas.Slice.{between_to_end}
-use Rattle.real_files.specs.Names.{unescaped}
-use Rattle.real_files.proofs.NameLemmas.{given, passed, unescaped-escaped, whole}
-use Rattle.real_files.proofs.names.unescaped.Goals as goal
-use Rattle.real_files.proofs.names.unescaped.Goals.{then-skip-gt0, else-skip-gt0+in-Some+in_ok-push, else-skip-gt0+in_default+in_ok-push-2}
+use Rattle.kernel_devices.specs.Names.{unescaped}
+use Rattle.kernel_devices.proofs.NameLemmas.{given, passed, unescaped-escaped, whole}
+use Rattle.kernel_devices.proofs.names.unescaped.Goals as goal
+use Rattle.kernel_devices.proofs.names.unescaped.Goals.{then-skip-gt0, else-skip-gt0+in-Some+in_ok-push, else-skip-gt0+in_default+in_ok-push-2}
 
 pub loop-place-preserved : goal.loop-place-preserved
 loop-place-preserved c =
