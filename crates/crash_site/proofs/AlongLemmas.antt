@@ -21,18 +21,23 @@ at_first P d [] h = h
 at_first P d (call ∷ calls) h = h.0
 
 -- where nothing follows an entry that failed
-along_failed : (P : Disk → Type 0) (d : Disk) (call : Call) (es : List Entry) → es ≡ [] → P (entered d (Failed call))
-    → Along P d (Failed call ∷ es)
-along_failed P d call [] none h = (h, h)
-along_failed P d call (e ∷ es) none h = absurd (cc)
+along_failed : (P : Disk → Type 0) (d : Disk) (call : Call) (steps : ℕ) (es : List Entry) → es ≡ []
+    → P (entered d (Failed call steps)) → Along P d (Failed call steps ∷ es)
+along_failed P d call steps [] none h = (h, h)
+along_failed P d call steps (e ∷ es) none h = absurd (cc)
 
 pub along_calls : (P : Disk → Type 0) (d : Disk) (calls : List Call) (es : List Entry) → AlongCalls P d calls → GoesAlong calls es → Along P d es
 along_calls P d calls [] h goes = at_first P d calls h
 along_calls P d [] (e ∷ es) h goes = absurd goes
 along_calls P d (call ∷ calls) (Done c ∷ es) h goes =
-    subst (λ (x : Call). Along P d (Done x ∷ es)) (sym goes.0) (h.1, along_calls P (entered d (Done call)) calls es h.2 goes.1)
-along_calls P d (call ∷ calls) (Failed c ∷ es) h goes =
-    subst (λ (x : Call). Along P d (Failed x ∷ es)) (sym goes.0) (along_failed P d call es goes.1 h.1)
+    subst (λ (x : Call). Along P d (Done x ∷ es)) (sym goes.0) (
+      h.1 0,
+      along_calls P (entered d (Done call)) calls
+          es h.2 goes.1,
+    )
+along_calls P d (call ∷ calls) (Failed c steps ∷ es) h goes =
+    subst (λ (x : Call). Along P d (Failed x steps ∷ es)) (sym goes.0)
+    (along_failed P d call steps es goes.1 (h.1 steps))
 
 -- a record that went on by these calls, or some of them
 pub record WentOn (calls : List Call) (old new : List Entry) : Type 0 where
@@ -53,7 +58,8 @@ none_goes (call ∷ calls) = tt
 
 pub broke_goes : (at : SiteCall) (calls : List Call) (old new : List Entry) → BrokeAt at calls old new → WentOn calls old new
 broke_goes at [] old new b = absurd b
-broke_goes at (call ∷ calls) old new (inl (named, inl listed)) = record { since = Failed call ∷ []; is = listed; goes = (refl, refl) }
+broke_goes at (call ∷ calls) old new (inl (named, inl listed)) =
+    record { since = Failed call listed.0 ∷ []; is = listed.1; goes = (refl, refl) }
 broke_goes at (call ∷ calls) old new (inl (named, inr unlisted)) =
     record { since = []; is = unlisted ∙ sym (append-nil old); goes = none_goes (call ∷ calls) }
 broke_goes at (call ∷ calls) old new (inr later) =

@@ -1,5 +1,5 @@
 -- How a record of calls grows: by calls that returned, and by one that failed.
-use Rattle.std.specs.Prelude.{◌≡◌, ◌⊎◌, ⊤, List, [], ◌∷◌, ◌++◌, map, All, None}
+use Rattle.std.specs.Prelude.{ℕ, ◌≡◌, ◌⊎◌, ⊤, List, [], ◌∷◌, ◌++◌, map, All, None}
 use Rattle.crash_site.specs.declared.site.SiteCall.{SiteCall}
 use Rattle.crash_site.specs.declared.site.SiteCall.TheVariants.{ImageOpen, ImageRead, ImageWrite, ImageSync, MapRead as MapReadName, DraftBegin, DraftAppend, DraftSync, DraftPublish, MapSettle, MapRemove}
 use Rattle.crash_site.specs.Calls.{Call, image_open, image_read, image_write, image_sync, map_read, draft_begin, draft_append, draft_sync, draft_publish, map_settle, map_remove, Entry, Done, Failed}
@@ -13,15 +13,16 @@ unanswered call = call
 -- a call that returned Ok
 abbrev pub IsDone : Entry → Type 0
 IsDone (Done call) = ⊤
-IsDone (Failed call) = ⊥
+IsDone (Failed call steps) = ⊥
 
 -- all calls of a record returned Ok
 abbrev pub AllDone : List Entry → Type 0
 AllDone calls = All IsDone calls
 
--- The record after a call that failed: the call is listed, or nothing happened for want of memory.
+-- The record after a call that failed: the call is listed, with the steps that it made, or nothing happened for lack of
+-- memory.
 abbrev pub Lost : Call → List Entry → List Entry → Type 0
-Lost call old new = (new ≡ old ++ Failed call ∷ []) ⊎ (new ≡ old)
+Lost call old new = ((steps : ℕ) × (new ≡ old ++ Failed call steps ∷ [])) ⊎ (new ≡ old)
 
 -- the record grew by these calls, which all returned Ok
 abbrev pub Made : List Call → List Entry → List Entry → Type 0

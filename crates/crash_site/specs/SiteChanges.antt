@@ -56,13 +56,13 @@ abbrev pub KeepsOpen : Call → (before now : Bool) → Type 0
 KeepsOpen (image_open name make) before now = ⊤
 KeepsOpen call before now = now ≡ before
 
--- what a call leaves of a schedule: it fails where its number is one of those that fail, and is listed as failed; or
--- where it finds no memory, which is counted, and isn't listed
+-- What a call leaves of a schedule: it fails if its number is one of those that fail, and is listed as failed without any
+-- step; or if it finds no memory, which is counted, and isn't listed.
 pub record KeepsSchedule {T E : Type 0} (call : Call) (result : Result T E) (old new : SiteState) : Type 0 where
   pub schedule : new.schedule ≡ with_call old.schedule
   pub fails : FailsNext old.schedule → IsErr result
   pub why : OnErr result
-      ((FailsNext old.schedule × (new.starved ≡ old.starved) × (new.calls ≡ old.calls ++ Failed call ∷ []))
+      ((FailsNext old.schedule × (new.starved ≡ old.starved) × (new.calls ≡ old.calls ++ Failed call 0 ∷ []))
       ⊎ ((new.starved ≡ raised old.starved) × (new.calls ≡ old.calls)))
   pub fed : OnOk result (new.starved ≡ old.starved)
 

@@ -3,7 +3,8 @@ use Rattle.std.proofs.Common.{◌≡◌, inl, inr, ℕ, Bool, true, false, List,
 use Rattle.std.specs.Bool.{⊤}
 use Rattle.crash_site.specs.Files.{File, empty_file, bytes_of, put, written_file}
 use Rattle.crash_site.specs.Calls.{Call, Entry, Done, Failed, image_open, image_read, image_write, image_sync, map_read, draft_begin, draft_append, draft_sync, draft_publish, map_settle, map_remove}
-use Rattle.crash_site.specs.CallsMade.{unanswered, Lost}
+use Rattle.crash_site.specs.CallsMade.{unanswered}
+use Rattle.memory_site.specs.CallLog.{Missed}
 use Rattle.crash_site.specs.Folder.{Folder, opened, with_piece, appended, published, after_done, after_failed, after_entry, after}
 use Rattle.memory_site.specs.Follows.{Follows}
 
@@ -108,7 +109,7 @@ IsClosed f (draft_begin name) = f.draft ≡ None
 IsClosed f (draft_publish name) = f.draft ≡ None
 IsClosed f _ = ⊤
 
-follows_failed : (f a : Folder) (call : Call) → IsClosed f call → Follows f a → Follows f (after_failed a call)
+follows_failed : (f a : Folder) (call : Call) → IsClosed f call → Follows f a → Follows f (after_failed a call 0)
 follows_failed f a (image_open name make) none h =
     record { files = h.files; image = λ n e. absurd (let no : None ≡ Some n = sym none ∙ e in cc); draft = h.draft }
 follows_failed f a (image_read pos asked answer) _ h = h
@@ -132,16 +133,16 @@ follows_done s g es new call e h =
 
 -- the invariant after a call that was lost
 pub follows_lost : (s f : Folder) (es new : List Entry) (call : Call) → IsClosed f call → Follows f (after s es)
-    → Lost call es new → Follows f (after s new)
+    → Missed call es new → Follows f (after s new)
 follows_lost s f es new call closed h (inl e) =
-    follows_along f (after_failed (after s es) call) (after s new)
-    (sym (ap (after s) e ∙ after_more s es (Failed call))) (follows_failed f (after s es) call closed h)
+    follows_along f (after_failed (after s es) call 0) (after s new)
+    (sym (ap (after s) e ∙ after_more s es (Failed call 0))) (follows_failed f (after s es) call closed h)
 follows_lost s f es new call closed h (inr e) = follows_along f (after s es) (after s new) (sym (ap (after s) e)) h
 
 -- the invariant after a call was entered that leaves every folder as it is
 pub follows_entered : {T E : Type 0} (s f : Folder) (es new : List Entry) (call : Call) (r : Result T E)
     → ((a : Folder) → after_done a call ≡ a) → IsClosed f (unanswered call)
-    → Follows f (after s es) → OnOk r (new ≡ es ++ Done call ∷ []) → OnErr r (Lost (unanswered call) es new)
+    → Follows f (after s es) → OnOk r (new ≡ es ++ Done call ∷ []) → OnErr r (Missed (unanswered call) es new)
     → Follows f (after s new)
 follows_entered s f es new call (Ok x) stays closed h done lost =
     follows_done s f es new call done

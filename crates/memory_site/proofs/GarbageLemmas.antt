@@ -219,7 +219,7 @@ entry_spoilt d (Done call) f g l h =
     (made_part false call d.reads d.firm f) (made_part true call d.reads d.firm g)
     (part_unsynced call d.reads d.firm f l) (λ n. same_file (d.reads.files n))
     (part_spoilt call d.reads d.firm f g l h)
-entry_spoilt d (Failed call) f g l h = part_spoilt call d.reads d.firm f g l h
+entry_spoilt d (Failed call steps) f g l h = part_spoilt call d.reads d.firm f g l h
 
 along_spoilt : (d : Disk) (f g : List ℕ → Option File) (l : List ℕ → List (ℕ × ℕ)) (es : List Entry) → AllSpoilt f l g
     → AllSpoilt (left_along Newest d f es) (along_unsynced d f l es) (left_along Garbage d g es)

@@ -6,10 +6,10 @@ use Rattle.memory_site.specs.declared.memory.stop.Left.TheVariants.{Oldest, Newe
 use Rattle.crash_site.specs.Files.{File, empty_file, bytes_of, put, written_file}
 use Rattle.crash_site.specs.Calls.{Call, Entry, Done, Failed, image_open, image_read, image_write, image_sync, map_read, draft_begin, draft_append, draft_sync, draft_publish, map_settle, map_remove}
 use Rattle.crash_site.specs.Folder.{Folder}
-use Rattle.crash_site.specs.Disk.{Showing, Disk, only, at_rest, with_range, under, under_some, with_draft, with_text, publishing, after_part, after_return, entered, disk_after}
+use Rattle.crash_site.specs.Disk.{Showing, Disk, synced, only, at_rest, with_range, under, under_some, with_draft, with_text, publishing, after_part, after_return, entered, disk_after}
 use Rattle.crash_site.specs.Left.{MayShow, Leaves, MayBeLeft, until}
 use Rattle.memory_site.specs.FilesLeft.{any_byte, spoilt, begins_at, over, opened_over, written_on, published_as, with_some, moved_to, made_part, left_part, left_entry, left_along, files_left}
-use Rattle.crash_site.proofs.DiskLemmas.{CoversRange, leaves_at, leaves_put, leaves_part, loosened_widens, leaves_made, leaves_removed, leaves_sure, stands_written, stands_made, stands_published, stands_only, stands_any, same_name, rest_sound}
+use Rattle.crash_site.proofs.DiskLemmas.{CoversRange, leaves_at, leaves_put, leaves_part, loosened_widens, leaves_made, leaves_removed, leaves_sure, stands_written, stands_made, stands_published, stands_only, stands_synced, leaves_lost, stands_any, same_name, rest_sound}
 use Rattle.memory_site.proofs.PlaceLemmas.{put-same}
 
 -- each call, made in any part
@@ -40,7 +40,7 @@ over_stands : (garbage : Bool) (file : Option File) (reads : Option File) (s : S
     → (file ≡ None → reads ≡ None) → MayShow s file
     → MayShow (with_range pos (length piece) reads s) (Some (over garbage file pos piece))
 over_stands false file reads s pos piece both h = stands_over file reads s pos (length piece) pos piece
-    (record { end = refl; from = omega arith; gap = omega arith }) both h
+    (record { end = omega arith; from = omega arith; gap = omega arith }) both h
 over_stands true file reads s pos piece both h =
     let size : length (replicate {A = ℕ} (pos + length piece - begins_at file pos) any_byte)
     ≡ pos + length piece - begins_at file pos =
@@ -121,7 +121,7 @@ made_stands garbage d (draft_append piece) f h = appended_stands d d.reads.draft
     (λ n. Some (record { bytes = bytes_of (d.reads.files n) ++ piece; regular = true })) f h
 made_stands garbage d draft_sync f h = h
 made_stands garbage d (draft_publish name) f h = moved_stands garbage d d.reads.draft name f h
-made_stands garbage d (map_settle name) f h = h
+made_stands garbage d (map_settle name) f h = leaves_part d (map_settle name) f h
 made_stands garbage d (map_remove name) f h = leaves_removed d name f h
 
 part_stands : (kind : Left) (d : Disk) (call : Call) (f : List ℕ → Option File) → Leaves d f
@@ -132,10 +132,11 @@ part_stands Garbage d call f h = made_stands true d call f h
 
 -- a call that returned Ok
 
-sure_stands : (d : Disk) (o : Option (List ℕ)) (f : List ℕ → Option File) → Leaves d f
-    → Leaves (under_some o (λ file s. only file) d) (with_some o d.reads.files f)
-sure_stands d None f h = h
-sure_stands d (Some name) f h = leaves_sure d name (λ file s. only file) f (λ file s. stands_only file) h
+sure_stands : (d : Disk) (o : Option (List ℕ)) (change : Option File → Showing → Showing) (f : List ℕ → Option File)
+    → ((file : Option File) (s : Showing) → MayShow (change file s) file) → Leaves d f
+    → Leaves (under_some o change d) (with_some o d.reads.files f)
+sure_stands d None change f sure h = h
+sure_stands d (Some name) change f sure h = leaves_sure d name change f sure h
 
 done_stands : (kind : Left) (d : Disk) (call : Call) (f : List ℕ → Option File) → Leaves d f
     → Leaves (after_return call d) (left_entry kind d (Done call) f)
@@ -143,14 +144,17 @@ done_stands kind d (image_open name make) f h = part_stands kind d (image_open n
 done_stands kind d (image_read pos asked answer) f h = part_stands kind d (image_read pos asked answer) f h
 done_stands kind d (image_write pos piece) f h = part_stands kind d (image_write pos piece) f h
 done_stands kind d image_sync f h =
-    sure_stands d d.reads.image (left_part kind image_sync d.reads d.firm f) (part_stands kind d image_sync f h)
+    sure_stands d d.reads.image synced (left_part kind image_sync d.reads d.firm f) stands_synced
+    (part_stands kind d image_sync f h)
 done_stands kind d (map_read name pos asked answer) f h = part_stands kind d (map_read name pos asked answer) f h
 done_stands kind d (draft_begin name) f h = part_stands kind d (draft_begin name) f h
 done_stands kind d (draft_append piece) f h = part_stands kind d (draft_append piece) f h
 done_stands kind d draft_sync f h = part_stands kind d draft_sync f h
 done_stands kind d (draft_publish name) f h = part_stands kind d (draft_publish name) f h
-done_stands kind d (map_settle name) f h = sure_stands d (Some name)
-    (left_part kind (map_settle name) d.reads d.firm f) (part_stands kind d (map_settle name) f h)
+done_stands kind d (map_settle name) f h = sure_stands (after_part (map_settle name) d) (Some name)
+    (λ file s. only file)
+    (left_part kind (map_settle name) d.reads d.firm f) (λ file s. stands_only file)
+    (part_stands kind d (map_settle name) f h)
 done_stands kind d (map_remove name) f h = part_stands kind d (map_remove name) f h
 
 -- the calls of a record
@@ -160,8 +164,9 @@ along_stands : (kind : Left) (d : Disk) (f : List ℕ → Option File) (es : Lis
 along_stands kind d f [] h = h
 along_stands kind d f (Done call ∷ es) h =
     along_stands kind (entered d (Done call)) (left_entry kind d (Done call) f) es (done_stands kind d call f h)
-along_stands kind d f (Failed call ∷ es) h =
-    along_stands kind (entered d (Failed call)) (left_entry kind d (Failed call) f) es (part_stands kind d call f h)
+along_stands kind d f (Failed call steps ∷ es) h =
+    along_stands kind (entered d (Failed call steps)) (left_entry kind d (Failed call steps) f) es
+    (leaves_lost (after_part call d) call (left_part kind call d.reads d.firm f) (part_stands kind d call f h))
 
 pub kind_stands : (kind : Left) (start : Folder) (calls : List Entry) (k : ℕ)
     → MayBeLeft start calls k (files_left kind start calls k)

@@ -1,16 +1,19 @@
 -- The ranges that aren't synced are those of the version that is found.
-use Rattle.std.proofs.Common.{◌≡◌, inl, inr, ℕ, ◌+◌, ◌-◌, ◌≤◌, ◌<◌, min, max, Bool, true, false, cond, List, [], ◌∷◌, ◌++◌, length, map, Option, Some, None, refl, subst, arith}
+use Rattle.std.proofs.Common.{◌≡◌, inl, inr, ⊎_elim, All, take, drop, ℕ, ◌+◌, ◌-◌, ◌≤◌, ◌<◌, min, max, Bool, true, false, cond, List, [], ◌∷◌, ◌++◌, length, map, Option, Some, None, refl, sym, subst, arith}
 use Rattle.std.specs.Str.{bytes_eq}
 use Rattle.std.proofs.lemmas.Bool.{cases_lt}
 use Rattle.memory_site.specs.declared.memory.stop.Left.TheVariants.{Newest}
-use Rattle.crash_site.specs.Files.{File, empty_file, bytes_of, put, written}
+use Rattle.crash_site.specs.Files.{File, empty_file, draft_of, bytes_of, put, written}
 use Rattle.crash_site.specs.Calls.{Call, Entry, Done, Failed, image_open, image_read, image_write, image_sync, map_read, draft_begin, draft_append, draft_sync, draft_publish, map_settle, map_remove}
 use Rattle.crash_site.specs.Folder.{Folder}
-use Rattle.crash_site.specs.Disk.{Version, Showing, Disk, whole, only, at_rest, or_this, loosen, loosened, with_range, with_opened, under, under_some, with_draft, with_text, publishing, after_part, after_return, entered, disk_after}
-use Rattle.crash_site.specs.Left.{IsLoose, MatchesFile, until}
+use Rattle.crash_site.specs.Disk.{Version, Showing, Disk, lose, lose_all, in_each, synced, lost_by, whole, only, at_rest, or_this, loosen, loosened, with_range, with_opened, under, under_some, with_draft, with_text, publishing, after_part, after_return, entered, disk_after}
+use Rattle.crash_site.specs.Left.{IsLoose, MatchesFile, in_progress, until}
 use Rattle.memory_site.specs.FilesLeft.{opened_over, written_on, published_as, with_some, moved_to, made_part, left_entry, left_along, files_left}
 use Rattle.memory_site.specs.Unsynced.{with_ranges, ranges_at, opened_ranges, written_ranges, text_ranges, ranges_moved, part_unsynced, entry_unsynced, along_unsynced, unsynced_at}
+use Rattle.crash_site.specs.LostLaws.{LosesNone}
 use Rattle.memory_site.specs.LeftLaws.{IsUnsure, IsUnsyncedOf, IsUnsyncedOfOne, IsWholeUnsynced, MayBeUnsynced}
+use Rattle.crash_site.proofs.NoneLemmas.{NoneLost, none_lost_step}
+use Rattle.std.proofs.lemmas.List.Elements.{All-head, All-tail}
 use Rattle.crash_site.proofs.Written.{length-written}
 use Rattle.crash_site.proofs.DiskLemmas.{holds_self, holds_more, version_written, same_name}
 
@@ -73,7 +76,7 @@ version_unsynced : (v : Version) (g : File) (pos : ℕ) (piece : List ℕ) (rang
     ((min pos (length g.bytes), pos + length piece - min pos (length g.bytes)) ∷ ranges)
 version_unsynced v g pos piece ranges h = record {
   matches = version_written v.file v.loose g pos (length piece) pos piece
-      (record { end = refl; from = omega arith; gap = omega arith }) h.matches;
+      (record { end = omega arith; from = omega arith; gap = omega arith }) h.matches;
   all = λ x lt u. grown_all v g pos (length piece) x ranges h (omega (arith, lt, length-written g.bytes pos piece)) u;
   alone = λ x lt l. grown_alone v g pos (length piece) x ranges h l;
 }
@@ -223,6 +226,23 @@ publish_all d (Some draft) name f l h =
     (λ n same. text_unsynced d.firm (d.reads.files draft) (d.reads.files n) ((under draft with_draft d).shows n))
     (put_unsynced d draft with_draft f l None [] (λ n same. inl refl) h)
 
+pick_lost : (b : Bool) (x y : Showing) (was : Option File) (ranges : List (ℕ × ℕ)) → MayBeUnsynced x was ranges
+    → MayBeUnsynced y was ranges → MayBeUnsynced (cond b x y) was ranges
+pick_lost true x y was ranges h g = h
+pick_lost false x y was ranges h g = g
+
+looked_unsynced : (file : Option File) (s : Showing) (was : Option File) (ranges : List (ℕ × ℕ))
+    → MayBeUnsynced s was ranges → MayBeUnsynced (with_opened true file s) was ranges
+looked_unsynced None s was ranges h = add_unsynced (Some empty_file) s was ranges h
+looked_unsynced (Some f) s was ranges h = h
+
+-- a look at a name, which may make an empty file there
+looked_all : (d : Disk) (name : List ℕ) (f : List ℕ → Option File) (l : List ℕ → List (ℕ × ℕ)) → AllUnsynced d f l
+    → AllUnsynced (under name (with_opened true) d) f l
+looked_all d name f l h =
+    λ n. pick_lost (bytes_eq n name) (with_opened true (d.reads.files n) (d.shows n)) (d.shows n) (f n) (l n)
+    (looked_unsynced (d.reads.files n) (d.shows n) (f n) (l n) (h n)) (h n)
+
 part_unsynced_all : (d : Disk) (call : Call) (f : List ℕ → Option File) (l : List ℕ → List (ℕ × ℕ))
     → AllUnsynced d f l
     → AllUnsynced (after_part call d) (made_part false call d.reads d.firm f) (part_unsynced call d.reads d.firm f l)
@@ -237,7 +257,7 @@ part_unsynced_all d (draft_append piece) f l h = append_all d d.reads.draft
     (λ n. Some (record { bytes = bytes_of (d.reads.files n) ++ piece; regular = true })) f l h
 part_unsynced_all d draft_sync f l h = h
 part_unsynced_all d (draft_publish name) f l h = publish_all d d.reads.draft name f l h
-part_unsynced_all d (map_settle name) f l h = h
+part_unsynced_all d (map_settle name) f l h = looked_all d (draft_of name) f l h
 part_unsynced_all d (map_remove name) f l h = put_unsynced d name (λ file s. or_this None s) f l None []
     (λ n same. inr (inr (inr (inl (self_unsynced None))))) h
 
@@ -249,30 +269,112 @@ sure_all d (Some name) f l h = put_unsynced d name (λ file s. only file) f l (d
     (λ n same. subst (λ (m : List ℕ). MayBeUnsynced (only (d.reads.files n)) (d.reads.files m) []) same
     (inr (inr (inl (self_unsynced (d.reads.files n)))))) h
 
-done_all : (d : Disk) (call : Call) (f : List ℕ → Option File) (l : List ℕ → List (ℕ × ℕ)) → AllUnsynced d f l
+sync_all : (d : Disk) (o : Option (List ℕ)) (f : List ℕ → Option File) (l : List ℕ → List (ℕ × ℕ)) → NoneLost d
+    → AllUnsynced d f l
+    → AllUnsynced (under_some o synced d) (with_some o d.reads.files f) (ranges_at o (λ n. []) l)
+sync_all d None f l none h = h
+sync_all d (Some name) f l none h = put_unsynced d name synced f l (d.reads.files name) []
+    (λ n same. subst (λ (m : List ℕ). MayBeUnsynced (synced (d.reads.files n) (d.shows n)) (d.reads.files m) []) same
+    (subst (λ (r : List (ℕ × ℕ)). MayBeUnsynced (record (only (d.reads.files n))
+    { durable = record { file = d.reads.files n; loose = r; lost = r } }) (d.reads.files n) []) (sym (none n))
+    (inr (inr (inl (self_unsynced (d.reads.files n))))))) h
+
+-- what is lost by a call that fails shows nothing more
+one_lost : (change : Version → Version) → ((v : Version) → (was : Option File) (ranges : List (ℕ × ℕ))
+    → IsUnsyncedOf v was ranges → IsUnsyncedOf (change v) was ranges) → (vs : List Version)
+    (was : Option File) (ranges : List (ℕ × ℕ)) → IsUnsyncedOfOne vs was ranges
+    → IsUnsyncedOfOne (map change vs) was ranges
+one_lost change same [] was ranges h = h
+one_lost change same (v ∷ vs) was ranges (inl h) = inl (same v was ranges h)
+one_lost change same (v ∷ vs) was ranges (inr h) = inr (one_lost change same vs was ranges h)
+
+each_lost : (change : Version → Version)
+    → ((v : Version) (was : Option File) (ranges : List (ℕ × ℕ)) → IsUnsyncedOf v was ranges
+    → IsUnsyncedOf (change v) was ranges)
+    → (s : Showing) (was : Option File) (ranges : List (ℕ × ℕ)) → MayBeUnsynced s was ranges
+    → MayBeUnsynced (in_each change s) was ranges
+each_lost change same s was ranges (inl any) = inl any
+each_lost change same s was ranges (inr (inl w)) = inr (inl w)
+each_lost change same s was ranges (inr (inr h)) = inr (inr (one_lost change same (s.durable ∷ s.since) was ranges h))
+
+some_lost : (d : Disk) (o : Option (List ℕ)) (change : Version → Version)
+    → ((v : Version) (was : Option File) (ranges : List (ℕ × ℕ)) → IsUnsyncedOf v was ranges
+    → IsUnsyncedOf (change v) was ranges)
+    → (f : List ℕ → Option File) (l : List ℕ → List (ℕ × ℕ)) → AllUnsynced d f l
+    → AllUnsynced (under_some o (λ file s. in_each change s) d) f l
+some_lost d None change same f l h = h
+some_lost d (Some name) change same f l h =
+    λ n. pick_lost (bytes_eq n name) (in_each change (d.shows n)) (d.shows n) (f n) (l n)
+    (each_lost change same (d.shows n) (f n) (l n) (h n)) (h n)
+
+same_unsynced : (v u : Version) → u.file ≡ v.file → u.loose ≡ v.loose → (was : Option File) (ranges : List (ℕ × ℕ))
+    → IsUnsyncedOf v was ranges → IsUnsyncedOf u was ranges
+same_unsynced v u file loose was ranges h = record {
+  matches = subst (λ (o : Option File). MatchesFile o u.loose was) (sym file)
+      (subst (λ (r : List (ℕ × ℕ)). MatchesFile v.file r was) (sym loose) h.matches);
+  all = λ x lt un. h.all x lt (⊎_elim (λ l. inl (subst (λ (r : List (ℕ × ℕ)). IsLoose r x) loose l))
+      (λ le. inr (subst (λ (o : Option File). length (bytes_of o) ≤ x) file le)) un);
+  alone = λ x lt l. ⊎_elim (λ m. inl (subst (λ (r : List (ℕ × ℕ)). IsLoose r x) (sym loose) m))
+      (λ le. inr (subst (λ (o : Option File). length (bytes_of o) ≤ x) (sym file) le)) (h.alone x lt l);
+}
+
+lost_all : (d : Disk) (call : Call) (f : List ℕ → Option File) (l : List ℕ → List (ℕ × ℕ)) → AllUnsynced d f l
+    → AllUnsynced (lost_by call d) f l
+lost_all d (image_open name make) f l h = h
+lost_all d (image_read pos asked answer) f l h = h
+lost_all d (image_write pos piece) f l h = some_lost d d.reads.image (lose pos (length piece))
+    (λ v was ranges. same_unsynced v (lose pos (length piece) v) refl refl was ranges) f l h
+lost_all d image_sync f l h =
+    some_lost d d.reads.image lose_all (λ v was ranges. same_unsynced v (lose_all v) refl refl was ranges) f l h
+lost_all d (map_read name pos asked answer) f l h = h
+lost_all d (draft_begin name) f l h = h
+lost_all d (draft_append piece) f l h = h
+lost_all d draft_sync f l h = h
+lost_all d (draft_publish name) f l h = h
+lost_all d (map_settle name) f l h = h
+lost_all d (map_remove name) f l h = h
+
+done_all : (d : Disk) (call : Call) (f : List ℕ → Option File) (l : List ℕ → List (ℕ × ℕ)) → NoneLost d
+    → AllUnsynced d f l
     → AllUnsynced (after_return call d) (left_entry Newest d (Done call) f) (entry_unsynced d (Done call) f l)
-done_all d (image_open name make) f l h = part_unsynced_all d (image_open name make) f l h
-done_all d (image_read pos asked answer) f l h = h
-done_all d (image_write pos piece) f l h = part_unsynced_all d (image_write pos piece) f l h
-done_all d image_sync f l h = sure_all d d.reads.image f l h
-done_all d (map_read name pos asked answer) f l h = h
-done_all d (draft_begin name) f l h = part_unsynced_all d (draft_begin name) f l h
-done_all d (draft_append piece) f l h = part_unsynced_all d (draft_append piece) f l h
-done_all d draft_sync f l h = h
-done_all d (draft_publish name) f l h = part_unsynced_all d (draft_publish name) f l h
-done_all d (map_settle name) f l h = sure_all d (Some name) f l h
-done_all d (map_remove name) f l h = part_unsynced_all d (map_remove name) f l h
+done_all d (image_open name make) f l none h = part_unsynced_all d (image_open name make) f l h
+done_all d (image_read pos asked answer) f l none h = h
+done_all d (image_write pos piece) f l none h = part_unsynced_all d (image_write pos piece) f l h
+done_all d image_sync f l none h = sync_all d d.reads.image f l none h
+done_all d (map_read name pos asked answer) f l none h = h
+done_all d (draft_begin name) f l none h = part_unsynced_all d (draft_begin name) f l h
+done_all d (draft_append piece) f l none h = part_unsynced_all d (draft_append piece) f l h
+done_all d draft_sync f l none h = h
+done_all d (draft_publish name) f l none h = part_unsynced_all d (draft_publish name) f l h
+done_all d (map_settle name) f l none h =
+    sure_all (after_part (map_settle name) d) (Some name) f l (looked_all d (draft_of name) f l h)
+done_all d (map_remove name) f l none h = part_unsynced_all d (map_remove name) f l h
 
-along_all : (d : Disk) (f : List ℕ → Option File) (l : List ℕ → List (ℕ × ℕ)) (es : List Entry) → AllUnsynced d f l
-    → AllUnsynced (disk_after d es) (left_along Newest d f es) (along_unsynced d f l es)
-along_all d f l [] h = h
-along_all d f l (Done call ∷ es) h = along_all (entered d (Done call)) (left_entry Newest d (Done call) f)
-    (entry_unsynced d (Done call) f l) es (done_all d call f l h)
-along_all d f l (Failed call ∷ es) h = along_all (entered d (Failed call)) (left_entry Newest d (Failed call) f)
-    (entry_unsynced d (Failed call) f l) es (part_unsynced_all d call f l h)
+failed_all : (d : Disk) (call : Call) (steps : ℕ) (f : List ℕ → Option File) (l : List ℕ → List (ℕ × ℕ))
+    → AllUnsynced d f l
+    → AllUnsynced (entered d (Failed call steps)) (left_entry Newest d (Failed call steps) f)
+    (entry_unsynced d (Failed call steps) f l)
+failed_all d call steps f l h = lost_all (after_part call d) call (made_part false call d.reads d.firm f)
+    (part_unsynced call d.reads d.firm f l) (part_unsynced_all d call f l h)
 
-pub unsynced_left : (start : Folder) (calls : List Entry) (k : ℕ) (n : List ℕ)
+along_all : (d : Disk) (f : List ℕ → Option File) (l : List ℕ → List (ℕ × ℕ)) (es more : List Entry) → All LosesNone es
+    → NoneLost d → AllUnsynced d f l
+    → AllUnsynced (disk_after d (es ++ in_progress more)) (left_along Newest d f (es ++ in_progress more))
+    (along_unsynced d f l (es ++ in_progress more))
+along_all d f l [] [] ok none h = h
+along_all d f l [] (Done call ∷ more) ok none h = failed_all d call 0 f l h
+along_all d f l [] (Failed call steps ∷ more) ok none h = failed_all d call steps f l h
+along_all d f l (Done call ∷ es) more ok none h = along_all (entered d (Done call)) (left_entry Newest d (Done call) f)
+    (entry_unsynced d (Done call) f l) es more (All-tail LosesNone (Done call) es ok)
+    (none_lost_step d (Done call) (All-head LosesNone (Done call) es ok) none) (done_all d call f l none h)
+along_all d f l (Failed call steps ∷ es) more ok none h = along_all (entered d (Failed call steps))
+    (left_entry Newest d (Failed call steps) f) (entry_unsynced d (Failed call steps) f l) es more
+    (All-tail LosesNone (Failed call steps) es ok)
+    (none_lost_step d (Failed call steps) (All-head LosesNone (Failed call steps) es ok) none)
+    (failed_all d call steps f l h)
+
+pub unsynced_left : (start : Folder) (calls : List Entry) (k : ℕ) (n : List ℕ) → All LosesNone (take k calls)
     → MayBeUnsynced ((disk_after (at_rest start) (until k calls)).shows n) (files_left Newest start calls k n)
     (unsynced_at start calls k n)
-unsynced_left start calls k = along_all (at_rest start) start.files (λ n. []) (until k calls)
-    (λ n. inr (inr (inl (self_unsynced (start.files n)))))
+unsynced_left start calls k n ok = along_all (at_rest start) start.files (λ n. []) (take k calls) (drop k calls) ok
+    (λ n. refl) (λ n. inr (inr (inl (self_unsynced (start.files n))))) n

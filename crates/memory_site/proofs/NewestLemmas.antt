@@ -88,7 +88,7 @@ later_done e es h = λ i x lt. h (suc i) x (omega (arith, lt))
 along_reads : (d : Disk) (f : List ℕ → Option File) (es : List Entry) → AllDone es → f ≡ d.reads.files
     → left_along Newest d f es ≡ (disk_after d es).reads.files
 along_reads d f [] all e = e
-along_reads d f (Failed call ∷ es) all e = absurd (first_done (Failed call) es all)
+along_reads d f (Failed call steps ∷ es) all e = absurd (first_done (Failed call steps) es all)
 along_reads d f (Done call ∷ es) all e =
     along_reads (entered d (Done call)) (left_entry Newest d (Done call) f) es (later_done (Done call) es all)
     (ap (left_entry Newest d (Done call)) e ∙ done_reads d call)
@@ -97,7 +97,7 @@ begun_reads : (d : Disk) (es : List Entry)
     → left_along Newest d d.reads.files (in_progress es) ≡ (after d.reads (completed es)).files
 begun_reads d [] = refl
 begun_reads d (Done call ∷ es) = part_reads d.reads call d.firm
-begun_reads d (Failed call ∷ es) = part_reads d.reads call d.firm
+begun_reads d (Failed call steps ∷ es) = part_reads d.reads call d.firm
 
 pub newest_left : (start : Folder) (calls : List Entry) (k : ℕ) (n : List ℕ) → AllDone (take k calls)
     → files_left Newest start calls k n ≡ (after start (take k calls ++ completed (drop k calls))).files n

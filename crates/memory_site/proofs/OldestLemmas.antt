@@ -3,10 +3,10 @@ use Rattle.std.proofs.Common.{◌≡◌, inl, inr, ℕ, Bool, true, false, cond,
 use Rattle.std.proofs.lemmas.Bool.{cases_Bool, cond-true, cond-false}
 use Rattle.std.specs.Str.{bytes_eq}
 use Rattle.memory_site.specs.declared.memory.stop.Left.TheVariants.{Oldest}
-use Rattle.crash_site.specs.Files.{File}
+use Rattle.crash_site.specs.Files.{File, draft_of}
 use Rattle.crash_site.specs.Calls.{Call, Entry, Done, Failed, image_open, image_read, image_write, image_sync, map_read, draft_begin, draft_append, draft_sync, draft_publish, map_settle, map_remove}
 use Rattle.crash_site.specs.Folder.{Folder}
-use Rattle.crash_site.specs.Disk.{Showing, Disk, only, at_rest, or_this, with_range, with_opened, under, under_some, with_draft, with_text, publishing, after_part, after_return, entered, disk_after}
+use Rattle.crash_site.specs.Disk.{Showing, Disk, lose, lose_all, in_each, synced, lost_by, only, at_rest, or_this, with_range, with_opened, under, under_some, with_draft, with_text, publishing, after_part, after_return, entered, disk_after}
 use Rattle.crash_site.specs.Left.{in_progress}
 use Rattle.memory_site.specs.FilesLeft.{with_some, sure_name, left_entry, left_along, files_left}
 use Rattle.memory_site.specs.LeftLaws.{durable_files}
@@ -55,7 +55,8 @@ part_durable d (draft_begin name) n = some_durable d (Some name) with_draft n (�
 part_durable d (draft_append piece) n = some_durable d d.reads.draft with_draft n (λ file s. refl)
 part_durable d draft_sync n = refl
 part_durable d (draft_publish name) n = published_durable d d.reads.draft name n
-part_durable d (map_settle name) n = refl
+part_durable d (map_settle name) n =
+    some_durable d (Some (draft_of name)) (with_opened true) n (made_durable true)
 part_durable d (map_remove name) n = some_durable d (Some name) (λ file s. or_this None s) n (λ file s. refl)
 
 sure_some : (d : Disk) (o : Option (List ℕ)) (change : Option File → Showing → Showing) (f : List ℕ → Option File)
@@ -77,19 +78,37 @@ pub done_durable : (d : Disk) (call : Call) (f : List ℕ → Option File) (n : 
 done_durable d (image_open name make) f n h = h ∙ sym (part_durable d (image_open name make) n)
 done_durable d (image_read pos asked answer) f n h = h
 done_durable d (image_write pos piece) f n h = h ∙ sym (part_durable d (image_write pos piece) n)
-done_durable d image_sync f n h = sure_some d d.reads.image (λ file s. only file) f n (λ file s. refl) h
+done_durable d image_sync f n h = sure_some d d.reads.image synced f n (λ file s. refl) h
 done_durable d (map_read name pos asked answer) f n h = h
 done_durable d (draft_begin name) f n h = h ∙ sym (part_durable d (draft_begin name) n)
 done_durable d (draft_append piece) f n h = h ∙ sym (part_durable d (draft_append piece) n)
 done_durable d draft_sync f n h = h
 done_durable d (draft_publish name) f n h = h ∙ sym (part_durable d (draft_publish name) n)
-done_durable d (map_settle name) f n h = sure_some d (Some name) (λ file s. only file) f n (λ file s. refl) h
+done_durable d (map_settle name) f n h =
+    sure_some (after_part (map_settle name) d) (Some name) (λ file s. only file) f n (λ file s. refl)
+    (h ∙ sym (part_durable d (map_settle name) n))
 done_durable d (map_remove name) f n h = h ∙ sym (part_durable d (map_remove name) n)
+
+-- what is lost is durable still
+lost_durable : (d : Disk) (call : Call) (n : List ℕ) → durable_files (lost_by call d) n ≡ durable_files d n
+lost_durable d (image_open name make) n = refl
+lost_durable d (image_read pos asked answer) n = refl
+lost_durable d (image_write pos piece) n =
+    some_durable d d.reads.image (λ file s. in_each (lose pos (length piece)) s) n (λ file s. refl)
+lost_durable d image_sync n = some_durable d d.reads.image (λ file s. in_each lose_all s) n (λ file s. refl)
+lost_durable d (map_read name pos asked answer) n = refl
+lost_durable d (draft_begin name) n = refl
+lost_durable d (draft_append piece) n = refl
+lost_durable d draft_sync n = refl
+lost_durable d (draft_publish name) n = refl
+lost_durable d (map_settle name) n = refl
+lost_durable d (map_remove name) n = refl
 
 entry_durable : (d : Disk) (e : Entry) (f : List ℕ → Option File) → ((n : List ℕ) → f n ≡ durable_files d n)
     → (n : List ℕ) → left_entry Oldest d e f n ≡ durable_files (entered d e) n
 entry_durable d (Done call) f h n = done_durable d call f n (h n)
-entry_durable d (Failed call) f h n = h n ∙ sym (part_durable d call n)
+entry_durable d (Failed call steps) f h n =
+    h n ∙ sym (part_durable d call n) ∙ sym (lost_durable (after_part call d) call n)
 
 along_durable : (d : Disk) (f : List ℕ → Option File) (es : List Entry) → ((n : List ℕ) → f n ≡ durable_files d n)
     → (n : List ℕ) → left_along Oldest d f es n ≡ durable_files (disk_after d es) n
@@ -100,7 +119,7 @@ along_durable d f (e ∷ es) h n = along_durable (entered d e) (left_entry Oldes
 begun_durable : (d : Disk) (f : List ℕ → Option File) (es : List Entry) → left_along Oldest d f (in_progress es) ≡ f
 begun_durable d f [] = refl
 begun_durable d f (Done call ∷ es) = refl
-begun_durable d f (Failed call ∷ es) = refl
+begun_durable d f (Failed call steps ∷ es) = refl
 
 pub oldest_left : (start : Folder) (calls : List Entry) (k : ℕ) (n : List ℕ)
     → files_left Oldest start calls k n ≡ durable_files (disk_after (at_rest start) (take k calls)) n

@@ -43,7 +43,7 @@ left_unanswered Oldest call reads firm f = refl
 left_unanswered Newest call reads firm f = part_unanswered false call reads firm f
 left_unanswered Garbage call reads firm f = part_unanswered true call reads firm f
 
-entered_unanswered : (d : Disk) (call : Call) → entered d (Failed (unanswered call)) ≡ entered d (Failed call)
+entered_unanswered : (d : Disk) (call : Call) → entered d (Failed (unanswered call) 0) ≡ entered d (Failed call 0)
 entered_unanswered d (image_open name make) = refl
 entered_unanswered d (image_read pos asked answer) = refl
 entered_unanswered d (image_write pos piece) = refl
@@ -77,21 +77,21 @@ left_done kind call d reads firm f was now left r b w e s =
     ∙ ap (with_some (sure_name call d.reads) d.reads.files) (left_here kind call d reads firm f was now r b w e)
 
 pub fails_again : (r : Replay) (d : Disk) (f : List ℕ → Option File) (kind : Left) (l : LoggedCall) → l.failed ≡ true
-    → Replays r (entered d (Failed (call_of l.act))) (left_entry kind d (Failed (call_of l.act)) f)
+    → Replays r (entered d (Failed (call_of l.act) 0)) (left_entry kind d (Failed (call_of l.act) 0) f)
     → Replays r (entered d (entry_of l)) (left_entry kind d (entry_of l) f)
 fails_again r d f kind l is h =
     let call = call_of l.act in
     subst (λ (e : Entry). Replays r (entered d e) (left_entry kind d e f))
-    (sym (ap (λ (b : Bool). if b then Failed (unanswered (call_of l.act)) else Done (call_of l.act)) is))
-    (subst (λ (x : Disk). Replays r x (left_entry kind d (Failed (unanswered call)) f))
+    (sym (ap (λ (b : Bool). if b then Failed (unanswered (call_of l.act)) 0 else Done (call_of l.act)) is))
+    (subst (λ (x : Disk). Replays r x (left_entry kind d (Failed (unanswered call) 0) f))
     (sym (entered_unanswered d call))
-    (subst (Replays r (entered d (Failed call))) (sym (left_unanswered kind call d.reads d.firm f)) h))
+    (subst (Replays r (entered d (Failed call 0))) (sym (left_unanswered kind call d.reads d.firm f)) h))
 
 pub makes_again : (r : Replay) (d : Disk) (f : List ℕ → Option File) (kind : Left) (l : LoggedCall) → l.failed ≡ false
     → Replays r (entered d (Done (call_of l.act))) (left_entry kind d (Done (call_of l.act)) f)
     → Replays r (entered d (entry_of l)) (left_entry kind d (entry_of l) f)
 makes_again r d f kind l is h = subst (λ (e : Entry). Replays r (entered d e) (left_entry kind d e f))
-    (sym (ap (λ (b : Bool). if b then Failed (unanswered (call_of l.act)) else Done (call_of l.act)) is)) h
+    (sym (ap (λ (b : Bool). if b then Failed (unanswered (call_of l.act)) 0 else Done (call_of l.act)) is)) h
 
 -- The calls of a record.
 
@@ -127,7 +127,7 @@ left_more kind s f ls i l lt is = sym (ap (left_along kind s f) (take_more ls i 
     ∙ along-append kind s f (take i (map entry_of ls)) (entry_of l ∷ []))
 
 in_part_left : (kind : Left) (d : Disk) (failed : Bool) (call : Call) (f : List ℕ → Option File)
-    → left_entry kind d (in_part (if failed then Failed (unanswered call) else Done call)) f
+    → left_entry kind d (in_part (if failed then Failed (unanswered call) 0 else Done call)) f
     ≡ left_part kind call d.reads d.firm f
 in_part_left kind d true call f = left_unanswered kind call d.reads d.firm f
 in_part_left kind d false call f = refl

@@ -1,5 +1,5 @@
 -- The record that a log of calls in memory stands for. For contracts and proofs: no promise uses it.
-use Rattle.std.specs.Prelude.{List, map, Some, if◌then◌else◌}
+use Rattle.std.specs.Prelude.{◌≡◌, ◌⊎◌, List, [], ◌∷◌, ◌++◌, map, Some, if◌then◌else◌}
 use Rattle.memory_site.specs.declared.memory.call_log.Act.{Act}
 use Rattle.memory_site.specs.declared.memory.call_log.Act.TheVariants.{ImageOpen, ImageRead, ImageWrite, ImageSync, MapRead, DraftBegin, DraftAppend, DraftSync, DraftPublish, MapSettle, MapRemove}
 use Rattle.memory_site.specs.declared.memory.call_log.LoggedCall.{LoggedCall}
@@ -21,9 +21,14 @@ call_of (DraftPublish name) = draft_publish name.items
 call_of (MapSettle name) = map_settle name.items
 call_of (MapRemove name) = map_remove name.items
 
--- the entry that a logged call stands for: it was done, or it failed and has no answer
+-- the entry that a logged call stands for: it was done, or it failed without any step and has no answer
 abbrev pub entry_of : LoggedCall → Entry
-entry_of l = if l.failed then Failed (unanswered (call_of l.act)) else Done (call_of l.act)
+entry_of l = if l.failed then Failed (unanswered (call_of l.act)) 0 else Done (call_of l.act)
+
+-- The record after a call that failed in memory: the call is listed without any step, or nothing happened for lack of
+-- memory.
+abbrev pub Missed : Call → List Entry → List Entry → Type 0
+Missed call old new = (new ≡ old ++ Failed call 0 ∷ []) ⊎ (new ≡ old)
 
 -- the record that a log holds
 abbrev pub entries_of : CallLog → List Entry

@@ -28,14 +28,14 @@ over false file pos piece = written_file file pos piece
 over true file pos piece =
     written_file file (begins_at file pos) (replicate (pos + length piece - begins_at file pos) any_byte)
 
--- an open makes a file where none reads and none is left, if that is asked
+-- an open makes a file if that is asked, none reads and none is left
 abbrev pub opened_over : (make : Bool) → (reads left : Option File) → Option File
 opened_over true None None = Some empty_file
 opened_over true None (Some f) = Some f
 opened_over true (Some r) left = left
 opened_over false reads left = left
 
--- a write goes to the file that is left, or to a new one where none reads either
+-- a write goes to the file that is left, or to a new one if none reads either
 abbrev pub written_on : (garbage : Bool) → (reads left : Option File) → ℕ → List ℕ → Option File
 written_on garbage None None pos piece = Some (over garbage None pos piece)
 written_on garbage (Some r) None pos piece = None
@@ -94,14 +94,14 @@ sure_name call d = None
 abbrev pub left_entry : Left → Disk → Entry → (files : List ℕ → Option File) → List ℕ → Option File
 left_entry kind d (Done call) files =
     with_some (sure_name call d.reads) d.reads.files (left_part kind call d.reads d.firm files)
-left_entry kind d (Failed call) files = left_part kind call d.reads d.firm files
+left_entry kind d (Failed call steps) files = left_part kind call d.reads d.firm files
 
 -- what the calls of a record leave
 abbrev pub left_along : Left → Disk → (files : List ℕ → Option File) → List Entry → List ℕ → Option File
 left_along kind d files [] = files
 left_along kind d files (e ∷ es) = left_along kind (entered d e) (left_entry kind d e files) es
 
--- The files that a stop of this kind leaves where the first k calls of the record have returned and the next, if there
--- is one, is in progress.
+-- The files that a stop of this kind leaves if the first k calls of the record have returned and the next, if there is
+-- one, is in progress.
 abbrev pub files_left : Left → Folder → List Entry → ℕ → List ℕ → Option File
 files_left kind start calls k = left_along kind (at_rest start) start.files (until k calls)

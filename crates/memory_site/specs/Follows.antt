@@ -4,7 +4,7 @@ use Rattle.std.proofs.Props.{props}
 use Rattle.crash_site.specs.Folder.{Folder}
 
 -- Files read as they were told. An image that is open was told to be, and so was a draft that is begun; either may
--- have been closed since for want of memory.
+-- have been closed since for lack of memory.
 pub record Follows (current told : Folder) : Type 0 where
   pub files : current.files ≡ told.files
   pub image : (n : List ℕ) → current.image ≡ Some n → told.image ≡ Some n

@@ -5,7 +5,7 @@ use Rattle.memory_site.specs.declared.memory.memory_folder.MemoryFolder.{MemoryF
 use Rattle.crash_site.specs.Folder.{Folder}
 use Rattle.memory_site.specs.Places.{files_of}
 
--- the bytes of a name, where there is one
+-- the bytes of a name, if there is one
 abbrev pub name_of : Option (Vec ℕ Global) → Option (List ℕ)
 name_of None = None
 name_of (Some v) = Some v.items

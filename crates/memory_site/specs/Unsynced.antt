@@ -68,7 +68,7 @@ abbrev pub entry_unsynced : Disk → Entry → (files : List ℕ → Option File
     → List (ℕ × ℕ)
 entry_unsynced d (Done call) files unsynced =
     ranges_at (sure_name call d.reads) (λ n. []) (part_unsynced call d.reads d.firm files unsynced)
-entry_unsynced d (Failed call) files unsynced = part_unsynced call d.reads d.firm files unsynced
+entry_unsynced d (Failed call steps) files unsynced = part_unsynced call d.reads d.firm files unsynced
 
 -- the ranges that aren't synced after the calls of a record
 abbrev pub along_unsynced : Disk → (files : List ℕ → Option File) → (List ℕ → List (ℕ × ℕ)) → List Entry → List ℕ
@@ -77,6 +77,6 @@ along_unsynced d files unsynced [] = unsynced
 along_unsynced d files unsynced (e ∷ es) =
     along_unsynced (entered d e) (left_entry Newest d e files) (entry_unsynced d e files unsynced) es
 
--- the ranges that aren't synced of each file where the first k calls have returned and the next is in progress
+-- the ranges that aren't synced of each file if the first k calls have returned and the next is in progress
 abbrev pub unsynced_at : Folder → List Entry → ℕ → List ℕ → List (ℕ × ℕ)
 unsynced_at start calls k = along_unsynced (at_rest start) start.files (λ n. []) (until k calls)

@@ -12,8 +12,8 @@ use Rattle.mapfile_text.proofs.OneReading.{has_one_reading}
 use Rattle.mapfile_text.proofs.OneFault.{map_has_no_fault, has_one_fault}
 use Rattle.mapfile_text.proofs.MapOrFault.{is_map_or_has_fault}
 use Rattle.crash_site.specs.Files.{File}
-use Rattle.crash_site.proofs.LawLemmas.{found_only}
-use Rattle.crash_site.specs.Disk.{Showing}
+use Rattle.crash_site.proofs.LawLemmas.{found_only, found_lasting}
+use Rattle.crash_site.specs.Disk.{Showing, lost_in}
 use Rattle.crash_site.specs.Left.{MayShow}
 use Rattle.save_resume.specs.Resuming.{NoFile, Silent}
 use Rattle.save_resume.specs.Laws.{ReadAsOne, RefusedForOne, ReadIsNotRefused, NoneIsNotRead, NoneSaysNothing, HasAnswer, PendingNothingIsFound}
@@ -111,5 +111,6 @@ has_answer (Some f) mode =
 pub pending_nothing_is_found : PendingNothingIsFound
 pending_nothing_is_found names was now found n l = (
   found_only (was.reads.files names.map) (found names.map) (subst (λ (s : Showing). MayShow s (found names.map)) n.mapfile (l names.map)),
-  λ image is. found_only (was.reads.files image) (found image) (subst (λ (s : Showing). MayShow s (found image)) (n.image image is) (l image)),
+  λ image is apart_map apart. found_lasting (was.reads.files image) (lost_in (was.shows image)) (found image)
+      (subst (λ (s : Showing). MayShow s (found image)) (n.image image is apart_map apart) (l image)),
 )

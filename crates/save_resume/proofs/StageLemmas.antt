@@ -5,11 +5,12 @@ use Rattle.std.proofs.lemmas.Bool.{cases_Bool, cond-true}
 use Rattle.crash_site.specs.Files.{File, bytes_of, empty_file}
 use Rattle.crash_site.specs.Calls.{Done, Failed, image_sync, draft_begin, draft_append, draft_sync, draft_publish, map_settle}
 use Rattle.crash_site.specs.Folder.{Folder, appended}
-use Rattle.crash_site.specs.Disk.{Showing, Disk, only, under, under_some, with_draft, with_text, publishing, after_part, entered}
+use Rattle.crash_site.specs.Disk.{Showing, Disk, synced, lose_all, in_each, only, under, under_some, with_draft, with_text, publishing, after_part, entered}
 use Rattle.crash_site.specs.Left.{MayShow, Leaves}
-use Rattle.crash_site.proofs.DiskLemmas.{same_name}
-use Rattle.crash_site.proofs.LawLemmas.{own_name, at_other, part_other, done_other, same_held, found_only, sure_synced}
-use Rattle.save_resume.specs.MapNames.{MapNames}
+use Rattle.crash_site.proofs.DiskLemmas.{same_name, unsynced_shows}
+use Rattle.crash_site.proofs.NestLemmas.{Nests, Nested, synced_narrows}
+use Rattle.crash_site.proofs.LawLemmas.{own_name, at_other, part_other, done_other, failed_other, same_held, found_only, shows_synced}
+use Rattle.save_resume.specs.MapNames.{MapNames, HasOwnDraft}
 use Rattle.save_resume.specs.SaveStops.{text_file, ImageIsDurable, IsOldOrNew, Old, New}
 
 -- The image is synced, and beside the draft nothing may be shown that couldn't be before.
@@ -73,29 +74,42 @@ moves_on names was now next same_shows same_reads same_image s = record {
   selected = same_image ∙ s.selected;
 }
 
-sync_shows : (b : Bool) (file : Option File) (s : Showing) (f : Option File) → MayShow s file
-    → MayShow (cond b (only file) s) f → MayShow s f
-sync_shows true file s f reads h = subst (λ (x : Option File). MayShow s x) (sym (found_only file f h)) reads
-sync_shows false file s f reads h = h
+sync_shows : (b : Bool) (file : Option File) (s : Showing) (f : Option File) → Nests s → MayShow s file
+    → MayShow (cond b (synced file s) s) f → MayShow s f
+sync_shows true file s f nests reads h = synced_narrows file s f nests reads h
+sync_shows false file s f nests reads h = h
 
-some_sync_shows : (d : Disk) (image : Option (List ℕ)) (n : List ℕ) (f : Option File) → Leaves d d.reads.files
-    → MayShow ((under_some image (λ file s. only file) d).shows n) f → MayShow (d.shows n) f
-some_sync_shows d None n f reads h = h
-some_sync_shows d (Some image) n f reads h = sync_shows (bytes_eq n image) (d.reads.files n) (d.shows n) f (reads n) h
+some_sync_shows : (d : Disk) (image : Option (List ℕ)) (n : List ℕ) (f : Option File) → Nested d
+    → Leaves d d.reads.files → MayShow ((under_some image synced d).shows n) f → MayShow (d.shows n) f
+some_sync_shows d None n f nested reads h = h
+some_sync_shows d (Some image) n f nested reads h =
+    sync_shows (bytes_eq n image) (d.reads.files n) (d.shows n) f (nested n) (reads n) h
 
-pub image_synced : (names : MapNames) (was : Disk) → Leaves was was.reads.files → Synced names was (entered was (Done image_sync))
-image_synced names was reads = record {
-  shows = λ n f apart h. some_sync_shows was was.reads.image n f reads h;
-  image = λ image is apart_map apart. sure_synced was was.reads.image image is;
+unsync_shows : (b : Bool) (s : Showing) (f : Option File) → MayShow (cond b (in_each lose_all s) s) f → MayShow s f
+unsync_shows true s f h = unsynced_shows s f h
+unsync_shows false s f h = h
+
+-- a sync that failed shows nothing more
+pub some_unsync_shows : (d : Disk) (image : Option (List ℕ)) (n : List ℕ) (f : Option File)
+    → MayShow ((under_some image (λ file s. in_each lose_all s) d).shows n) f → MayShow (d.shows n) f
+some_unsync_shows d None n f h = h
+some_unsync_shows d (Some image) n f h = unsync_shows (bytes_eq n image) (d.shows n) f h
+
+pub image_synced : (names : MapNames) (was : Disk) → Nested was → Leaves was was.reads.files
+    → Synced names was (entered was (Done image_sync))
+image_synced names was nested reads = record {
+  shows = λ n f apart h. some_sync_shows was was.reads.image n f nested reads h;
+  image = λ image is apart_map apart. shows_synced was was.reads.image image is;
   reads = λ n apart. refl;
   selected = refl;
 }
 
-pub begun_in_part : (names : MapNames) (was now : Disk) → Synced names was now
-    → Synced names was (entered now (Failed (draft_begin names.draft)))
-begun_in_part names was now s =
-    moves_on names was now (entered now (Failed (draft_begin names.draft)))
-    (λ n apart. part_other now (draft_begin names.draft) n apart) (λ n apart. refl) refl s
+pub begun_in_part : (names : MapNames) (steps : ℕ) (was now : Disk) → Synced names was now
+    → Synced names was (entered now (Failed (draft_begin names.draft) steps))
+begun_in_part names steps was now s =
+    moves_on names was now (entered now (Failed (draft_begin names.draft) steps))
+    (λ n apart. part_other now (draft_begin names.draft) n apart)
+    (λ n apart. failed_other now.reads (draft_begin names.draft) steps n apart) refl s
 
 pub draft_begun : (names : MapNames) (was now : Disk) → Synced names was now
     → Drafting names [] was (entered now (Done (draft_begin names.draft)))
@@ -112,11 +126,14 @@ is_the_draft : (now : Disk) (names : MapNames) (n : List ℕ) → now.reads.draf
     → now.reads.draft ≡ Some n → ⊥
 is_the_draft now names n is apart e = apart (let same : Some n ≡ Some names.draft = sym e ∙ is in cc)
 
-pub appended_in_part : (names : MapNames) (text piece : List ℕ) (was now : Disk) → Drafting names text was now
-    → Synced names was (entered now (Failed (draft_append piece)))
-appended_in_part names text piece was now d =
-    moves_on names was now (entered now (Failed (draft_append piece)))
-    (λ n apart. part_other now (draft_append piece) n (is_the_draft now names n d.draft apart)) (λ n apart. refl) refl d.synced
+pub appended_in_part : (names : MapNames) (text piece : List ℕ) (steps : ℕ) (was now : Disk)
+    → Drafting names text was now
+    → Synced names was (entered now (Failed (draft_append piece) steps))
+appended_in_part names text piece steps was now d =
+    moves_on names was now (entered now (Failed (draft_append piece) steps))
+    (λ n apart. part_other now (draft_append piece) n (is_the_draft now names n d.draft apart))
+    (λ n apart. failed_other now.reads (draft_append piece) steps n (is_the_draft now names n d.draft apart)) refl
+    d.synced
 
 pub appended_draft : (r : Folder) (o : Option (List ℕ)) (piece : List ℕ) → (appended r o piece).draft ≡ r.draft
 appended_draft r None piece = refl
@@ -198,30 +215,46 @@ published_in_part names text was now d firm = record {
       ∙ d.synced.image image is apart_map apart;
 }
 
-pub reshown : (names : MapNames) (text : List ℕ) (was now next : Disk) → ((n : List ℕ) → next.shows n ≡ now.shows n)
-    → ShowsNew names text was now → ShowsNew names text was next
+pub reshown : (names : MapNames) (text : List ℕ) (was now next : Disk)
+    → ((n : List ℕ) → n ≢ names.draft → next.shows n ≡ now.shows n) → ShowsNew names text was now
+    → ShowsNew names text was next
 reshown names text was now next same p = record {
-  here = λ f apart h. p.here f apart (subst (λ (s : Showing). MayShow s f) (same names.map) h);
-  shows = λ n f apart_map apart h. p.shows n f apart_map apart (subst (λ (s : Showing). MayShow s f) (same n) h);
-  image = λ image is apart_map apart. same image ∙ p.image image is apart_map apart;
+  here = λ f apart h. p.here f apart (subst (λ (s : Showing). MayShow s f) (same names.map apart) h);
+  shows = λ n f apart_map apart h. p.shows n f apart_map apart (subst (λ (s : Showing). MayShow s f) (same n apart) h);
+  image = λ image is apart_map apart. same image apart ∙ p.image image is apart_map apart;
 }
 
 pub settled_shows : (now : Disk) (name : List ℕ) (file : Option File) → now.reads.files name ≡ file
     → (entered now (Done (map_settle name))).shows name ≡ only file
 settled_shows now name file is =
-    cond-true (bytes_eq name name) (only (now.reads.files name)) (now.shows name) (own_name name)
+    cond-true (bytes_eq name name) (only (now.reads.files name)) ((after_part (map_settle name) now).shows name)
+    (own_name name)
     ∙ ap (λ (o : Option File). only o) is
 
+-- a settle looks at the draft's name, and changes nothing under others before it returns
+pub looked_other : (names : MapNames) (now : Disk) (n : List ℕ) → HasOwnDraft names → n ≢ names.draft
+    → (after_part (map_settle names.map) now).shows n ≡ now.shows n
+looked_other names now n own apart = part_other now (map_settle names.map) n (λ e. apart (e ∙ sym own))
+
+settled_other : (names : MapNames) (now : Disk) (n : List ℕ) → HasOwnDraft names → n ≢ names.map → n ≢ names.draft
+    → (entered now (Done (map_settle names.map))).shows n ≡ now.shows n
+settled_other names now n own apart_map apart =
+    at_other (after_part (map_settle names.map) now) names.map n (λ file s. only file) apart_map
+    ∙ looked_other names now n own apart
+
 -- what was published and then settled
-pub settled : (names : MapNames) (text : List ℕ) (was now : Disk) → now.reads.files names.map ≡ Some (text_file text)
-    → ShowsNew names text was now → ShowsNew names text was (entered now (Done (map_settle names.map)))
-settled names text was now reads p = record {
+pub settled : (names : MapNames) (text : List ℕ) (was now : Disk) → HasOwnDraft names
+    → now.reads.files names.map ≡ Some (text_file text) → ShowsNew names text was now
+    → ShowsNew names text was (entered now (Done (map_settle names.map)))
+settled names text was now own reads p = record {
   here = λ f apart h.
       let file : Option File = Some (text_file text) in
       let sure : (entered now (Done (map_settle names.map))).shows names.map ≡ only file = settled_shows now names.map file reads in
       let same : f ≡ file = found_only file f (subst (λ (s : Showing). MayShow s f) sure h) in
       inr same;
   shows = λ n f apart_map apart h.
-      p.shows n f apart_map apart (subst (λ (s : Showing). MayShow s f) (at_other now names.map n (λ file s. only file) apart_map) h);
-  image = λ image is apart_map apart. at_other now names.map image (λ file s. only file) apart_map ∙ p.image image is apart_map apart;
+      p.shows n f apart_map apart (subst (λ (s : Showing). MayShow s f)
+      (settled_other names now n own apart_map apart) h);
+  image = λ image is apart_map apart.
+      settled_other names now image own apart_map apart ∙ p.image image is apart_map apart;
 }

@@ -12,14 +12,15 @@ use Rattle.crash_site.specs.Along.{AlongCalls}
 use Rattle.crash_site.specs.SiteState.{SiteState}
 use Rattle.crash_site.proofs.DiskLemmas.{reads_run, rest_sound, run-append}
 use Rattle.crash_site.proofs.LawLemmas.{own_name, put_other, done_other, moved_own}
+use Rattle.crash_site.proofs.NestLemmas.{Nested, nested_run, nested_rest}
 use Rattle.crash_site.proofs.AlongLemmas.{WentOn, made_goes, broke_goes, stop_past}
 use Rattle.mapfile_text.specs.Pieces.{pieces_of}
 use Rattle.mapfile_text.proofs.PieceLemmas.{in_pieces}
 use Rattle.save_resume.specs.declared.draft.SaveFault.{SaveFault}
-use Rattle.save_resume.specs.MapNames.{MapNames}
+use Rattle.save_resume.specs.MapNames.{MapNames, HasOwnDraft}
 use Rattle.save_resume.specs.Saving.{publish_calls, save_calls, Saves}
 use Rattle.save_resume.specs.SaveStops.{disk_of, text_file, IsOldOrNew, Old, StopsInSave, IsSaved}
-use Rattle.save_resume.proofs.StageLemmas.{Drafting, ShowsNew, IsSafe, synced_safe, published_safe, image_synced, begun_in_part, draft_begun, appended_in_part, appended_more, firm_kept, published_in_part, moves_on, reshown, settled, settled_shows, is_other}
+use Rattle.save_resume.proofs.StageLemmas.{Drafting, ShowsNew, IsSafe, synced_safe, published_safe, image_synced, some_unsync_shows, begun_in_part, draft_begun, appended_in_part, appended_more, firm_kept, published_in_part, moves_on, reshown, looked_other, settled, settled_shows, is_other}
 
 -- and leaves none under the draft's
 moved_draft : (r : Folder) (o : Option (List ℕ)) (draft name : List ℕ) → o ≡ Some draft → draft ≢ name → (moved r o name).files draft ≡ None
@@ -50,7 +51,7 @@ pub record AfterPublish (names : MapNames) (text : List ℕ) (was now : Disk) : 
 was_moved : (names : MapNames) (text : List ℕ) (was now : Disk) → Drafting names text was now → now.firm ≡ true
     → AfterPublish names text was (entered now (Done (draft_publish names.map)))
 was_moved names text was now d firm = record {
-  published = reshown names text was _ (entered now (Done (draft_publish names.map))) (λ n. refl)
+  published = reshown names text was _ (entered now (Done (draft_publish names.map))) (λ n apart. refl)
       (published_in_part names text was now d firm);
   map = moved_own now.reads now.reads.draft names.draft names.map d.draft ∙ d.holds;
   draft = λ apart. moved_draft now.reads now.reads.draft names.draft names.map d.draft apart;
@@ -60,104 +61,115 @@ was_moved names text was now d firm = record {
   none_begun = moved_none now.reads now.reads.draft names.draft names.map d.draft;
 }
 
-along_publish : (names : MapNames) (text : List ℕ) (was now : Disk) → Drafting names text was now → now.firm ≡ true
-    → AlongCalls (IsSafe names text was) now (publish_calls names)
-along_publish names text was now d firm =
+along_publish : (names : MapNames) (text : List ℕ) (was now : Disk) → HasOwnDraft names → Drafting names text was now
+    → now.firm ≡ true → AlongCalls (IsSafe names text was) now (publish_calls names)
+along_publish names text was now own d firm =
     let m = was_moved names text was now d firm in
     let p : Disk = entered now (Done (draft_publish names.map)) in (
       synced_safe names text was now d.synced,
-      published_safe names text was _
-          (reshown names text was _ (entered now (Failed (draft_publish names.map))) (λ n. refl) (published_in_part names text was now d firm)),
+      (λ steps. published_safe names text was _
+          (reshown names text was _ (entered now (Failed (draft_publish names.map) steps)) (λ n apart. refl)
+          (published_in_part names text was now d firm))),
       (
         published_safe names text was p m.published,
-        published_safe names text was _ (reshown names text was p (entered p (Failed (map_settle names.map))) (λ n. refl) m.published),
-        published_safe names text was _ (settled names text was p m.map m.published),
+        (λ steps. published_safe names text was _
+            (reshown names text was p (entered p (Failed (map_settle names.map) steps))
+            (λ n apart. looked_other names p n own apart) m.published)),
+        published_safe names text was _ (settled names text was p own m.map m.published),
       ),
     )
 
-along_firm : (names : MapNames) (text : List ℕ) (was now : Disk) → Drafting names text was now
+along_firm : (names : MapNames) (text : List ℕ) (was now : Disk) → HasOwnDraft names → Drafting names text was now
     → AlongCalls (IsSafe names text was) now (draft_sync ∷ publish_calls names)
-along_firm names text was now d = (
+along_firm names text was now own d = (
   synced_safe names text was now d.synced,
-  synced_safe names text was _
-      (moves_on names was now (entered now (Failed draft_sync)) (λ n apart. refl) (λ n apart. refl) refl d.synced),
-  along_publish names text was (entered now (Done draft_sync)) (firm_kept names text was now d) refl,
+  (λ steps. synced_safe names text was _
+      (moves_on names was now (entered now (Failed draft_sync steps)) (λ n apart. refl)
+      (λ n apart. refl) refl d.synced)),
+  along_publish names text was (entered now (Done draft_sync)) own (firm_kept names text was now d) refl,
 )
 
 -- a text so far and the pieces that are left
 along_fill : (names : MapNames) (text so_far : List ℕ) (was now : Disk) (ps : List (List ℕ))
-    → so_far ++ concat ps ≡ text → Drafting names so_far was now
+    → HasOwnDraft names → so_far ++ concat ps ≡ text → Drafting names so_far was now
     → AlongCalls (IsSafe names text was) now (map draft_append ps ++ draft_sync ∷ publish_calls names)
-along_fill names text so_far was now [] e d =
-    along_firm names text was now (subst (λ (t : List ℕ). Drafting names t was now) (sym (append-nil so_far) ∙ e) d)
-along_fill names text so_far was now (p ∷ ps) e d = (
+along_fill names text so_far was now [] own e d =
+    along_firm names text was now own (subst (λ (t : List ℕ). Drafting names t was now) (sym (append-nil so_far) ∙ e) d)
+along_fill names text so_far was now (p ∷ ps) own e d = (
   synced_safe names text was now d.synced,
-  synced_safe names text was _ (appended_in_part names so_far p was now d),
-  along_fill names text (so_far ++ p) was (entered now (Done (draft_append p))) ps (append_assoc so_far p (concat ps) ∙ e)
+  (λ steps. synced_safe names text was _ (appended_in_part names so_far p steps was now d)),
+  along_fill names text (so_far ++ p) was (entered now (Done (draft_append p))) ps own
+      (append_assoc so_far p (concat ps) ∙ e)
       (appended_more names so_far p was now d),
 )
 
-along_save : (names : MapNames) (text : List ℕ) (was : Disk) → Leaves was was.reads.files
+along_save : (names : MapNames) (text : List ℕ) (was : Disk) → HasOwnDraft names → Nested was
+    → Leaves was was.reads.files
     → AlongCalls (IsSafe names text was) was (save_calls names text)
-along_save names text was reads =
-    let s = image_synced names was reads in
+along_save names text was own nested reads =
+    let s = image_synced names was nested reads in
     let d : Disk = entered was (Done image_sync) in (
       (λ name f apart h. Old h),
-      (λ name f apart h. Old h),
+      (λ steps name f apart h. Old (some_unsync_shows was was.reads.image name f h)),
       (
         synced_safe names text was d s,
-        synced_safe names text was _ (begun_in_part names was d s),
-        along_fill names text [] was (entered d (Done (draft_begin names.draft))) (pieces_of text) (in_pieces text).together
+        (λ steps. synced_safe names text was _ (begun_in_part names steps was d s)),
+        along_fill names text [] was (entered d (Done (draft_begin names.draft))) (pieces_of text) own
+            (in_pieces text).together
             (draft_begun names was d s),
       ),
     )
 
-settled_saved : (names : MapNames) (text : List ℕ) (was now : Disk) → Drafting names text was now → now.firm ≡ true
-    → IsSaved names text was (disk_after now (map Done (publish_calls names)))
-settled_saved names text was now d firm =
+settled_saved : (names : MapNames) (text : List ℕ) (was now : Disk) → HasOwnDraft names → Drafting names text was now
+    → now.firm ≡ true → IsSaved names text was (disk_after now (map Done (publish_calls names)))
+settled_saved names text was now own d firm =
     let m = was_moved names text was now d firm in
     let p : Disk = entered now (Done (draft_publish names.map)) in
     record {
       map_sure = settled_shows p names.map (Some (text_file text)) m.map;
       map_reads = m.map;
-      image = (settled names text was p m.map m.published).image;
+      image = (settled names text was p own m.map m.published).image;
       no_draft = m.draft;
       others = m.others;
       still_open = m.still_open;
       none_begun = m.none_begun;
-      no_wider = λ n f apart_map apart h. (settled names text was p m.map m.published).shows n f apart_map apart h;
+      no_wider = λ n f apart_map apart h. (settled names text was p own m.map m.published).shows n f apart_map apart h;
     }
 
 filled_saved : (names : MapNames) (text so_far : List ℕ) (was now : Disk) (ps : List (List ℕ))
-    → so_far ++ concat ps ≡ text → Drafting names so_far was now
+    → HasOwnDraft names → so_far ++ concat ps ≡ text → Drafting names so_far was now
     → IsSaved names text was (disk_after now (map Done (map draft_append ps ++ draft_sync ∷ publish_calls names)))
-filled_saved names text so_far was now [] e d =
-    settled_saved names text was (entered now (Done draft_sync))
+filled_saved names text so_far was now [] own e d =
+    settled_saved names text was (entered now (Done draft_sync)) own
     (firm_kept names text was now (subst (λ (t : List ℕ). Drafting names t was now) (sym (append-nil so_far) ∙ e) d)) refl
-filled_saved names text so_far was now (p ∷ ps) e d =
-    filled_saved names text (so_far ++ p) was (entered now (Done (draft_append p))) ps (append_assoc so_far p (concat ps) ∙ e)
+filled_saved names text so_far was now (p ∷ ps) own e d =
+    filled_saved names text (so_far ++ p) was (entered now (Done (draft_append p))) ps own
+    (append_assoc so_far p (concat ps) ∙ e)
     (appended_more names so_far p was now d)
 
-all_saved : (names : MapNames) (text : List ℕ) (was : Disk) → Leaves was was.reads.files
+all_saved : (names : MapNames) (text : List ℕ) (was : Disk) → HasOwnDraft names → Nested was
+    → Leaves was was.reads.files
     → IsSaved names text was (disk_after was (map Done (save_calls names text)))
-all_saved names text was reads =
+all_saved names text was own nested reads =
     let d : Disk = entered was (Done image_sync) in
-    filled_saved names text [] was (entered d (Done (draft_begin names.draft))) (pieces_of text) (in_pieces text).together
-    (draft_begun names was d (image_synced names was reads))
+    filled_saved names text [] was (entered d (Done (draft_begin names.draft))) (pieces_of text) own
+    (in_pieces text).together
+    (draft_begun names was d (image_synced names was nested reads))
 
 -- what reads is one outcome
 reads_sound : (start : Folder) (calls : List Entry)
     → Leaves (disk_after (at_rest start) calls) (disk_after (at_rest start) calls).reads.files
 reads_sound start calls = reads_run (at_rest start) calls (rest_sound start)
 
-stops_along : (names : MapNames) (text : List ℕ) (start start' : Folder) (old new : List Entry) → start' ≡ start
-    → WentOn (save_calls names text) old new
+stops_along : (names : MapNames) (text : List ℕ) (start start' : Folder) (old new : List Entry) → HasOwnDraft names
+    → start' ≡ start → WentOn (save_calls names text) old new
     → (k : ℕ) (found : List ℕ → Option File) → length old ≤ k → MayBeLeft start' new k found → (name : List ℕ) → name ≢ names.draft
     → IsOldOrNew names text (disk_after (at_rest start) old) (disk_after (at_rest start') (until k new)) name (found name)
-stops_along names text start start' old new same went k found le left name apart =
+stops_along names text start start' old new own same went k found le left name apart =
     let was : Disk = disk_after (at_rest start) old in
     let safe : IsSafe names text was (disk_after (at_rest start) (until k new)) =
-    stop_past (IsSafe names text was) start (save_calls names text) old new k le went (along_save names text was (reads_sound start old))
+    stop_past (IsSafe names text was) start (save_calls names text) old new k le went (along_save names text was own
+    (nested_run (at_rest start) old (nested_rest start)) (reads_sound start old))
     in
     subst
     (λ (s : Folder). MayBeLeft s new k found → IsOldOrNew names text was (disk_after (at_rest s) (until k new)) name (found name))
@@ -171,24 +183,27 @@ goes_on names text (Ok x) old new tells s = made_goes (save_calls names text) ol
 goes_on names text (Err e) old new tells s = broke_goes e.call (save_calls names text) old.calls new.calls (s.broke.broke tells)
 
 pub stops_in_save : {T : Type 0} (names : MapNames) (text : List ℕ) (result : Result T SaveFault) (old new : SiteState) → IsTrue old.tells
-    → Saves (save_calls names text) false result old new → StopsInSave names text old new
-stops_in_save names text result old new tells s =
+    → HasOwnDraft names → Saves (save_calls names text) false result old new → StopsInSave names text old new
+stops_in_save names text result old new tells own s =
     λ k found le most left name apart.
-    stops_along names text old.start new.start old.calls new.calls (s.keeps.start tells)
+    stops_along names text old.start new.start old.calls new.calls own (s.keeps.start tells)
     (goes_on names text result old new tells s) k found le left name apart
 
 is_saved : {T : Type 0} (names : MapNames) (text : List ℕ) (x : T) (old new : SiteState) → IsTrue old.tells
-    → Saves (save_calls names text) false (Ok x) old new → IsSaved names text (disk_of old) (disk_of new)
-is_saved names text x old new tells s =
+    → HasOwnDraft names → Saves (save_calls names text) false (Ok x) old new
+    → IsSaved names text (disk_of old) (disk_of new)
+is_saved names text x old new tells own s =
     let same : disk_of new ≡ disk_after (disk_of old) (map Done (save_calls names text)) =
     ap (λ (f : Folder). disk_after (at_rest f) new.calls) (s.keeps.start tells)
     ∙ ap (disk_after (at_rest old.start)) (s.made.made tells)
     ∙ run-append (at_rest old.start) old.calls (map Done (save_calls names text))
     in
     subst (λ (d : Disk). IsSaved names text (disk_of old) d) (sym same)
-    (all_saved names text (disk_of old) (reads_sound old.start old.calls))
+    (all_saved names text (disk_of old) own (nested_run (at_rest old.start) old.calls (nested_rest old.start))
+    (reads_sound old.start old.calls))
 
 pub saved_where_ok : {T : Type 0} (names : MapNames) (text : List ℕ) (result : Result T SaveFault) (old new : SiteState)
-    → Saves (save_calls names text) false result old new → OnOk result (IsTrue old.tells → IsSaved names text (disk_of old) (disk_of new))
-saved_where_ok names text (Ok x) old new s = λ tells. is_saved names text x old new tells s
+    → Saves (save_calls names text) false result old new
+    → OnOk result (IsTrue old.tells → HasOwnDraft names → IsSaved names text (disk_of old) (disk_of new))
+saved_where_ok names text (Ok x) old new s = λ tells own. is_saved names text x old new tells own s
 saved_where_ok names text (Err e) old new s = tt

@@ -1,13 +1,13 @@
--- What is known of a mapfile's answers, and of what a stop finds where nothing is pending.
+-- What is known of a mapfile's answers, and of what a stop finds if nothing is pending.
 use Rattle.std.specs.Prelude.{◌≡◌, ◌≢◌, ◌⊎◌, ℕ, List, Option, Some}
 use Rattle.mapfile_text.specs.declared.read.Mode.{Mode}
 use Rattle.mapfile_text.specs.declared.read.ReadMap.{ReadMap}
 use Rattle.mapfile_text.specs.declared.read.MapError.{MapError}
 use Rattle.mapfile_text.specs.declared.read.MapError.TheVariants.{NoStatusLine}
 use Rattle.mapfile_text.specs.Laws.{SameReading}
-use Rattle.crash_site.specs.Files.{File}
-use Rattle.crash_site.specs.Disk.{Disk}
-use Rattle.crash_site.specs.Left.{Leaves}
+use Rattle.crash_site.specs.Files.{File, draft_of}
+use Rattle.crash_site.specs.Disk.{Disk, lost_in}
+use Rattle.crash_site.specs.Left.{MatchesFile, Leaves}
 use Rattle.save_resume.specs.MapNames.{MapNames}
 use Rattle.save_resume.specs.Resuming.{IsReadAs, IsRefusedFor, IsLikeNone, NothingPending}
 
@@ -30,7 +30,7 @@ ReadIsNotRefused = (file : Option File) (mode : Mode) (m : ReadMap) (e : MapErro
 abbrev pub NoneIsNotRead : Type 0
 NoneIsNotRead = (file : Option File) (mode : Mode) (m : ReadMap) → IsLikeNone file → IsReadAs file mode m → ⊥
 
--- A mapfile that is like none is refused only for want of a status line.
+-- A mapfile that is like none is refused only for lack of a status line.
 abbrev pub NoneSaysNothing : Type 0
 NoneSaysNothing = (file : Option File) (mode : Mode) (e : MapError)
     → IsLikeNone file → IsRefusedFor file mode e → e ≡ NoStatusLine
@@ -41,9 +41,10 @@ HasAnswer = (file : Option File) (mode : Mode)
     → IsLikeNone file ⊎ ((m : ReadMap) × IsReadAs file mode m)
     ⊎ ((e : MapError) × (e ≢ NoStatusLine) × IsRefusedFor file mode e)
 
--- Where nothing is pending, each stop finds the mapfile and the open image as they read.
+-- If nothing is pending, each stop finds the mapfile as it read, and the open image except where it was lost.
 abbrev pub PendingNothingIsFound : Type 0
 PendingNothingIsFound = (names : MapNames) (was now : Disk) (found : List ℕ → Option File)
     → NothingPending names was now → Leaves now found
     → (found names.map ≡ was.reads.files names.map)
-    × ((image : List ℕ) → was.reads.image ≡ Some image → found image ≡ was.reads.files image)
+    × ((image : List ℕ) → was.reads.image ≡ Some image → image ≢ names.map → image ≢ draft_of names.map
+    → MatchesFile (was.reads.files image) (lost_in (was.shows image)) (found image))

@@ -1,5 +1,6 @@
 -- The names of a mapfile and of its draft.
-use Rattle.std.specs.Prelude.{ℕ, List, ◌++◌, codes}
+use Rattle.std.specs.Prelude.{◌≡◌, ℕ, List}
+use Rattle.crash_site.specs.Files.{draft_of}
 
 -- the names of a mapfile and of its draft, as bytes
 pub record MapNames : Type 0 where
@@ -8,4 +9,8 @@ pub record MapNames : Type 0 where
 
 -- the draft is in the mapfile's folder: its name is the mapfile's, followed by `.tmp`
 abbrev pub names_of : List ℕ → MapNames
-names_of map = record { map = map; draft = map ++ codes ".tmp" }
+names_of map = record { map = map; draft = draft_of map }
+
+-- the draft has the name at which a settle of the mapfile looks
+abbrev pub HasOwnDraft : MapNames → Type 0
+HasOwnDraft names = names.draft ≡ draft_of names.map

@@ -17,7 +17,7 @@ use Rattle.save_resume.specs.declared.named.NamedFault.{NamedFault}
 use Rattle.save_resume.specs.declared.named.NamedFault.TheVariants.{ReadFailed, Absent, Refused, NoMemory}
 use Rattle.save_resume.specs.Resuming.{IsReadAs, IsRefusedFor, LoadEnded, StarvedInLoad, BrokeInLoad}
 
--- how such a map is read: where that is asked for it may have gaps, which aren't finished
+-- how such a map is read: if that is asked for it may have gaps, which aren't finished
 abbrev pub map_mode : (loose : Bool) → Mode
 map_mode loose = if loose then Loose NonTried else Tight
 
@@ -39,8 +39,8 @@ named_of (Err (Site call)) = Err ReadFailed
 named_of (Err (Fault e)) = Err (Refused e)
 named_of (Err Starving) = Err NoMemory
 
--- What the load of a named map answers of its file, and its calls: absent only where there is no such file, and refused
--- for what is wrong with its text. A text that says nothing is refused too, for want of a status line.
+-- What the load of a named map answers of its file, and its calls: absent only if there is no such file, and refused
+-- for what is wrong with its text. A text that says nothing is refused too, for lack of a status line.
 abbrev pub LoadsNamed : List ℕ → Mode → Option File → Result ReadMap NamedFault → List Entry → List Entry → Type 0
 LoadsNamed name mode file (Ok m) calls calls' = IsReadAs file mode m × LoadEnded [] name file calls calls'
 LoadsNamed name mode file (Err ReadFailed) calls calls' = BrokeInLoad [] name file calls calls'
@@ -57,8 +57,8 @@ IsNamedAs mode (Err Absent) file = file ≡ None
 IsNamedAs mode (Err (Refused e)) file = IsRefusedFor file mode e
 IsNamedAs mode (Err NoMemory) file = ⊤
 
--- The count of faults by what was answered: it rose by one exactly where a read failed. Want of memory is never told as
--- an error of the text.
+-- The count of faults by what was answered: it rose by one exactly when a read failed. Lack of memory is never reported
+-- as an error of the text.
 abbrev pub NamedCounts : Result ReadMap NamedFault → (faults faults' : ℕ) → Type 0
 NamedCounts (Ok m) faults faults' = faults' ≡ faults
 NamedCounts (Err ReadFailed) faults faults' = Rose faults faults'

@@ -10,10 +10,10 @@ use Rattle.mapfile_text.specs.MapText.{text_limit, IsMapText, Blank}
 use Rattle.mapfile_text.specs.Checking.{IsRefused}
 use Rattle.crash_site.specs.declared.site.SiteCall.{SiteCall}
 use Rattle.crash_site.specs.declared.site.SiteCall.TheVariants.{ImageSync, MapRead, MapSettle}
-use Rattle.crash_site.specs.Files.{File}
+use Rattle.crash_site.specs.Files.{File, draft_of}
 use Rattle.crash_site.specs.Calls.{Call, Entry, image_sync, map_settle}
 use Rattle.crash_site.specs.CallsMade.{Made, BrokeAt}
-use Rattle.crash_site.specs.Disk.{Disk, only}
+use Rattle.crash_site.specs.Disk.{Disk, only, synced}
 use Rattle.crash_site.specs.SiteState.{SiteState}
 use Rattle.save_resume.specs.declared.load.ResumeFault.{ResumeFault}
 use Rattle.save_resume.specs.declared.load.ResumeFault.TheVariants.{Site, Map as Refused, NoMemory}
@@ -104,8 +104,8 @@ Resumes names file (Err NoMemory) calls calls' = StarvedInLoad (barrier_calls na
 abbrev pub IsResumeCall : SiteCall → Type 0
 IsResumeCall call = (call ≡ MapSettle) ⊎ (call ≡ ImageSync) ⊎ (call ≡ MapRead)
 
--- The count of faults by why there is no answer: it rose by one exactly where a call failed, which is one of a resume.
--- Want of memory is never told as an error of the text.
+-- The count of faults by why there is no answer: it rose by one exactly when a call failed, which is one of a resume.
+-- Lack of memory is never reported as an error of the text.
 abbrev pub FaultCounts : ResumeFault → (faults faults' : ℕ) → Type 0
 FaultCounts (Site call) faults faults' = IsResumeCall call × Rose faults faults'
 FaultCounts (Refused e) faults faults' = (faults' ≡ faults) × (e ≢ OutOfMemory)
@@ -127,10 +127,12 @@ ResumedWithinLimits (Ok Fresh) = ⊤
 ResumedWithinLimits (Ok (Map m)) = IsWithinLimits m
 ResumedWithinLimits (Err e) = ⊤
 
--- After the barrier nothing is pending: each stop from here on finds the mapfile and the open image as they read.
+-- After the barrier nothing is pending: each stop from here on finds the mapfile as it reads, and the open image too,
+-- except where it was lost. (Its name is not the mapfile's nor that of the mapfile's draft.)
 pub record NothingPending (names : MapNames) (was now : Disk) : Type 0 where
   pub mapfile : now.shows names.map ≡ only (was.reads.files names.map)
-  pub image : (image : List ℕ) → was.reads.image ≡ Some image → now.shows image ≡ only (was.reads.files image)
+  pub image : (image : List ℕ) → was.reads.image ≡ Some image → image ≢ names.map → image ≢ draft_of names.map
+      → now.shows image ≡ synced (was.reads.files image) (was.shows image)
   pub reads : now.reads ≡ was.reads
 
 -- after a resume nothing is pending, if no call of the barrier failed
@@ -140,7 +142,7 @@ SettlesAll names (Err (Site call)) old new = call ≡ MapRead → NothingPending
 SettlesAll names (Err (Refused e)) old new = NothingPending names (disk_of old) (disk_of new)
 SettlesAll names (Err NoMemory) old new = NothingPending names (disk_of old) (disk_of new)
 
--- What is answered of a file: there is one of which it holds, which is the site's own where the site tells.
+-- What is answered of a file: there is one of which it holds, which is the site's own if the site tells.
 pub record IsOfFile (own : Option File) (tells : Bool) (Holds : Option File → Type 0) : Type 0 where
   pub file : Option File
   pub is_own : IsTrue tells → file ≡ own

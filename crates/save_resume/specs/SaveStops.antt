@@ -1,10 +1,10 @@
 -- What a stop within a save may leave.
 use Rattle.std.specs.Prelude.{◌≡◌, ◌≢◌, true, ℕ, ◌+◌, ◌≤◌, List, ◌++◌, length, Option, Some, None}
-use Rattle.crash_site.specs.Files.{File}
+use Rattle.crash_site.specs.Files.{File, empty_file}
 use Rattle.crash_site.specs.Calls.{Entry}
-use Rattle.crash_site.specs.Disk.{Disk, at_rest, only, disk_after}
+use Rattle.crash_site.specs.Disk.{Disk, at_rest, only, synced, disk_after}
 use Rattle.crash_site.specs.Left.{MayShow, until, MayBeLeft}
-use Rattle.crash_site.specs.SiteState.{SiteState}
+use Rattle.crash_site.specs.SiteState.{SiteState, files_in}
 use Rattle.save_resume.specs.MapNames.{MapNames}
 
 -- the disk that the calls of a site have made
@@ -15,12 +15,12 @@ disk_of s = disk_after (at_rest s.start) s.calls
 abbrev pub text_file : List ℕ → File
 text_file text = record { bytes = text; regular = true }
 
--- The open image is durable as it read, and nothing else may be found in its place. (Its name is not the mapfile's nor
--- the draft's.)
+-- The open image is durable as it read, except where it was lost, and nothing else may be found in its place. (Its name
+-- is not the mapfile's nor the draft's.)
 abbrev pub ImageIsDurable : MapNames → (was now : Disk) → Type 0
 ImageIsDurable names was now =
     (image : List ℕ) → was.reads.image ≡ Some image → image ≢ names.map → image ≢ names.draft
-    → now.shows image ≡ only (was.reads.files image)
+    → now.shows image ≡ synced (was.reads.files image) (was.shows image)
 
 -- What is found under a name could be found before, or it is the new text under the mapfile's name, and then the image
 -- is durable as it read when the save began.
@@ -55,6 +55,10 @@ pub record IsSaved (names : MapNames) (text : List ℕ) (was now : Disk) : Type 
 -- after the site's calls and the first k of these, a stop before the next one or within it may leave these files
 abbrev pub LeftAt : SiteState → List Entry → ℕ → (List ℕ → Option File) → Type 0
 LeftAt site calls k files = MayBeLeft site.start (site.calls ++ calls) (length site.calls + k) files
+
+-- a draft that was absent after a site's calls is found empty: a settle of its mapfile may have made it
+abbrev pub IsEmptyDraft : SiteState → (draft name : List ℕ) → (found : Option File) → Type 0
+IsEmptyDraft site draft name found = (name ≡ draft) × (files_in site name ≡ None) × (found ≡ Some empty_file)
 
 -- a stop after a site's calls, before any further one, could leave this under a name
 abbrev pub CouldBefore : SiteState → (name : List ℕ) → (found : Option File) → Type 0

@@ -11,7 +11,7 @@ pub fn mapfile_is_refused_for_one_error()
     ensures { RefusedForOne }
 {}
 
-/// A mapfile that is read as a map isn't refused, and neither is one that is like none, except for want of a status
+/// A mapfile that is read as a map isn't refused, and neither is one that is like none, except for lack of a status
 /// line.
 pub fn answers_exclude_each_other()
     ensures read { ReadIsNotRefused }

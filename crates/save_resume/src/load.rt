@@ -43,7 +43,7 @@ fn add_piece(text: &mut Vec<u8>, piece: &[u8]) -> Result<(), ResumeFault>
         .map_err(|_| ResumeFault::NoMemory)
 }
 
-/// Reads the text of a mapfile to its end, piece by piece. None where there is no such file.
+/// Reads the text of a mapfile to its end, piece by piece. None if there is no such file.
 fn read_text<D: Site>(
     alloc: Global,
     site: &mut D,
@@ -91,8 +91,8 @@ fn map_in(alloc: Global, text: &[u8], mode: Mode) -> Result<ReadMap, ResumeFault
     }
 }
 
-/// Reads a mapfile, by reads that ask for 4,096 bytes each. None where there is no such file; a text that says nothing
-/// is refused for want of a status line.
+/// Reads a mapfile, by reads that ask for 4,096 bytes each. None if there is no such file; a text that says nothing is
+/// refused for lack of a status line.
 pub fn load_map<D: Site>(
     alloc: Global,
     site: &mut D,

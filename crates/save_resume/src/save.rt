@@ -2,6 +2,7 @@
 ghost use Rattle.std.specs.Prelude.{◌≡◌, false, IsTrue, OnOk};
 ghost use Rattle.mapfile_text.specs.Printed.{printed};
 ghost use Rattle.save_resume.specs.Saving.{save_calls, Saves};
+ghost use Rattle.save_resume.specs.MapNames.{HasOwnDraft};
 ghost use Rattle.save_resume.specs.SaveStops.{StopsInSave, IsSaved, disk_of};
 
 use crate::draft::{Draft, SaveFault, Saved};
@@ -22,9 +23,9 @@ pub fn save<D: Site, T: Tiles>(
 ) -> Result<Saved, SaveFault>
     ensures call { Saves (save_calls names.now (printed heading.now state (T.statuses tiles.now))) false result
         (D.state site.old) (D.state site.new) }
-    ensures stops { IsTrue (D.state site.old).tells → StopsInSave names.now
+    ensures stops { IsTrue (D.state site.old).tells → HasOwnDraft names.now → StopsInSave names.now
         (printed heading.now state (T.statuses tiles.now)) (D.state site.old) (D.state site.new) }
-    ensures saved { OnOk result (IsTrue (D.state site.old).tells → IsSaved names.now
+    ensures saved { OnOk result (IsTrue (D.state site.old).tells → HasOwnDraft names.now → IsSaved names.now
         (printed heading.now state (T.statuses tiles.now)) (disk_of (D.state site.old)) (disk_of (D.state site.new))) }
 {
     make_calls(site, names, state, tiles, heading)

@@ -53,8 +53,8 @@ impl OpenDraft {
     }
 
     /// Renames the draft, if it still has its name, to a mapfile that stays locked. The mode and the owner of a mapfile
-    /// that is there go over to it; what is no regular file, as a device, keeps its name, and so does a mapfile that
-    /// another run has locked.
+    /// that is there go over to it; what is no regular file, such as a device, keeps its name, and so does a mapfile
+    /// that another run has locked.
     pub fn publish(
         self,
         rt: &HostRuntime,

@@ -1,4 +1,4 @@
-//! The locks on a mapfile and on its draft, by which rescues with one mapfile keep apart.
+//! The locks on a mapfile and on its draft, by which rescues with the same mapfile keep apart.
 use crate::folder::apart::Apart;
 use crate::folder::names::open_with;
 use kernel_devices::identity::Identity;

@@ -63,7 +63,7 @@ fn read_piece<R: Read>(reader: &mut R, buf: &mut [u8]) -> io::Result<MapRead>
     Ok(MapRead::Bytes(n))
 }
 
-/// Reads a mapfile at a place. It is opened where its reading begins, and kept open for the reads that follow.
+/// Reads a mapfile at a place. It is opened when its reading begins, and kept open for the reads that follow.
 pub(super) fn read_map(
     rt: &HostRuntime,
     apart: &Apart<'_>,

@@ -4,7 +4,7 @@ ghost use Rattle.fault_count.specs.Counts.{raised, HasCause};
 ghost use Rattle.fault_count.specs.Schedule.{no_schedule, with_call, with_failing, FailsNext};
 ghost use Rattle.crash_site.specs.Calls.{Entry, Done, Failed};
 ghost use Rattle.crash_site.specs.CallsMade.{Lost, unanswered, call_name};
-ghost use Rattle.memory_site.specs.CallLog.{call_of, entries_of};
+ghost use Rattle.memory_site.specs.CallLog.{Missed, call_of, entries_of};
 
 use crash_site::fault::fault;
 use crash_site::site::{MapRead, SiteCall, SiteFault};
@@ -102,7 +102,7 @@ impl CallLog {
         self.listed.clear();
     }
 
-    /// Counts want of memory.
+    /// Counts lack of memory.
     fn starve(&mut self) -> SiteFault
         ensures schedule { self.new.schedule ≡ self.old.schedule }
         ensures entries { entries_of self.new ≡ entries_of self.old }
@@ -130,12 +130,13 @@ impl CallLog {
     pub(crate) fn enter(&mut self, act: Act) -> Result<(), SiteFault>
         ensures done { OnOk result (entries_of self.new ≡ entries_of self.old ++ Done (call_of act) ∷ []) }
         ensures lost { OnErr result (Lost (unanswered (call_of act)) (entries_of self.old) (entries_of self.new)) }
+        ensures missed { OnErr result (Missed (unanswered (call_of act)) (entries_of self.old) (entries_of self.new)) }
         ensures cause { HasCause self.old.faults self.new.faults result }
         ensures schedule { self.new.schedule ≡ with_call self.old.schedule }
         ensures fails { FailsNext self.old.schedule → IsErr result }
         ensures told { OnErr result ((FailsNext self.old.schedule
             × (self.new.starving ≡ self.old.starving)
-            × (entries_of self.new ≡ entries_of self.old ++ Failed (unanswered (call_of act)) ∷ []))
+            × (entries_of self.new ≡ entries_of self.old ++ Failed (unanswered (call_of act)) 0 ∷ []))
             ⊎ ((self.new.starving ≡ raised self.old.starving) × (entries_of self.new ≡ entries_of self.old))) }
         ensures fed { OnOk result (self.new.starving ≡ self.old.starving) }
     {
@@ -149,7 +150,7 @@ impl CallLog {
         Ok(())
     }
 
-    /// The outcome of the call that was listed last. Where it found no memory its entry is taken back.
+    /// The outcome of the call that was listed last. If it found no memory its entry is taken back.
     pub(crate) fn settle<T>(&mut self, outcome: Result<T, AllocError>) -> Result<T, SiteFault>
         ensures value { IfOk result (λ value. outcome ≡ Ok value) }
         ensures kept { OnOk result (entries_of self.new ≡ entries_of self.old) }

@@ -324,7 +324,7 @@ impl MemoryFolder {
 
     /// Makes a call again that failed.
     pub(crate) fn fail_again(&mut self, act: &Act)
-        ensures { folder_of self.new ≡ after_failed (folder_of self.old) (call_of act.now) }
+        ensures { folder_of self.new ≡ after_failed (folder_of self.old) (call_of act.now) 0 }
     {
         match act {
             Act::ImageOpen(_, _) => self.image = None,

@@ -53,7 +53,7 @@ fn write_over(bytes: &mut Vec<u8>, pos: usize, piece: &[u8]) -> Result<(), Alloc
 }
 
 impl NamedFile {
-    /// An empty regular file where nothing stands and one is to be made.
+    /// An empty regular file if nothing is there and one is to be made.
     pub(crate) fn open(&mut self, alloc: Global, make: bool) -> ImageKind
         ensures kind { result ≡ kind_of (file_of self.old.file) make }
         ensures file { file_of self.new.file ≡ opened_file (file_of self.old.file) make }
@@ -176,7 +176,7 @@ pub(crate) fn file_at<'a>(places: &'a [NamedFile], name: &[u8]) -> Option<&'a Me
 }
 
 #[tactic(auto, using(crate::proofs::PlaceLemmas::place_lemmas))]
-/// The first place with a name, made where there is none.
+/// The first place with a name, made if there is none.
 pub(crate) fn place_of(
     alloc: Global,
     places: &mut Vec<NamedFile>,

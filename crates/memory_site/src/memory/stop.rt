@@ -57,7 +57,7 @@ fn open(
     left.put(name, Some(file))
 }
 
-/// The size of the file that a write goes to: an absent one is empty where none reads there either.
+/// The size of the file that a write goes to: an absent one is empty if none reads there either.
 fn size_to_write(left: &MemoryFolder, reads: &MemoryFolder, name: &[u8]) -> Option<usize>
     ensures { MatchOption result (((folder_of left.now).files name.now ≡ None)
         × (is_some ((folder_of reads.now).files name.now) ≡ true))
@@ -291,7 +291,7 @@ fn make_sure(left: &mut MemoryFolder, reads: &MemoryFolder, act: &Act) -> Result
 /// Whether the draft is synced after a call.
 fn firm_after(firm: bool, act: &Act, failed: bool) -> bool
     ensures { (d : Disk) → d.firm ≡ firm
-        → (entered d (if failed then Failed (call_of act.now) else Done (call_of act.now))).firm ≡ result }
+        → (entered d (if failed then Failed (call_of act.now) 0 else Done (call_of act.now))).firm ≡ result }
 {
     match act {
         Act::DraftBegin(_) => false,
@@ -347,8 +347,8 @@ impl Replay {
     /// Makes a call again that failed.
     fn fail(&mut self, act: &Act) -> Result<(), AllocError>
         ensures replays { OnOk result ((d : Disk) (files : List ℕ → Option File) → Replays self.old d files
-            → Replays self.new (entered d (Failed (call_of act.now)))
-            (left_entry self.old.kind d (Failed (call_of act.now)) files)) }
+            → Replays self.new (entered d (Failed (call_of act.now) 0))
+            (left_entry self.old.kind d (Failed (call_of act.now) 0) files)) }
         ensures kind { self.new.kind ≡ self.old.kind }
     {
         self.leave(act)?;

@@ -1,4 +1,4 @@
-use Rattle.std.proofs.Common.{refl, List, ℕ, None}
+use Rattle.std.proofs.Common.{rules, refl, List, ℕ, None}
 use Rattle.crash_site.specs.Calls.{draft_begin}
 use Rattle.crash_site.specs.Folder.{Folder, after}
 use Rattle.memory_site.specs.Follows.{Follows}
@@ -14,7 +14,7 @@ invariant_of-self-in-Break-1 c =
     follows_no_draft (folder_of c.args.self.now.folder) shut _ c.args.self.now.follows refl refl refl in
     record {
       follows = follows_lost (folder_of c.args.self.now.start) shut (entries_of c.args.self.now.log)
-          (entries_of c.enter.new.self) (draft_begin c.in-Ok.copied.items) refl h c.in_err-enter.ensures.lost;
+          (entries_of c.enter.new.self) (draft_begin c.in-Ok.copied.items) refl h c.in_err-enter.ensures.missed;
     }
 
 pub invariant_of-self-2 : goal.invariant_of-self-2
@@ -33,4 +33,17 @@ invariant_of-self-2 c =
           (follows_kept c.begin-outcome.result shut
           (folder_of c.begin-outcome.new.self) told h c.begin-outcome.ensures.same)
           c.settle.ensures.value c.settle.ensures.error c.settle.ensures.kept c.settle.ensures.withdrawn;
+    }
+
+pub returns-in_err-enter : goal.returns-in_err-enter
+returns-in_err-enter c =
+    record {
+      keeps = search rules;
+      done = search rules;
+      kept = search rules;
+      lost = search rules;
+      rose = search rules;
+      image = search rules;
+      draft = search rules;
+      schedule = search rules;
     }

@@ -16,7 +16,7 @@ invariant_of-self-in-Break-1 c =
     record {
       follows = follows_lost (folder_of c.args.self.now.start) shut (entries_of c.args.self.now.log)
           (entries_of c.enter.new.self) (draft_publish c.in-Ok.copied.items)
-          (ap name_of c.take.ensures.after) h c.in_err-enter.ensures.lost;
+          (ap name_of c.take.ensures.after) h c.in_err-enter.ensures.missed;
     }
 
 pub invariant_of-self-2 : goal.invariant_of-self-2

@@ -1,4 +1,4 @@
-use Rattle.std.proofs.Common.{refl, List, ℕ, None}
+use Rattle.std.proofs.Common.{rules, refl, List, ℕ, None}
 use Rattle.crash_site.specs.Calls.{image_open}
 use Rattle.crash_site.specs.Folder.{Folder, after}
 use Rattle.memory_site.specs.Follows.{Follows}
@@ -14,7 +14,8 @@ invariant_of-self-in-Break-1 c =
     follows_no_image (folder_of c.args.self.now.folder) shut _ c.args.self.now.follows refl refl refl in
     record {
       follows = follows_lost (folder_of c.args.self.now.start) shut (entries_of c.args.self.now.log)
-          (entries_of c.enter.new.self) (image_open c.in-Ok.copied.items c.args.make) refl h c.in_err-enter.ensures.lost;
+          (entries_of c.enter.new.self) (image_open c.in-Ok.copied.items c.args.make) refl h
+          c.in_err-enter.ensures.missed;
     }
 
 pub invariant_of-self-2 : goal.invariant_of-self-2
@@ -33,4 +34,17 @@ invariant_of-self-2 c =
           (follows_kept c.open-outcome.result shut
           (folder_of c.open-outcome.new.self) told h c.open-outcome.ensures.same)
           c.settle.ensures.value c.settle.ensures.error c.settle.ensures.kept c.settle.ensures.withdrawn;
+    }
+
+pub returns-in_err-enter-clause-call : goal.returns-in_err-enter-clause-call
+returns-in_err-enter-clause-call c =
+    record {
+      keeps = search rules;
+      done = search rules;
+      kept = search rules;
+      lost = search rules;
+      rose = search rules;
+      image = search rules;
+      draft = search rules;
+      schedule = search rules;
     }

@@ -10,5 +10,5 @@ invariant_of-self c =
     record {
       follows = follows_entered (folder_of c.args.self.now.start) (folder_of c.args.self.now.folder)
           (entries_of c.args.self.now.log) (entries_of c.enter.new.self) image_sync c.enter.result
-          (λ a. refl) tt c.args.self.now.follows c.enter.ensures.done c.enter.ensures.lost;
+          (λ a. refl) tt c.args.self.now.follows c.enter.ensures.done c.enter.ensures.missed;
     }

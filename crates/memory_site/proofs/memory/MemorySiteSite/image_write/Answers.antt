@@ -11,7 +11,7 @@ invariant_of-self-in-Break-1 c =
     record {
       follows = follows_lost (folder_of c.args.self.now.start) (folder_of c.args.self.now.folder)
           (entries_of c.args.self.now.log) (entries_of c.enter.new.self)
-          (image_write c.args.pos c.in-Ok.copied.items) tt c.args.self.now.follows c.in_err-enter.ensures.lost;
+          (image_write c.args.pos c.in-Ok.copied.items) tt c.args.self.now.follows c.in_err-enter.ensures.missed;
     }
 
 pub invariant_of-self-2 : goal.invariant_of-self-2

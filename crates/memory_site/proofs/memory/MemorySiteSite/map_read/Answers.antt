@@ -11,5 +11,5 @@ invariant_of-self-2 c =
       follows = follows_entered (folder_of c.args.self.now.start) (folder_of c.args.self.now.folder)
           (entries_of c.args.self.now.log) (entries_of c.enter.new.self)
           (map_read c.in-Ok.copied.items c.args.pos (length c.args.buf.now) (Some c.read-answer.result)) c.enter.result
-          (λ a. refl) tt c.args.self.now.follows c.enter.ensures.done c.enter.ensures.lost;
+          (λ a. refl) tt c.args.self.now.follows c.enter.ensures.done c.enter.ensures.missed;
     }
