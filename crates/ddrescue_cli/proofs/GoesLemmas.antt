@@ -5,7 +5,7 @@ use Rattle.block_list.specs.declared.status.Status.{Status}
 use Rattle.mapfile_text.specs.declared.state.MapState.{MapState}
 use Rattle.mapfile_text.specs.declared.read.Mode.{Mode}
 use Rattle.crash_site.specs.declared.site.SiteCall.TheVariants.{MapRead}
-use Rattle.crash_site.specs.Files.{File, bytes_of, file_named}
+use Rattle.crash_site.specs.Files.{File, file_named}
 use Rattle.crash_site.specs.Calls.{Call, Entry, Done as Returned, image_open, image_sync, map_settle}
 use Rattle.crash_site.specs.CallsMade.{Lost, BrokeAt}
 use Rattle.crash_site.specs.Left.{MayBeLeft}
@@ -18,7 +18,7 @@ use Rattle.rescue_rules.specs.Start.{Stands}
 use Rattle.rescue_rules.specs.Work.{Gain, IsNothing, Runs, mapfile_in, GoesOn, InOpening, InLoad, InRun, AreMapReads, Goes, InMaps, AfterMaps}
 use Rattle.rescue_rules.specs.Snapshots.{Snapshot}
 use Rattle.rescue_rules.specs.StopsBy.{StopsBy, RescueStopsBy, saves_of}
-use Rattle.rescue_rules.specs.Stops.{LeftBy, Before, files_before, has_barrier}
+use Rattle.rescue_rules.specs.Stops.{LeftBy, Before, has_barrier}
 use Rattle.rescue_rules.specs.Held.{Held}
 use Rattle.task_files.specs.declared.ending.Ending.{Ending}
 use Rattle.task_files.specs.declared.ending.Which.{Which}
@@ -244,7 +244,7 @@ maps_cut maps calls (inr broke) = broke_cut MapRead [] maps calls broke
 pub maps_stop : (b : Before) (s : Setting) (g : Gain) → IsOnlyMaps g → RescueStopsBy b s g
 maps_stop b s g m =
     cut_reads_by (λ began state. saves_of s began state g)
-    (λ began state n map image. Held s g.reads (bytes_of (files_before b s.outfile)) map image) true b s m.maps g.calls m.are
+    (λ old began state n map image. Held s g.reads old map image) true b s m.maps g.calls m.are
     (maps_cut m.maps g.calls m.calls)
 
 -- where nothing was done, what is found could be found before
@@ -266,19 +266,18 @@ no_barrier g k none le is =
 
 -- any run that saves while it goes is stopped safely where nothing was done
 pub nothing_stops_by : (saves : List Status → Option MapState → List Snapshot)
-    (promise : List Status → Option MapState → ℕ → List Status → List ℕ → Type 0) (makes : Bool) (b : Before)
+    (promise : List ℕ → List Status → Option MapState → ℕ → List Status → List ℕ → Type 0) (makes : Bool) (b : Before)
     (s : Setting) (g : Gain) → IsNothing g → StopsBy saves promise makes b s g.calls
 nothing_stops_by saves promise makes b s g none = record {
-  before = λ k files le left is. record {
-    before = files;
-    left = nothing_left b g k files none le left;
-    others = λ name other. refl;
+  before = λ stop is. record {
+    before = stop.files;
+    left = nothing_left b g stop.k stop.files none stop.within stop.left;
+    others = λ name output draft. refl;
     output = inl refl;
+    draft = inl refl;
   };
-  output = λ k files le left is still. absurd (no_barrier g k none le is);
-  there = λ k files le left is. absurd (no_barrier g k none le is);
-  mapfile = λ k files le left is still. absurd (no_barrier g k none le is);
-  kept = λ k files began state le left is stands. absurd (no_barrier g k none le is);
-  unwritten = λ k files y le left is off low. absurd (no_barrier g k none le is);
-  others = λ k files name le left output mapfile draft. (files, nothing_left b g k files none le left, refl);
+  past = λ stop is. absurd (no_barrier g stop.k none stop.within is);
+  reads = λ k within is. absurd (no_barrier g k none within is);
+  others = λ stop name output mapfile draft.
+      (stop.files, nothing_left b g stop.k stop.files none stop.within stop.left, refl);
 }

@@ -122,7 +122,7 @@ module _ (c : Command) (line : List ℕ) (e : Ending) (old new : WorldState) (di
   fill_three o top on =
       let three : AreThreeNames (setting_of c line top o.maps) =
       three_names c line top o.maps (named_on c.mapfile on) different in
-      record { map = three.map; draft = three.draft; apart = three.apart }
+      record { map = three.map; draft = three.draft; apart = three.apart; own = three.own }
 
   abbrev pub fill_done : (types : TypeSet) (heard heard' : Bool) → HasMapfile c
       → WorkedFill types c line heard heard' e (across old new)

@@ -45,9 +45,9 @@ unwritten_done : (c : Call) (es : List Entry) (y : ℕ) → is_write (Done c) �
 unwritten_done (image_write pos piece) es y spare h = absurd (cc)
 unwritten_done c es y spare h = h
 
-unwritten_failed : (c : Call) (y : ℕ) → is_write (Done c) ≡ false → IsUnwritten (Failed c ∷ []) y
-unwritten_failed (image_write pos piece) y spare = absurd (cc)
-unwritten_failed c y spare = tt
+unwritten_failed : (c : Call) (steps y : ℕ) → is_write (Done c) ≡ false → IsUnwritten (Failed c steps ∷ []) y
+unwritten_failed (image_write pos piece) steps y spare = absurd (cc)
+unwritten_failed c steps y spare = tt
 
 write_alike : (c : Call) → is_write (Done (unanswered c)) ≡ is_write (Done c)
 write_alike (image_write pos piece) = refl
@@ -66,13 +66,14 @@ unwritten_cut [] (e ∷ es) (suc j) y spare cut = absurd cut
 unwritten_cut (c ∷ cs) (Done x ∷ es) (suc j) y spare cut =
     unwritten_done x (take j es) y (ap (λ (v : Call). is_write (Done v)) cut.0 ∙ spare.0)
     (unwritten_cut cs es j y spare.1 cut.1)
-unwritten_cut (c ∷ cs) (Failed x ∷ es) (suc j) y spare cut =
-    subst (λ (l : List Entry). IsUnwritten (Failed x ∷ take j l) y) (sym cut.1)
-    (unwritten_alone x j y (spare_lost c x cut.0 spare.0))
+unwritten_cut (c ∷ cs) (Failed x steps ∷ es) (suc j) y spare cut =
+    subst (λ (l : List Entry). IsUnwritten (Failed x steps ∷ take j l) y) (sym cut.1)
+    (unwritten_alone x steps j y (spare_lost c x cut.0 spare.0))
   where
-    unwritten_alone : (x : Call) (j y : ℕ) → is_write (Done x) ≡ false → IsUnwritten (Failed x ∷ take j []) y
-    unwritten_alone x zero y off = unwritten_failed x y off
-    unwritten_alone x (suc j) y off = unwritten_failed x y off
+    unwritten_alone : (x : Call) (steps j y : ℕ) → is_write (Done x) ≡ false
+        → IsUnwritten (Failed x steps ∷ take j []) y
+    unwritten_alone x steps zero y off = unwritten_failed x steps y off
+    unwritten_alone x steps (suc j) y off = unwritten_failed x steps y off
 
 -- nor by all of them, in front of others
 pub unwritten_after : (cs : List Call) (es : List Entry) (y : ℕ) → AreSpare cs → IsUnwritten es y

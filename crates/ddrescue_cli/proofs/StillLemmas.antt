@@ -2,9 +2,7 @@
 use Rattle.std.proofs.Common.{◌≡◌, ◌⊎◌, ℕ, true, false, List, [], length, Some, refl, sym, inl, inr, subst, append-nil}
 use Rattle.std.proofs.lemmas.List.Elements.{All-nil}
 use Rattle.crash_site.specs.SiteState.{files_in}
-use Rattle.crash_site.specs.Files.{bytes_of}
 use Rattle.rescue_rules.specs.Held.{Held}
-use Rattle.rescue_rules.specs.Stops.{files_before}
 use Rattle.rescue_rules.specs.StopsBy.{saves_of}
 use Rattle.rescue_rules.specs.declared.stop.Stop.TheVariants.{NoMemory as NoRoom}
 use Rattle.rescue_rules.specs.declared.stop.RunEnd.TheVariants.{Stopped as RunStopped}
@@ -131,7 +129,7 @@ pub still_stops : (task : Task) (line : List ℕ) (w : WorldState)
 still_stops (Rescue c) line w = λ on.
     let s = asked_by c line (still_outside (Rescue c) w) in
     nothing_stops_by (λ began state. saves_of s began state (only_calls []).gain)
-    (λ began state n map image. Held s [] (bytes_of (files_before (calls_of w.site) c.outfile)) map image)
+    (λ old began state n map image. Held s [] old map image)
     true (calls_of w.site) s (only_calls []).gain nothing.gain
 still_stops (Fill types c) line w = nothing_stops_by _ _ true (calls_of w.site) _ (only_calls []).gain nothing.gain
 still_stops (Generate c) line w =

@@ -179,7 +179,7 @@ module _ (s : Setting) (w : Sweeper) (files : List ℕ → Option File) (pieces 
       after_barrier o limit e d more opens (grew ∙ ap (λ (r : List Entry). first ++ r) grew') read
 
   few_lost : (c : Call) (calls : List Entry) → Lost c [] calls → length calls ≤ 1
-  few_lost c calls (inl is) = let one : length calls ≡ 1 = ap length is in omega (arith, one)
+  few_lost c calls (inl is) = let one : length calls ≡ 1 = ap length is.1 in omega (arith, one)
   few_lost c calls (inr is) = let none : length calls ≡ 0 = ap length is in omega (arith, none)
 
   -- an output that isn't there, or isn't written to

@@ -55,12 +55,12 @@ module _ (b : Before) (s : Setting) (types : TypeSet) (buffer : List ℕ) (piece
   abbrev fill_old : (g : Gain) → Type 0
   fill_old g =
       PromisesOld (λ began shown. sweep_saves (filler s types buffer) began shown g pieces end)
-      (λ began shown number map image. FillPromise s buffer began
+      (λ old began shown number map image. FillPromise s buffer began
       (pieces_before (filler s types buffer) (sweep_begins (filler s types buffer) began shown g) pieces number) map image)
       true b s g.calls
 
   old_filled : (g : Gain) → fill_old g
-  old_filled g k files began state le left is = record {
+  old_filled g k files o began state = record {
     same = refl;
     filled = All-before g began state (bytes_of (files s.outfile));
   }
@@ -77,7 +77,7 @@ module _ (b : Before) (s : Setting) (types : TypeSet) (buffer : List ℕ) (piece
       → SweepGoes s (filler s types buffer) (files_before b) pieces end g → FillStops b s types buffer pieces end g
   fill_goes_safely g ok low times long (Unbegun early opens none) =
       early_stops (λ began shown. sweep_saves (filler s types buffer) began shown g pieces end)
-      (λ began shown number map image. FillPromise s buffer began
+      (λ old began shown number map image. FillPromise s buffer began
       (pieces_before (filler s types buffer) (sweep_begins (filler s types buffer) began shown g) pieces number) map image)
       true b s g.calls (old_filled g) (ends_early_safely b s true g.calls on three opens early)
   fill_goes_safely g ok low times long (Begun opens load statuses state rest loaded stands grew sweeps is) =
@@ -105,20 +105,15 @@ early_spare s makes files calls j y on ends =
 
 module _ (b : Before) (s : Setting) (pieces : List Swept) (end : RunEnd) (on : s.has_mapfile ≡ true)
     (three : AreThreeNames s) where
-  abbrev old_bytes : List ℕ
-  old_bytes = bytes_of (files_before b s.outfile)
-
   abbrev GenerateOld : Gain → Type 0
   GenerateOld g =
       PromisesOld (λ began shown. sweep_saves (generator s) began shown g pieces end)
-      (λ began shown number map image. GeneratePromise s old_bytes began map image) false b s g.calls
+      (λ old began shown number map image. GeneratePromise s old began map image) false b s g.calls
 
-  old_generated : (g : Gain) → EndsEarly s false (files_before b) g.calls
-      → StopsBy (λ began shown. []) (λ began shown number map image. map ≡ began) false b s g.calls → GenerateOld g
-  old_generated g early h k files began state le left is = record {
+  old_generated : (g : Gain) → EndsEarly s false (files_before b) g.calls → GenerateOld g
+  old_generated g early k files o began state = record {
     held = λ x has. inl has;
-    stands = λ y lt.
-        h.unwritten k files y le left is (early_spare s false (files_before b) g.calls (k + 1) y on early) lt;
+    stands = λ y lt. o.unwritten y (early_spare s false (files_before b) g.calls (k + 1) y on early) lt;
   }
 
   there_file : Opens false (files_before b s.outfile) → (f : File) × (files_before b s.outfile ≡ Some f)
@@ -132,11 +127,11 @@ module _ (b : Before) (s : Setting) (pieces : List Swept) (end : RunEnd) (on : s
       → AreGiven s (bytes_of (files_before b s.outfile)) pieces
       → SweepGoes s (generator s) (files_before b) pieces end g → GenerateStops b s pieces end g
   generate_goes_safely g ok low times given (Unbegun early opens none) =
-      let h : StopsBy (λ began shown. []) (λ began shown number map image. map ≡ began) false b s g.calls
+      let h : StopsBy (λ began shown. []) (λ old began shown number map image. map ≡ began) false b s g.calls
       = ends_early_safely b s false g.calls on three opens early in
       early_stops (λ began shown. sweep_saves (generator s) began shown g pieces end)
-      (λ began shown number map image. GeneratePromise s old_bytes began map image) false b s g.calls
-      (old_generated g early h) h
+      (λ old began shown number map image. GeneratePromise s old began map image) false b s g.calls
+      (old_generated g early) h
   generate_goes_safely g ok low times given (Begun opens load statuses state rest loaded stands grew sweeps is) =
       let o : SweepsOver s (generator s) b statuses state g = record {
         load = load;
@@ -156,7 +151,7 @@ module _ (b : Before) (s : Setting) (pieces : List Swept) (end : RunEnd) (on : s
 
 -- a sweep stops safely if what it did after them does
 way_safely : (saves : List Status → Option MapState → List Snapshot)
-    (promise : List Status → Option MapState → ℕ → List Status → List ℕ → Type 0) (makes : Bool) (b : Before)
+    (promise : List ℕ → List Status → Option MapState → ℕ → List Status → List ℕ → Type 0) (makes : Bool) (b : Before)
     (s : Setting) (ready : Type 0) (w : Sweeper) (pieces : List Swept) (end : RunEnd) (g : Gain)
     → ((h : Gain) → h.times ≡ g.times → ready → SweepGoes s w (files_before b) pieces end h
     → StopsBy saves promise makes b s h.calls)
@@ -173,7 +168,7 @@ pub fill_stops : (b : Before) (s : Setting) (types : TypeSet) (buffer : List ℕ
     → FillStops b s types buffer pieces end g
 fill_stops b s types buffer pieces end g on three ok low times way =
     way_safely (λ began shown. sweep_saves (filler s types buffer) began shown g pieces end)
-    (λ began shown number map image. FillPromise s buffer began
+    (λ old began shown number map image. FillPromise s buffer began
     (pieces_before (filler s types buffer) (sweep_begins (filler s types buffer) began shown g) pieces number) map image)
     true b s (length buffer ≡ s.cluster) (filler s types buffer) pieces end g
     (λ h timed long goes.
@@ -186,7 +181,7 @@ pub generate_stops : (b : Before) (s : Setting) (pieces : List Swept) (end : Run
     → SweepWay ⊤ s (generator s) (files_before b) pieces end g → GenerateStops b s pieces end g
 generate_stops b s pieces end g on three ok low times given way =
     way_safely (λ began shown. sweep_saves (generator s) began shown g pieces end)
-    (λ began shown number map image. GeneratePromise s (bytes_of (files_before b s.outfile)) began map image) false b s ⊤
+    (λ old began shown number map image. GeneratePromise s old began map image) false b s ⊤
     (generator s) pieces end g
     (λ h timed any goes.
     subst (λ (t : List ℕ). GenerateStops b s pieces end (record h { times = t })) timed
@@ -197,5 +192,5 @@ pub only_maps_stop : (b : Before) (s : Setting) (pieces : List Swept) (end : Run
     → GenerateStops b s pieces end g
 only_maps_stop b s pieces end g m =
     cut_reads_by (λ began shown. sweep_saves (generator s) began shown g pieces end)
-    (λ began shown number map image. GeneratePromise s (bytes_of (files_before b s.outfile)) began map image) false b s
+    (λ old began shown number map image. GeneratePromise s old began map image) false b s
     m.maps g.calls m.are (maps_cut m.maps g.calls m.calls)

@@ -1,7 +1,7 @@
 -- What is there after the answer of a rescue.
 use Rattle.ddrescue_cli.proofs.RefusalLemmas.{undone}
 use Rattle.work_rules.proofs.AnswerLemmas.{IsLoadIf, Passed, passed}
-use Rattle.std.proofs.Common.{◌≡◌, ℕ, ◌+◌, ◌-◌, ◌≤◌, zero, suc, Bool, true, false, IsTrue, if◌then◌else◌, refl, List, [], ◌++◌, ◌∷◌, map, filter, length, take, drop, Option, Some, None, option_map, sym, ◌∙◌, ap, subst, arith, inl, inr, ⊎_elim, length-append}
+use Rattle.std.proofs.Common.{◌≡◌, ℕ, ◌+◌, ◌-◌, ◌≤◌, zero, suc, Bool, true, false, IsTrue, if◌then◌else◌, refl, List, [], ◌++◌, ◌∷◌, map, filter, length, take, drop, Option, Some, None, option_map, sym, ◌∙◌, ap, subst, arith, inl, inr, ⊎_elim}
 use Rattle.std.specs.List.{count_by, slice_get}
 use Rattle.std.proofs.Math.Seq.{take-length}
 use Rattle.std.proofs.lemmas.Bool.{cases_Bool}
@@ -13,9 +13,7 @@ use Rattle.mapfile_text.specs.declared.state.MapState.{MapState}
 use Rattle.crash_site.specs.Files.{File, bytes_of, file_named}
 use Rattle.crash_site.specs.Calls.{Call, Entry, Done as Returned, image_open}
 use Rattle.crash_site.specs.Folder.{Folder, after}
-use Rattle.crash_site.specs.Left.{MayBeLeft}
 use Rattle.crash_site.specs.SiteState.{files_in}
-use Rattle.crash_site.proofs.DiskLemmas.{reads_until}
 use Rattle.crash_site.proofs.LawLemmas.{after-append}
 use Rattle.faulty_source.specs.Journal.{Reading}
 use Rattle.save_resume.specs.MapNames.{names_of}
@@ -40,8 +38,8 @@ use Rattle.rescue_rules.specs.declared.stop.Stop.{Stop}
 use Rattle.rescue_rules.specs.declared.stop.Stop.TheVariants.{SourceLost as InputLost, Site, LimitMet as Limited, NoMemory as NoRoom}
 use Rattle.rescue_rules.specs.declared.stop.RunEnd.{RunEnd}
 use Rattle.rescue_rules.specs.Work.{Gain, begins, events_in, opening_calls, mapfile_in, IsLoadOf, AreMapReads, EndsBy, end_of, Ends, IsSaved as RunSaved, IsUnsaved, IsBroken}
-use Rattle.rescue_rules.specs.StopsBy.{IsKept, is_publish, published, IsSave}
-use Rattle.rescue_rules.specs.Stops.{LeftBy, has_barrier, is_settle, returned, files_before}
+use Rattle.rescue_rules.specs.StopsBy.{KeepsOver, StopsBy, IsKept, is_publish, published, IsSave, saves_of}
+use Rattle.rescue_rules.specs.Stops.{has_barrier, is_settle, returned, files_before, files_after, opened_output}
 use Rattle.task_files.specs.declared.ending.Ending.{Ending}
 use Rattle.task_files.specs.declared.ending.Ending.TheVariants.{Done, SameName, SourceLost, SiteFault, NoMemory, LimitMet}
 use Rattle.ddrescue_words.specs.Command.{Command, Rescue}
@@ -67,35 +65,52 @@ use Rattle.ddrescue_laws.proofs.CountLemmas.{dues, run_entries, settles_once_mor
 use Rattle.work_rules.proofs.FrontLemmas.{IsMapRead, load_reads, reads_stand, made_both}
 use Rattle.ddrescue_laws.proofs.ReadLemmas.{settles_after, publishes_after, barrier_after}
 
--- a stop after all calls may leave the files as they read
-left_all : (start : Folder) (calls : List Entry) (k : ℕ) → k ≡ length calls
-    → MayBeLeft start calls k (after start calls).files
-left_all start calls k all =
-    let P : List Entry → Type 0 = λ r. MayBeLeft start calls k (after start r).files in
-    subst P (ap (λ n. take n calls) all ∙ take-length calls) (reads_until start calls k)
+-- the files as they read after all calls that a record gained
+reads_after : (t : Told) (gained : List Entry) → t.after.site.start ≡ t.before.site.start
+    → t.after.site.calls ≡ t.before.site.calls ++ gained
+    → files_after (calls_before t) (take (length gained) gained) ≡ files_in t.after.site
+reads_after t gained started grew =
+    ap (files_after (calls_before t)) (take-length gained)
+    ∙ ap (λ (calls : List Entry). (after t.before.site.start calls).files) (sym grew)
+    ∙ ap (λ (start : Folder). (after start t.after.site.calls).files) (sym started)
 
--- after all calls that a record gained
-pub left_after : (t : Told) (gained : List Entry) → t.after.site.start ≡ t.before.site.start
-    → t.after.site.calls ≡ t.before.site.calls ++ gained → LeftBy (calls_before t) gained (length gained) (files_in t.after.site)
-left_after t gained started grew =
-    let calls : List Entry = t.before.site.calls ++ gained in
-    let k : ℕ = length t.before.site.calls + length gained in
-    let P : Folder → Type 0 = λ start. MayBeLeft t.before.site.start calls k (after start t.after.site.calls).files in
-    let Q : List Entry → Type 0 = λ r. MayBeLeft t.before.site.start calls k (after t.before.site.start r).files in
-    subst P (sym started)
-    (subst Q (sym grew) (left_all t.before.site.start calls k (sym (length-append t.before.site.calls gained))))
+opened_bytes : (o : Option File) → (opened_output o).bytes ≡ bytes_of o
+opened_bytes None = refl
+opened_bytes (Some f) = refl
 
-left_at_end : (c : Command) (t : Told) (d : Ddrescue t) (p : TaskDone (Rescue c) t) → IsTrue t.before.site.tells
-    → LeftBy (calls_before t) p.did.gain.calls (length p.did.gain.calls) (files_in t.after.site)
-left_at_end c t d p tells = left_after t p.did.gain.calls (d.does.keeps.site.start tells) (p.agrees.agrees.calls tells)
+-- what a run keeps at its end of the files as they read, over the output as it read before
+abbrev pub KeepsAtEnd : (List Status → Option MapState → List Snapshot)
+    → (List ℕ → List Status → Option MapState → ℕ → List Status → List ℕ → Type 0) → (makes : Bool) → Told → Setting
+    → List Entry → Type 0
+KeepsAtEnd saves promise makes t s calls =
+    (over : KeepsOver saves promise makes (calls_before t) s calls (length calls) (files_in t.after.site))
+    × (over.was.bytes ≡ bytes_of (files_of t s.outfile))
+
+pub kept_at_end : (saves : List Status → Option MapState → List Snapshot)
+    (promise : List ℕ → List Status → Option MapState → ℕ → List Status → List ℕ → Type 0) (makes : Bool) (t : Told)
+    (s : Setting) (calls : List Entry) → t.after.site.start ≡ t.before.site.start
+    → t.after.site.calls ≡ t.before.site.calls ++ calls → has_barrier (take (length calls) calls) ≡ true
+    → StopsBy saves promise makes (calls_before t) s calls → KeepsAtEnd saves promise makes t s calls
+kept_at_end saves promise makes t s calls started grew is stops =
+    let o = stops.reads (length calls) (omega arith) is in
+    subst (λ (files : List ℕ → Option File).
+    (over : KeepsOver saves promise makes (calls_before t) s calls (length calls) files)
+    × (over.was.bytes ≡ bytes_of (files_of t s.outfile)))
+    (reads_after t calls started grew)
+    (o.0, ap (λ (f : File). f.bytes) o.1 ∙ opened_bytes (files_of t s.outfile))
 
 pub holds_at_end : HoldsAtEnd
 holds_at_end t c began state d asks tells on is stands =
     let p : TaskDone (Rescue c) t = d.does.asked_for (Rescue c) asks in
-    let calls : List Entry = p.did.gain.calls in
-    let whole : take (length calls) calls ≡ calls = take-length calls in
-    (p.leaves.stops tells on).kept (length calls) (files_in t.after.site) began state (omega arith)
-    (left_at_end c t d p tells) (ap has_barrier whole ∙ is) stands
+    let s : Setting = setting_promised d asks in
+    let g : Gain = done_by d asks in
+    let k = kept_at_end (λ began state. saves_of s began state g)
+    (λ old began state n map image. Held s g.reads old map image)
+    true t s g.calls (d.does.keeps.site.start tells) (p.agrees.agrees.calls tells)
+    (ap has_barrier (take-length g.calls) ∙ is) (p.leaves.stops tells on) in
+    subst (λ (bytes : List ℕ). IsKept (calls_before t) s g bytes began state (length g.calls)
+    (files_in t.after.site)) k.1
+    (k.0.kept began state stands)
 
 -- a run that ended with a save
 pub record SavedRun (s : Setting) (m : Machine) (events : List Event) (calls : List Entry) : Type 0 where
@@ -299,7 +314,8 @@ record CallsWith (s : Setting) (g : Gain) (load : List Call) (m : Machine) (even
 
 saved_by : (t : Told) (s : Setting) (g : Gain) (r : DoneWork s (files_of t) g) → s.has_mapfile ≡ true
     → CallsWith s g r.run.load (begins s r.run.statuses r.run.state g) (events_in g)
-    → IsKept (calls_before t) s g r.run.statuses r.run.state (length g.calls) (files_in t.after.site)
+    → IsKept (calls_before t) s g (bytes_of (files_of t s.outfile)) r.run.statuses r.run.state (length g.calls)
+    (files_in t.after.site)
     → Left t s g r.run.statuses r.run.state
 saved_by t s g r on w k =
     let m : Machine = begins s r.run.statuses r.run.state g in

@@ -1,9 +1,9 @@
 -- What an answer before the first read leaves of the files.
-use Rattle.std.proofs.Common.{◌≡◌, ℕ, Bool, true, false, ◌||◌, is_some, List, [], ◌∷◌, ◌++◌, ◌⊎◌, map, Option, Some, None, refl, sym, ap, ◌∙◌, inl, inr, subst}
+use Rattle.std.proofs.Common.{◌≡◌, ℕ, zero, suc, Bool, true, false, ◌||◌, is_some, List, [], ◌∷◌, ◌++◌, ◌⊎◌, map, Option, Some, None, refl, sym, ap, ◌∙◌, inl, inr, subst}
 use Rattle.crash_site.specs.declared.site.SiteCall.{SiteCall}
 use Rattle.crash_site.specs.declared.site.SiteCall.TheVariants.{ImageOpen, ImageSync, MapRead, MapSettle}
 use Rattle.crash_site.specs.Files.{File, empty_file}
-use Rattle.crash_site.specs.Folder.{Folder, opened, after}
+use Rattle.crash_site.specs.Folder.{Folder, opened, after, after_failed}
 use Rattle.crash_site.specs.SiteState.{files_in}
 use Rattle.crash_site.specs.Calls.{Call, Entry, Done as Returned, image_open}
 use Rattle.crash_site.specs.CallsMade.{BrokeAt}
@@ -24,7 +24,7 @@ use Rattle.task_files.specs.declared.ending.Which.TheVariants.{DomainMap, TestMa
 use Rattle.task_files.specs.Maps.{Found, found_in}
 use Rattle.task_files.specs.Refusals.{is_other, NamedMapRefused, PlacesRefused}
 use Rattle.ddrescue_laws.specs.InputRead.{IsBeforeReads}
-use Rattle.ddrescue_laws.specs.LeftAfter.{names_maps, AllStand, made_of, OutputMade, IsAfterOutput, IsMapReadFault, IsLeft}
+use Rattle.ddrescue_laws.specs.LeftAfter.{names_maps, AllStand, made_of, OutputMade, IsAfterOutput, IsMapReadFault, IsOpenFault, IsLeft}
 use Rattle.ddrescue_cli.specs.Tasks.{with_did}
 use Rattle.ddrescue_cli.specs.ToldParts.{files_of, asked_of}
 use Rattle.task_files.specs.Outside.{Outside}
@@ -62,11 +62,22 @@ other_stands : (d : Folder) (out : List ℕ) (f : Option File) → is_other f �
 other_stands d out None is = absurd (cc)
 other_stands d out (Some f) is = refl
 
-unmade : (d : Folder) (out : List ℕ) (new : List Entry) → BrokeAt ImageOpen (image_open out true ∷ []) [] new
-    → (after d new).files ≡ d.files
-unmade d out new (inl (name, inl lost)) = ap (λ (r : List Entry). (after d r).files) lost
-unmade d out new (inl (name, inr lost)) = ap (λ (r : List Entry). (after d r).files) lost
-unmade d out new (inr b) = absurd b
+-- an open that failed may have made the output
+failed_open : (d : Folder) (out : List ℕ) (steps : ℕ)
+    → AllStand d.files (after_failed d (image_open out true) steps).files
+    ⊎ OutputMade out d.files (after_failed d (image_open out true) steps).files
+failed_open d out zero = inl (λ name. refl)
+failed_open d out (suc steps) = inr (made_there d out (d.files out) refl)
+
+made_or_not : (d : Folder) (out : List ℕ) (new : List Entry) → BrokeAt ImageOpen (image_open out true ∷ []) [] new
+    → AllStand d.files (after d new).files ⊎ OutputMade out d.files (after d new).files
+made_or_not d out new (inl (name, inl lost)) =
+    subst (λ (r : List Entry). AllStand d.files (after d r).files ⊎ OutputMade out d.files (after d r).files)
+    (sym lost.1)
+    (failed_open d out lost.0)
+made_or_not d out new (inl (name, inr lost)) =
+    inl (all_stand d.files _ (ap (λ (r : List Entry). (after d r).files) lost))
+made_or_not d out new (inr b) = absurd b
 
 -- reads of a map
 broken_read : (now : Folder) (name : List ℕ) (file : Option File) (load : List Call) (new : List Entry) → BeginsLoad name file load
@@ -98,7 +109,17 @@ stands_left : (e : Ending) (maps : Bool) (out : List ℕ) (files files' : List �
 stands_left e maps out files files' early other stand = record {
   made = λ later. absurd (early later);
   read = λ fault. absurd (other fault);
-  stand = λ before later fault. stand;
+  opened = λ fault. inl stand;
+  stand = λ before later fault unopened. stand;
+}
+
+opened_left : (maps : Bool) (out : List ℕ) (files files' : List ℕ → Option File)
+    → AllStand files files' ⊎ OutputMade out files files' → IsLeft (SiteFault ImageOpen None) maps out files files'
+opened_left maps out files files' left = record {
+  made = λ later. absurd (not_after (SiteFault ImageOpen None) (λ x. cc) (λ error x. cc) later);
+  read = λ fault. let x = fault.1 in absurd (cc);
+  opened = λ fault. left;
+  stand = λ before later fault unopened. absurd (unopened (None, refl));
 }
 
 made_left : (e : Ending) (maps : Bool) (out : List ℕ) (files files' : List ℕ → Option File) → IsAfterOutput e
@@ -106,7 +127,8 @@ made_left : (e : Ending) (maps : Bool) (out : List ℕ) (files files' : List ℕ
 made_left e maps out files files' later other made = record {
   made = λ is. made;
   read = λ fault. absurd (other fault);
-  stand = λ before early fault. absurd (early later);
+  opened = λ fault. inr made;
+  stand = λ before early fault unopened. absurd (early later);
 }
 
 read_left : (maps : Bool) (out : List ℕ) (files files' : List ℕ → Option File)
@@ -115,21 +137,23 @@ read_left : (maps : Bool) (out : List ℕ) (files files' : List ℕ → Option F
 read_left maps out files files' left = record {
   made = λ later. absurd (not_after (SiteFault MapRead None) (λ x. cc) (λ error x. cc) later);
   read = λ fault. left;
-  stand = λ before early other. absurd (other (None, refl));
+  opened = λ fault. let x = fault.1 in absurd (cc);
+  stand = λ before early other unopened. absurd (other (None, refl));
 }
 
 late_left : (e : Ending) (maps : Bool) (out : List ℕ) (files files' : List ℕ → Option File) → (IsBeforeReads e → ⊥)
-    → (IsAfterOutput e → ⊥) → (IsMapReadFault e → ⊥) → IsLeft e maps out files files'
-late_left e maps out files files' late early other = record {
+    → (IsAfterOutput e → ⊥) → (IsMapReadFault e → ⊥) → (IsOpenFault e → ⊥) → IsLeft e maps out files files'
+late_left e maps out files files' late early other opening = record {
   made = λ later. absurd (early later);
   read = λ fault. absurd (other fault);
-  stand = λ before later fault. absurd (late before);
+  opened = λ fault. absurd (opening fault);
+  stand = λ before later fault unopened. absurd (late before);
 }
 
 starved_left : (maps : Bool) (out : List ℕ) (files files' : List ℕ → Option File) → IsLeft NoMemory maps out files files'
 starved_left maps out files files' =
     late_left NoMemory maps out files files' (λ before. before.room refl) (not_after NoMemory (λ x. cc) (λ error x. cc))
-    (λ fault. let x = fault.1 in cc)
+    (λ fault. let x = fault.1 in cc) (λ fault. let x = fault.1 in cc)
 
 named_leaves : (which : Which) (mode : Mode) (file : Option File) (c : Command) (e : Ending) (files files' : List ℕ → Option File)
     → (which ≡ RunMap → ⊥) → NamedMapRefused which mode file e → AllStand files files'
@@ -151,6 +175,7 @@ call_leaves MapRead maps out files files' own earlier = absurd own
 call_leaves call maps out files files' own earlier =
     late_left (SiteFault call earlier) maps out files files' (λ before. before.call call earlier refl)
     (not_after (SiteFault call earlier) (λ x. cc) (λ error x. cc)) (λ fault. let x = fault.1 in cc)
+    (λ fault. let x = fault.1 in cc)
 
 barrier_leaves : (c : Command) (call : SiteCall) (files files' : List ℕ → Option File) → IsNameIn call (barrier_of c.mapfile)
     → IsLeft (SiteFault call None) (names_maps c) c.outfile files files'
@@ -163,15 +188,16 @@ end_leaves : (end : RunEnd) (maps : Bool) (out : List ℕ) (files files' : List 
     → IsLeft (answer_of end) maps out files files'
 end_leaves Finished maps out files files' late =
     late_left Done maps out files files' (λ before. before.done refl) (not_after Done (λ x. cc) (λ error x. cc))
-    (λ fault. let x = fault.1 in cc)
+    (λ fault. let x = fault.1 in cc) (λ fault. let x = fault.1 in cc)
 end_leaves (Stopped InputLost) maps out files files' late =
     late_left SourceLost maps out files files' (λ before. before.lost refl) (not_after SourceLost (λ x. cc) (λ error x. cc))
-    (λ fault. let x = fault.1 in cc)
+    (λ fault. let x = fault.1 in cc) (λ fault. let x = fault.1 in cc)
 end_leaves (Stopped (Site call)) maps out files files' late =
     call_leaves call maps out files files' (late.names call None refl) None
 end_leaves (Stopped (Limited limit)) maps out files files' late =
     late_left (LimitMet limit) maps out files files' (λ before. before.within limit refl)
     (not_after (LimitMet limit) (λ x. cc) (λ error x. cc)) (λ fault. let x = fault.1 in cc)
+    (λ fault. let x = fault.1 in cc)
 end_leaves (Stopped NoRoom) maps out files files' late = starved_left maps out files files'
 end_leaves (SaveFailed call earlier) maps out files files' late =
     call_leaves call maps out files files' (late.names call earlier refl) earlier
@@ -244,11 +270,9 @@ leaves_steps c here end run ends late =
           (λ call d broke only.
               let is : call ≡ ImageOpen = open_call call c.outfile [] d.gain.calls broke in
               subst (λ (v : SiteCall). P (SiteFault v None) d) (sym is)
-              (stands_left (SiteFault ImageOpen None) (names_maps c) c.outfile here.files _
-              (not_after (SiteFault ImageOpen None) (λ x. cc) (λ error x. cc)) (λ fault. let x = fault.1 in cc)
-              (all_stand here.files _
-              (unmade here c.outfile d.gain.calls
-              (subst (λ (v : SiteCall). BrokeAt v (image_open c.outfile true ∷ []) [] d.gain.calls) is broke))))),
+              (opened_left (names_maps c) c.outfile here.files _
+              (made_or_not here c.outfile d.gain.calls
+              (subst (λ (v : SiteCall). BrokeAt v (image_open c.outfile true ∷ []) [] d.gain.calls) is broke)))),
           (
             (λ e d r idle.
                 let is = r.2 in

@@ -1,11 +1,12 @@
 -- A filling or a generating with an answer before its sweep took no time.
-use Rattle.std.proofs.Common.{◌≡◌, ℕ, ◌-◌, Bool, true, false, if◌then◌else◌, List, [], ◌∷◌, ◌++◌, map, Option, Some, None, is_none, refl, sym, ap, subst, ◌∙◌, inl, inr}
+use Rattle.std.proofs.Common.{◌≡◌, ℕ, ◌-◌, Bool, true, false, ◌||◌, if◌then◌else◌, List, [], ◌∷◌, ◌++◌, map, Option, Some, None, is_none, refl, sym, ap, subst, ◌∙◌, inl, inr}
 use Rattle.block_list.specs.declared.types.TypeSet.{TypeSet}
 use Rattle.mapfile_text.specs.Pieces.{pieces_of}
 use Rattle.crash_site.specs.declared.site.SiteCall.{SiteCall}
 use Rattle.crash_site.specs.Files.{File}
-use Rattle.crash_site.specs.Calls.{Entry, Done as Returned, image_sync, draft_append, draft_sync}
-use Rattle.crash_site.specs.CallsMade.{call_name}
+use Rattle.crash_site.specs.declared.site.SiteCall.TheVariants.{MapRead}
+use Rattle.crash_site.specs.Calls.{Call, Entry, Done as Returned, Failed, image_open, image_read, image_write, image_sync, map_read, draft_begin, draft_append, draft_sync, draft_publish, map_settle, map_remove}
+use Rattle.crash_site.specs.CallsMade.{BrokeAt, call_name}
 use Rattle.save_resume.specs.MapNames.{MapNames}
 use Rattle.save_resume.specs.Saving.{IsNameIn, publish_calls, save_calls}
 use Rattle.rescue_rules.specs.declared.stop.Stop.TheVariants.{SourceLost as InputLost, Site, LimitMet as Limited, NoMemory as NoRoom}
@@ -28,7 +29,7 @@ use Rattle.task_sweeps.specs.Modes.{Fills, Generates, MaySweep, ThenSweep, fill_
 use Rattle.ddrescue_laws.specs.InputRead.{IsOfOpening}
 use Rattle.ddrescue_laws.specs.ModeLaws.{IsBeforeSweep, RefusedFillLeaves, RefusedGenerateLeaves, promised_fill, promised_generate}
 use Rattle.ddrescue_laws.proofs.SweepFaults.{name_alike}
-use Rattle.ddrescue_laws.proofs.SweepLeaves.{unbegun_fill_leaves, unbegun_generate_leaves}
+use Rattle.ddrescue_laws.proofs.SweepLeaves.{is_unsettled, has_unsettled, fill_leaves, generate_leaves}
 
 -- a call of the opening is none of a save's
 in_publish : (call : SiteCall) (n : MapNames) → IsOfOpening call → IsNameIn call (draft_sync ∷ publish_calls n) → ⊥
@@ -136,15 +137,124 @@ generate_untimed c found input_end s pieces end lines e d b w =
     rows_untimed rescue_faults (generate_rows c found input_end) _ e d
     (λ y same h. absurd (then_late s (generator s) found.mapfile pieces end lines e y (λ x of. of) b h)) w
 
+-- ---- and no settle failed
+
+neither : (a b : Bool) → a ≡ false → b ≡ false → (a || b) ≡ false
+neither true b off rest = absurd (cc)
+neither false b off rest = rest
+
+settled_both : (xs ys : List Entry) → has_unsettled xs ≡ false → has_unsettled ys ≡ false
+    → has_unsettled (xs ++ ys) ≡ false
+settled_both [] ys a b = b
+settled_both (x ∷ xs) ys a b = first_off (is_unsettled x) (has_unsettled xs) (has_unsettled (xs ++ ys)) a
+    (λ rest. settled_both xs ys rest b)
+  where
+    first_off : (p q r : Bool) → (p || q) ≡ false → (q ≡ false → r ≡ false) → (p || r) ≡ false
+    first_off true q r off next = absurd (cc)
+    first_off false q r off next = next off
+
+-- calls that returned
+settled_all : (calls : List Call) → has_unsettled (map Returned calls) ≡ false
+settled_all [] = refl
+settled_all (c ∷ calls) = settled_all calls
+
+-- a call of the opening that failed is no settle
+settled_lost : (at : SiteCall) (c : Call) (steps : ℕ) → IsOfOpening at → at ≡ call_name c
+    → has_unsettled (Failed c steps ∷ []) ≡ false
+settled_lost at (map_settle name) steps of is = absurd (subst IsOfOpening is of)
+settled_lost at (image_open name make) steps of is = refl
+settled_lost at (image_read pos asked answer) steps of is = refl
+settled_lost at (image_write pos piece) steps of is = refl
+settled_lost at image_sync steps of is = refl
+settled_lost at (map_read name pos asked answer) steps of is = refl
+settled_lost at (draft_begin name) steps of is = refl
+settled_lost at (draft_append piece) steps of is = refl
+settled_lost at draft_sync steps of is = refl
+settled_lost at (draft_publish name) steps of is = refl
+settled_lost at (map_remove name) steps of is = refl
+
+settled_broke : (at : SiteCall) (calls : List Call) (old new : List Entry) → IsOfOpening at → BrokeAt at calls old new
+    → has_unsettled old ≡ false → has_unsettled new ≡ false
+settled_broke at [] old new of broke none = absurd broke
+settled_broke at (c ∷ calls) old new of (inl (named, inl grew)) none =
+    ap has_unsettled grew.1 ∙ settled_both old (Failed c grew.0 ∷ []) none (settled_lost at c grew.0 of named)
+settled_broke at (c ∷ calls) old new of (inl (named, inr same)) none = ap has_unsettled same ∙ none
+settled_broke at (c ∷ calls) old new of (inr later) none =
+    settled_broke at calls (old ++ Returned c ∷ []) new of later (settled_both old (Returned c ∷ []) none refl)
+
+rows_settled : (rows : List (WorkStep Ending)) (run : Ending → Deeds → Type 0) (e : Ending) (d : Deeds)
+    → IsBeforeSweep e → ((x : Deeds) → run e x → has_unsettled x.gain.calls ≡ false) → Works rescue_faults rows run e d
+    → has_unsettled d.gain.calls ≡ false
+rows_settled [] run e d b next w = next d w
+rows_settled (Take ∷ more) run e d b next (inl (is, idle)) = ap has_unsettled idle.gain.calls
+rows_settled (Take ∷ more) run e d b next (inr w) = rows_settled more run e d b next w
+rows_settled (Look refuses ∷ more) run e d b next (inl (refused, idle)) = ap has_unsettled idle.gain.calls
+rows_settled (Look refuses ∷ more) run e d b next (inr (passes, w)) = rows_settled more run e d b next w
+rows_settled (Open name ∷ more) run e d b next (inl (is, opens, none)) = ap has_unsettled none.calls
+rows_settled (Open name ∷ more) run e d b next (inr (os, opens, w)) = rows_settled more run e (with_opens d os) b next w
+rows_settled (Make calls ∷ more) run e d b next (inl (call, is, broke, only)) =
+    settled_broke call calls [] d.gain.calls (b.call call None is) broke refl
+rows_settled (Make calls ∷ more) run e d b next (inr (rest, grew, w)) =
+    ap has_unsettled grew
+    ∙ settled_both (map Returned calls) rest (settled_all calls) (rows_settled more run e (with_calls d rest) b next w)
+rows_settled (Read None file ∷ more) run e d b next (inl (is, idle)) = ap has_unsettled idle.gain.calls
+rows_settled (Read None file ∷ more) run e d b next (inr (absent, w)) = rows_settled more run e d b next w
+rows_settled (Read (Some name) file ∷ more) run e d b next (inl (load, is, begins, broke, only)) =
+    settled_broke MapRead load [] d.gain.calls tt broke refl
+rows_settled (Read (Some name) file ∷ more) run e d b next (inr (inl (load, is, begins, all, only))) =
+    ap has_unsettled all ∙ settled_all load
+rows_settled (Read (Some name) file ∷ more) run e d b next (inr (inr (load, rest, loaded, grew, w))) =
+    ap has_unsettled grew
+    ∙ settled_both (map Returned load) rest (settled_all load) (rows_settled more run e (with_calls d rest) b next w)
+
+fill_settled : (types : TypeSet) (c : Command) (found : Found) (input_end top : ℕ) (s : Setting) (buffer : List ℕ)
+    (pieces : List Swept) (end : RunEnd) (lines : List (List ℕ)) (e : Ending) (d : Deeds) → IsBeforeSweep e
+    → Fills types c found input_end top s buffer pieces end lines e d → has_unsettled d.gain.calls ≡ false
+fill_settled types c found input_end top s buffer pieces end lines e d b w =
+    rows_settled (fill_rows c found input_end) _ e d b pattern_settled w
+  where
+    late : (x : Deeds) → ThenSweep s (filler s types buffer) found.mapfile pieces end lines e x → ⊥
+    late x h = then_late s (filler s types buffer) found.mapfile pieces end lines e x (λ y of. of) b h
+
+    pattern_settled : (x : Deeds)
+        → ThenPattern (cluster_of c.options) input_end buffer
+        (Works rescue_faults (files_rows true c found top)
+        (ThenSweep s (filler s types buffer) found.mapfile pieces end lines)) e x → has_unsettled x.gain.calls ≡ false
+    pattern_settled x (IsLost lost idle) = ap has_unsettled idle.gain.calls
+    pattern_settled x (IsShort r read less unread one) = ap has_unsettled one.rest.gain.calls
+    pattern_settled x (IsRead r more read all repeated reads next) =
+        rows_settled (files_rows true c found top) _ e (with_reads x more) b (λ y h. absurd (late y h)) next
+
+generate_settled : (c : Command) (found : Found) (input_end : ℕ) (s : Setting) (pieces : List Swept) (end : RunEnd)
+    (lines : List (List ℕ)) (e : Ending) (d : Deeds) → IsBeforeSweep e
+    → Generates c found input_end s pieces end lines e d → has_unsettled d.gain.calls ≡ false
+generate_settled c found input_end s pieces end lines e d b w =
+    rows_settled (generate_rows c found input_end) _ e d b
+    (λ y h. absurd (then_late s (generator s) found.mapfile pieces end lines e y (λ x of. of) b h)) w
+
 pub refused_fill_leaves : RefusedFillLeaves
 refused_fill_leaves t types c d asks tells b =
     let p = promised_fill d asks in
-    unbegun_fill_leaves t types c d asks tells
+    let settled : has_unsettled p.did.gain.calls ≡ false =
+    fill_settled types c p.outside.found p.outside.end p.outside.top _ p.outside.buffer p.outside.pieces p.outside.swept
+    p.outside.lines
+    t.answer p.did b p.work in
+    elim (fill_leaves t types c d asks tells
     (fill_untimed types c p.outside.found p.outside.end p.outside.top _ p.outside.buffer p.outside.pieces p.outside.swept p.outside.lines t.answer
-    p.did b p.work)
+    p.did b p.work)) [
+      | inl left ↦ left
+      | inr made ↦ absurd (let no : true ≡ false = sym made.0 ∙ settled in cc)
+    ]
 
 pub refused_generate_leaves : RefusedGenerateLeaves
 refused_generate_leaves t c d asks tells b =
     let p = promised_generate d asks in
-    unbegun_generate_leaves t c d asks tells
-    (generate_untimed c p.outside.found p.outside.end _ p.outside.pieces p.outside.swept p.outside.lines t.answer p.did b p.work)
+    let settled : has_unsettled p.did.gain.calls ≡ false =
+    generate_settled c p.outside.found p.outside.end _ p.outside.pieces p.outside.swept p.outside.lines t.answer
+    p.did b p.work in
+    elim (generate_leaves t c d asks tells
+    (generate_untimed c p.outside.found p.outside.end _ p.outside.pieces p.outside.swept p.outside.lines t.answer
+    p.did b p.work)) [
+      | inl left ↦ left
+      | inr made ↦ absurd (let no : true ≡ false = sym made.0 ∙ settled in cc)
+    ]

@@ -15,7 +15,7 @@ use Rattle.rescue_rules.specs.Setting.{Setting}
 use Rattle.rescue_rules.specs.Events.{began_at}
 use Rattle.rescue_rules.specs.Snapshots.{Snapshot, text_of}
 use Rattle.rescue_rules.specs.Deeds.{saves_in}
-use Rattle.rescue_rules.specs.Stops.{has_barrier, is_settle, is_write, LeftBy}
+use Rattle.rescue_rules.specs.Stops.{has_barrier, is_settle, is_write}
 use Rattle.rescue_rules.specs.StopsBy.{is_publish, IsUnwritten, IsKeptBy, StopsBy}
 use Rattle.rescue_rules.proofs.MapfileLemmas.{opening_by}
 use Rattle.sweep_rules.specs.Sweep.{Sweeper, Sweep, Swept, filler, generator, sweep_over, after_pieces, sweep_end, deeds_of}
@@ -38,7 +38,7 @@ use Rattle.task_sweeps.specs.Pattern.{IsRepeated}
 use Rattle.task_sweeps.specs.Modes.{Fills, Generates}
 use Rattle.ddrescue_cli.specs.Ddrescue.{Ddrescue, TaskDone}
 use Rattle.ddrescue_laws.specs.ModeLaws.{DoneIsFilled, DoneIsGenerated, LeavesFilled, LeavesGenerated, HasNoPiece, IsSweptThrough, promised_fill, filling_setting, promised_generate}
-use Rattle.ddrescue_laws.proofs.DoneLemmas.{left_after, number_last, save_last}
+use Rattle.ddrescue_laws.proofs.DoneLemmas.{KeepsAtEnd, kept_at_end, number_last, save_last}
 use Rattle.ddrescue_cli.proofs.PromiseLemmas.{named_on}
 use Rattle.ddrescue_laws.proofs.ReadLemmas.{barrier_after}
 use Rattle.ddrescue_cli.proofs.SpareLemmas.{spare_append, spare_opening, spare_reads, none_written}
@@ -63,9 +63,6 @@ module _ (t : Told) (s : Setting) (w : Sweeper) (pieces : List Swept) (end : Run
   abbrev all_calls : List Call
   all_calls = whole_calls s w h.maps h.load begun pieces last
 
-  left : LeftBy (calls_before t) calls (length calls) (files_in t.after.site)
-  left = left_after t calls started grew
-
   barrier : has_barrier (take (length calls) calls) ≡ true
   barrier =
       let rest : List Call = opening_by s w.makes ++ (h.load ++ sweep_calls_of s w begun pieces last) in
@@ -77,7 +74,7 @@ module _ (t : Told) (s : Setting) (w : Sweeper) (pieces : List Swept) (end : Run
       → IsSweptThrough t s w pieces h.statuses h.state (began_at times)
   through mapfile = record { stands = h.stands; sweep = h.sweep; over = h.over; mapfile = mapfile }
 
-  module _ (promise : List Status → Option MapState → ℕ → List Status → List ℕ → Type 0) (makes : Bool)
+  module _ (promise : List ℕ → List Status → Option MapState → ℕ → List Status → List ℕ → Type 0) (makes : Bool)
       (settle : IgnoresPieces is_settle w) (publish : IgnoresPieces is_publish w)
       (stops : StopsBy (λ began shown. saves_in (deeds_of w (sweep_over w began shown (began_at times)) pieces)
       (sweep_end (has_swept_out end) (after_pieces w (sweep_over w began shown (began_at times)) pieces))) promise makes
@@ -85,9 +82,26 @@ module _ (t : Told) (s : Setting) (w : Sweeper) (pieces : List Swept) (end : Run
     abbrev saved : List Snapshot
     saved = dues_of w begun pieces
 
-    pub kept : IsKeptBy (saved ++ sweep_end (has_swept_out end) swept_out ∷ []) (promise h.statuses h.state) (calls_before t) s
-        calls h.statuses (length calls) (files_in t.after.site)
-    kept = stops.kept (length calls) (files_in t.after.site) h.statuses h.state (omega arith) left barrier h.stands
+    -- the output as it read before
+    abbrev old : List ℕ
+    old = bytes_of (files_of t s.outfile)
+
+    pub ends : KeepsAtEnd (λ began shown. saves_in (deeds_of w (sweep_over w began shown (began_at times)) pieces)
+        (sweep_end (has_swept_out end) (after_pieces w (sweep_over w began shown (began_at times)) pieces)))
+        promise makes t s
+        calls
+    ends = kept_at_end (λ began shown. saves_in (deeds_of w (sweep_over w began shown (began_at times)) pieces)
+        (sweep_end (has_swept_out end) (after_pieces w (sweep_over w began shown (began_at times)) pieces)))
+        promise makes t s
+        calls started grew barrier stops
+
+    pub kept : IsKeptBy (saved ++ sweep_end (has_swept_out end) swept_out ∷ []) (promise old h.statuses h.state)
+        (calls_before t) s calls h.statuses (length calls) (files_in t.after.site)
+    kept =
+        subst (λ (bytes : List ℕ). IsKeptBy (saved ++ sweep_end (has_swept_out end) swept_out ∷ [])
+        (promise bytes h.statuses h.state) (calls_before t) s calls h.statuses (length calls)
+        (files_in t.after.site)) ends.1
+        (ends.0.kept h.statuses h.state h.stands)
 
     pub number_is : kept.number ≡ length saved + 1
     number_is =
@@ -104,10 +118,11 @@ module _ (t : Told) (s : Setting) (w : Sweeper) (pieces : List Swept) (end : Run
         (files_in t.after.site s.names.map) kept.statuses number_is kept.is_save).1
         ∙ ap (λ (out : Bool). Some (record { bytes = text_of s.line (sweep_end out swept_out); regular = true })) h.finished
 
-    pub held : promise h.statuses h.state (length saved + 1) kept.statuses (bytes_of (files_in t.after.site s.outfile))
+    pub held : promise old h.statuses h.state (length saved + 1) kept.statuses
+        (bytes_of (files_in t.after.site s.outfile))
     held =
-        subst (λ (n : ℕ). promise h.statuses h.state n kept.statuses (bytes_of (files_in t.after.site s.outfile))) number_is
-        kept.held
+        subst (λ (n : ℕ). promise old h.statuses h.state n kept.statuses (bytes_of (files_in t.after.site s.outfile)))
+        number_is kept.held
 
 -- ---- a filling
 
@@ -138,14 +153,15 @@ module _ (t : Told) (types : TypeSet) (c : Command) (d : Ddrescue t) (p : TaskDo
   abbrev start : Sweep
   start = sweep_over w done.statuses done.state (began_at o.did.gain.times)
 
-  abbrev pledge : List Status → Option MapState → ℕ → List Status → List ℕ → Type 0
-  pledge began shown number map image =
+  abbrev pledge : List ℕ → List Status → Option MapState → ℕ → List Status → List ℕ → Type 0
+  pledge old began shown number map image =
       FillPromise s p.outside.buffer began
       (pieces_before w (sweep_over w began shown (began_at o.did.gain.times)) p.outside.pieces number) map image
 
   filled : AreFilled s p.outside.buffer p.outside.pieces (bytes_of (files_in t.after.site s.outfile))
   filled =
-      let promised : pledge done.statuses done.state (length (dues_of w start p.outside.pieces) + 1) _
+      let promised : pledge (bytes_of (files_of t s.outfile)) done.statuses done.state
+      (length (dues_of w start p.outside.pieces) + 1) _
       (bytes_of (files_in t.after.site s.outfile)) =
       held t s w p.outside.pieces p.outside.swept o.did.gain.times calls done on (d.does.keeps.site.start tells) (p.agrees.agrees.calls tells) pledge true
       (λ e. refl) (λ e. refl) (p.leaves.stops tells) in
@@ -165,10 +181,11 @@ module _ (t : Told) (types : TypeSet) (c : Command) (d : Ddrescue t) (p : TaskDo
       (spare_reads done.load (load_reads s.names.map (files_of t s.names.map) done.load done.begins)))
       (spares_filling s types p.outside.buffer start p.outside.pieces last_ y on off))) in
       let whole : take (length calls + 1) calls ≡ calls = take_all (length calls + 1) calls (omega arith) in
-      (p.leaves.stops tells).unwritten (length calls) (files_in t.after.site) y (omega arith)
-      (left_after t calls (d.does.keeps.site.start tells) (p.agrees.agrees.calls tells))
-      (barrier t s w p.outside.pieces p.outside.swept o.did.gain.times calls done on (d.does.keeps.site.start tells) (p.agrees.agrees.calls tells))
-      (subst (λ (es : List Entry). IsUnwritten es y) (sym (whole ∙ done.calls_are)) spares) low
+      let k = ends t s w p.outside.pieces p.outside.swept o.did.gain.times calls done on (d.does.keeps.site.start tells)
+      (p.agrees.agrees.calls tells) pledge true (λ e. refl) (λ e. refl) (p.leaves.stops tells) in
+      k.0.unwritten y (subst (λ (es : List Entry). IsUnwritten es y) (sym (whole ∙ done.calls_are)) spares)
+      (omega (arith, low, ap length k.1))
+      ∙ ap (λ (bytes : List ℕ). slice_get bytes y) k.1
 
   pattern : IsTrue t.before.source.tells → IsRepeated (take s.cluster t.before.source.bytes) s.cluster p.outside.buffer
   pattern told =
@@ -233,10 +250,10 @@ module _ (t : Told) (c : Command) (d : Ddrescue t) (p : TaskDone (Generate c) t)
       (spare_generating z looks p.outside.pieces last_ mapped))) in
       let calls : List Entry = a.did.gain.calls in
       let whole : take (length calls + 1) calls ≡ calls = take_all (length calls + 1) calls (omega arith) in
-      (p.leaves.stops tells).1.output (length calls) (files_in t.after.site) (omega arith)
-      (left_after t calls (d.does.keeps.site.start tells) (p.agrees.agrees.calls tells))
-      (barrier t z g p.outside.pieces p.outside.swept a.did.gain.times calls looked mapped (d.does.keeps.site.start tells) (p.agrees.agrees.calls tells))
-      (ap (list_any is_write) (whole ∙ looked.calls_are) ∙ none_written all spare)
+      let k = ends t z g p.outside.pieces p.outside.swept a.did.gain.times calls looked mapped
+      (d.does.keeps.site.start tells) (p.agrees.agrees.calls tells) _ false (λ e. refl) (λ e. refl)
+      (p.leaves.stops tells).1 in
+      k.0.output (ap (list_any is_write) (whole ∙ looked.calls_are) ∙ none_written all spare) ∙ k.1
 
   given : AreGiven z (bytes_of (files_of t z.outfile)) p.outside.pieces
   given = subst (λ (found : Found). AreGiven z (bytes_of found.output) p.outside.pieces) (p.agrees.agrees.found tells) (p.leaves.stops tells).0

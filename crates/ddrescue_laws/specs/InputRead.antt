@@ -36,7 +36,7 @@ pub record IsBeforeReads (e : Ending) : Type 0 where
 
 -- The reads are, as they are seen, those of a run over some map that reaches the input's end, without a mapfile one
 -- that wasn't tried; and gave the input's own bytes; there is none before a refusal.
--- They ask few times for a position; and where the rescue is done no pass has a request left,
+-- They ask few times for a position; and if the rescue is done no pass has a request left,
 -- and each position of the domain is left well.
 pub record HasRead (s : Setting) (test : Option (List Status)) (e : Ending) (source source' : SourceState)
     : Type 0 where

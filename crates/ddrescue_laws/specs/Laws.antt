@@ -51,12 +51,12 @@ setting_promised {t} {c} d asks = asked_of c t (outside_by d asks)
 abbrev pub done_by : {t : Told} {c : Command} → Ddrescue t → Asks t.words c → Gain
 done_by {t} {c} d asks = (outside_by d asks).did.gain
 
--- Where the files tell, what an answer before the first read leaves of them is known by the answer.
+-- If the files tell, what an answer before the first read leaves of them is known by the answer.
 abbrev pub FilesAreLeft : Type 0
 FilesAreLeft = (t : Told) (c : Command) (d : Ddrescue t) → Asks t.words c → IsTrue t.before.site.tells
     → IsLeft t.answer (names_maps c) c.outfile (files_of t) (files_in t.after.site)
 
--- Where the input tells, whatever the files do: what was read is a run, which asks few times and ends well.
+-- If the input tells, whatever the files do: what was read is a run, which asks few times and ends well.
 abbrev pub ReadsAreARun : Type 0
 ReadsAreARun = (t : Told) (c : Command) (d : Ddrescue t) (asks : Asks t.words c) → IsTrue t.before.source.tells
     → HasRead (setting_promised d asks) (outside_by d asks).maps.test t.answer t.before.source t.after.source
@@ -73,7 +73,8 @@ HoldsAtEnd =
     → IsTrue t.before.site.tells → (setting_promised d asks).has_mapfile ≡ true
     → has_barrier (done_by d asks).calls ≡ true
     → Stands (files_of t (setting_promised d asks).names.map) (setting_promised d asks).end began state
-    → IsKept (calls_before t) (setting_promised d asks) (done_by d asks) began state (length (done_by d asks).calls)
+    → IsKept (calls_before t) (setting_promised d asks) (done_by d asks)
+    (bytes_of (files_of t (setting_promised d asks).outfile)) began state (length (done_by d asks).calls)
     (files_in t.after.site)
 
 -- the state that a rescue came to over a map, and the state that its mapfile showed
@@ -101,13 +102,13 @@ pub record LeavesRescued (t : Told) (s : Setting) (g : Gain) : Type 0 where
   pub held : Held s g.reads (bytes_of (files_of t s.outfile)) (machine_reached s g statuses state).map
       (bytes_of (files_in t.after.site s.outfile))
 
--- Where the files tell, a rescue that is done leaves what `LeavesRescued` says.
+-- If the files tell, a rescue that is done leaves what `LeavesRescued` says.
 abbrev pub DoneIsSaved : Type 0
 DoneIsSaved = (t : Told) (c : Command) (d : Ddrescue t) (asks : Asks t.words c) → IsTrue t.before.site.tells
     → t.answer ≡ Done → LeavesRescued t (setting_promised d asks) (done_by d asks)
 
--- What the reads gave is the input's own, where the input tells. So what a saved map calls finished, and the reads
--- gave, is in the output as it is in the input.
+-- What the reads gave is the input's own, if the input tells. So what a saved map calls finished, and the reads gave,
+-- is in the output as it is in the input.
 abbrev pub GivenIsInput : Type 0
 GivenIsInput = (t : Told) (c : Command) (x b : ℕ) (d : Ddrescue t) (asks : Asks t.words c)
     → IsTrue t.before.source.tells
@@ -132,7 +133,7 @@ pub record IsDoneOrLimited (o : Options) (e : Ending) : Type 0 where
   pub ends : (e ≡ Done) ⊎ ((limit : Limit) × (e ≡ LimitMet limit))
   pub unlimited : o.limits ≡ no_limits → e ≡ Done
 
--- Where nothing failed, nothing is refused and memory doesn't run out, a rescue is done or met a limit, whoever tells.
+-- If nothing failed, nothing is refused and memory doesn't run out, a rescue is done or met a limit, whoever tells.
 abbrev pub IsDoneUnless : Type 0
 IsDoneUnless = (t : Told) (c : Command) (d : Ddrescue t) (asks : Asks t.words c) → NothingFailed t
     → NothingIsRefused c (outside_by d asks) → t.answer ≢ NoMemory → IsDoneOrLimited c.options t.answer

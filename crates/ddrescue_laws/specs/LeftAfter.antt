@@ -1,11 +1,13 @@
 -- What an answer before the first read leaves of the files.
 use Rattle.std.specs.Prelude.{◌≡◌, ◌≢◌, ◌⊎◌, ℕ, ◌||◌, Bool, true, List, Option, Some, None, is_some}
 use Rattle.mapfile_text.specs.declared.read.MapError.{MapError}
-use Rattle.crash_site.specs.declared.site.SiteCall.TheVariants.{MapRead}
-use Rattle.crash_site.specs.Files.{File, empty_file}
+use Rattle.crash_site.specs.declared.site.SiteCall.TheVariants.{ImageOpen, MapRead}
+use Rattle.crash_site.specs.Files.{File, empty_file, draft_of}
 use Rattle.rescue_rules.specs.declared.stop.Stop.{Stop}
+use Rattle.rescue_core.specs.RunState.{names_in}
 use Rattle.option_words.specs.declared.fault.UsageFault.TheVariants.{PlaceTooLarge}
 use Rattle.ddrescue_words.specs.Command.{Command}
+use Rattle.task_files.specs.Asked.{names_by}
 use Rattle.task_files.specs.declared.ending.Which.TheVariants.{RunMap}
 use Rattle.task_files.specs.declared.ending.Ending.{Ending}
 use Rattle.task_files.specs.declared.ending.Ending.TheVariants.{Usage, MapRefused, SiteFault}
@@ -24,10 +26,25 @@ abbrev pub made_of : Option File → Option File
 made_of None = Some empty_file
 made_of (Some f) = Some f
 
--- every file reads as it did, but that an absent output was made, empty
+-- every file reads as it did, except that an absent output was made, empty
 pub record OutputMade (outfile : List ℕ) (files files' : List ℕ → Option File) : Type 0 where
   pub output : files' outfile ≡ made_of (files outfile)
   pub others : (name : List ℕ) → name ≢ outfile → files' name ≡ files name
+
+-- every file reads as it did, but that an absent draft was made, empty
+pub record DraftMade (draftfile : List ℕ) (files files' : List ℕ → Option File) : Type 0 where
+  pub absent : files draftfile ≡ None
+  pub made : files' draftfile ≡ Some empty_file
+  pub others : (name : List ℕ) → name ≢ draftfile → files' name ≡ files name
+
+-- every file reads as it did, but that an absent output was made, empty, and then an absent draft
+abbrev pub OutputAndDraftMade : (outfile draftfile : List ℕ) → (files files' : List ℕ → Option File) → Type 0
+OutputAndDraftMade outfile draftfile files files' =
+    (between : List ℕ → Option File) × OutputMade outfile files between × DraftMade draftfile between files'
+
+-- the name of the draft of a command's mapfile
+abbrev pub draft_asked : Command → List ℕ
+draft_asked c = draft_of (names_in (names_by c)).map
 
 -- an answer that comes after the open of the output, before the first read
 abbrev pub IsAfterOutput : Ending → Type 0
@@ -37,6 +54,10 @@ IsAfterOutput e = (e ≡ Usage PlaceTooLarge) ⊎ ((error : MapError) × (e ≡ 
 abbrev pub IsMapReadFault : Ending → Type 0
 IsMapReadFault e = (earlier : Option Stop) × (e ≡ SiteFault MapRead earlier)
 
+-- an open of the output that failed
+abbrev pub IsOpenFault : Ending → Type 0
+IsOpenFault e = (earlier : Option Stop) × (e ≡ SiteFault ImageOpen earlier)
+
 -- What an answer before the first read leaves of the files as they read; other answers may leave anything.
 pub record IsLeft (e : Ending) (names_maps : Bool) (outfile : List ℕ) (files files' : List ℕ → Option File)
     : Type 0 where
@@ -44,5 +65,8 @@ pub record IsLeft (e : Ending) (names_maps : Bool) (outfile : List ℕ) (files f
   pub made : IsAfterOutput e → OutputMade outfile files files'
   pub read : IsMapReadFault e
       → OutputMade outfile files files' ⊎ ((names_maps ≡ true) × AllStand files files')
-  -- before the output is open every file stands
-  pub stand : IsBeforeReads e → (IsAfterOutput e → ⊥) → (IsMapReadFault e → ⊥) → AllStand files files'
+  -- an open that failed may have made the output
+  pub opened : IsOpenFault e → AllStand files files' ⊎ OutputMade outfile files files'
+  -- before the open of the output every file is unchanged
+  pub stand : IsBeforeReads e → (IsAfterOutput e → ⊥) → (IsMapReadFault e → ⊥) → (IsOpenFault e → ⊥)
+      → AllStand files files'

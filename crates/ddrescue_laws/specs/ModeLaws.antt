@@ -27,7 +27,7 @@ use Rattle.task_files.specs.Names.{program_name}
 use Rattle.task_files.specs.Maps.{Found}
 use Rattle.task_files.specs.Answers.{IsGenerateCall, IsRescueCall}
 use Rattle.ddrescue_laws.specs.InputRead.{IsOfOpening}
-use Rattle.ddrescue_laws.specs.LeftAfter.{AllStand, OutputMade}
+use Rattle.ddrescue_laws.specs.LeftAfter.{AllStand, OutputMade, DraftMade, OutputAndDraftMade, draft_asked}
 use Rattle.ddrescue_cli.specs.Told.{Told}
 use Rattle.ddrescue_cli.specs.Tasks.{TaskOutside, with_did}
 use Rattle.ddrescue_cli.specs.ToldParts.{asked_of, files_of}
@@ -56,14 +56,14 @@ pub record FillsUnrefused (c : Command) (o : TaskOutside) : Type 0 where
   pub pattern : RefuseNothing (fill_rows c o.found o.end)
   pub files : RefuseNothing (files_rows true c o.found o.top)
 
--- Where nothing failed, nothing is refused, the pattern came whole and memory doesn't run out, a filling is done,
--- whoever tells.
+-- If nothing failed, nothing is refused, the pattern came whole and memory doesn't run out, a filling is done, whoever
+-- tells.
 abbrev pub FillIsDoneUnless : Type 0
 FillIsDoneUnless = (t : Told) (types : TypeSet) (c : Command) (d : Ddrescue t) (asks : AskTask t.words (Fill types c))
     → NothingFailed t → FillsUnrefused c (promised_fill d asks).outside → t.answer ≢ PatternUnread
     → t.answer ≢ NoMemory → t.answer ≡ Done
 
--- Where nothing failed, nothing is refused and memory doesn't run out, a generating is done, whoever tells.
+-- If nothing failed, nothing is refused and memory doesn't run out, a generating is done, whoever tells.
 abbrev pub GenerateIsDoneUnless : Type 0
 GenerateIsDoneUnless = (t : Told) (c : Command) (d : Ddrescue t) (asks : AskTask t.words (Generate c)) → NothingFailed t
     → RefuseNothing (generate_rows c (promised_generate d asks).outside.found (promised_generate d asks).outside.end)
@@ -79,18 +79,20 @@ abbrev pub GenerateFaultsAreOfSteps : Type 0
 GenerateFaultsAreOfSteps = (t : Told) (c : Command) (d : Ddrescue t) (call : SiteCall) (earlier : Option Stop)
     → AskTask t.words (Generate c) → t.answer ≡ SiteFault call earlier → IsGenerateCall call
 
--- Where the files tell, a filling that came to no sweep leaves every file as it was, but that an absent output may be
--- made, empty.
+-- If the files tell, a filling that came to no sweep leaves every file as it was, except that an absent output may be
+-- made, empty, and then an absent draft.
 abbrev pub UnbegunFillLeaves : Type 0
 UnbegunFillLeaves = (t : Told) (types : TypeSet) (c : Command) (d : Ddrescue t) (asks : AskTask t.words (Fill types c))
     → IsTrue t.before.site.tells → (promised_fill d asks).did.gain.times ≡ []
-    → AllStand (files_of t) (files_in t.after.site) ⊎ OutputMade c.outfile (files_of t) (files_in t.after.site)
+    → (AllStand (files_of t) (files_in t.after.site) ⊎ OutputMade c.outfile (files_of t) (files_in t.after.site))
+    ⊎ OutputAndDraftMade c.outfile (draft_asked c) (files_of t) (files_in t.after.site)
 
--- Where the files tell, a generating that came to no sweep leaves every file as it was.
+-- If the files tell, a generating that came to no sweep leaves every file as it was, except that an absent draft may be
+-- made, empty.
 abbrev pub UnbegunGenerateLeaves : Type 0
 UnbegunGenerateLeaves = (t : Told) (c : Command) (d : Ddrescue t) (asks : AskTask t.words (Generate c))
     → IsTrue t.before.site.tells → (promised_generate d asks).did.gain.times ≡ []
-    → AllStand (files_of t) (files_in t.after.site)
+    → AllStand (files_of t) (files_in t.after.site) ⊎ DraftMade (draft_asked c) (files_of t) (files_in t.after.site)
 
 -- an answer that comes before a sweep: a refusal, a pattern that was lost, or a call of the opening that failed
 pub record IsBeforeSweep (e : Ending) : Type 0 where
@@ -98,14 +100,14 @@ pub record IsBeforeSweep (e : Ending) : Type 0 where
   pub room : e ≢ NoMemory
   pub call : (call : SiteCall) (earlier : Option Stop) → e ≡ SiteFault call earlier → IsOfOpening call
 
--- Where the files tell, a filling with an answer that comes before a sweep leaves every file as it was, but that an
+-- If the files tell, a filling with an answer that comes before a sweep leaves every file as it was, except that an
 -- absent output may be made, empty.
 abbrev pub RefusedFillLeaves : Type 0
 RefusedFillLeaves = (t : Told) (types : TypeSet) (c : Command) (d : Ddrescue t) → AskTask t.words (Fill types c)
     → IsTrue t.before.site.tells → IsBeforeSweep t.answer
     → AllStand (files_of t) (files_in t.after.site) ⊎ OutputMade c.outfile (files_of t) (files_in t.after.site)
 
--- Where the files tell, a generating with an answer that comes before a sweep leaves every file as it was.
+-- If the files tell, a generating with an answer that comes before a sweep leaves every file as it was.
 abbrev pub RefusedGenerateLeaves : Type 0
 RefusedGenerateLeaves = (t : Told) (c : Command) (d : Ddrescue t) → AskTask t.words (Generate c)
     → IsTrue t.before.site.tells → IsBeforeSweep t.answer → AllStand (files_of t) (files_in t.after.site)
@@ -157,7 +159,7 @@ pub record LeavesFilled (t : Told) (s : Setting) (types : TypeSet) (buffer : Lis
   pub elsewhere : (y : ℕ) → y < length (bytes_of (files_of t s.outfile)) → HasNoPiece s pieces y
       → slice_get (bytes_of (files_in t.after.site s.outfile)) y ≡ slice_get (bytes_of (files_of t s.outfile)) y
 
--- Where the files tell, a filling that is done leaves what `LeavesFilled` says.
+-- If the files tell, a filling that is done leaves what `LeavesFilled` says.
 abbrev pub DoneIsFilled : Type 0
 DoneIsFilled = (t : Told) (types : TypeSet) (c : Command) (d : Ddrescue t) (asks : AskTask t.words (Fill types c))
     → IsTrue t.before.site.tells → t.answer ≡ Done
@@ -177,7 +179,7 @@ pub record LeavesGenerated (t : Told) (s : Setting) (pieces : List Swept) : Type
       → Has statuses Finished x ⊎ ((b : ℕ) × (slice_get (bytes_of (files_of t s.outfile)) (place s x) ≡ Some b))
   pub output : bytes_of (files_in t.after.site s.outfile) ≡ bytes_of (files_of t s.outfile)
 
--- Where the files tell, a generating that is done leaves what `LeavesGenerated` says.
+-- If the files tell, a generating that is done leaves what `LeavesGenerated` says.
 abbrev pub DoneIsGenerated : Type 0
 DoneIsGenerated = (t : Told) (c : Command) (d : Ddrescue t) (asks : AskTask t.words (Generate c))
     → IsTrue t.before.site.tells → t.answer ≡ Done

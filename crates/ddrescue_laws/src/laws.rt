@@ -47,17 +47,17 @@ pub fn maps_are_there()
     ensures { MapsAreThere }
 {}
 
-/// Where nothing failed, nothing is refused and memory doesn't run out, the rescue is done.
+/// If nothing failed, nothing is refused and memory doesn't run out, the rescue is done.
 pub fn nothing_else_ends_a_rescue()
     ensures { IsDoneUnless }
 {}
 
-/// Where nothing fails and nothing is refused, the pattern comes whole and memory doesn't run out, a filling is done.
+/// If nothing fails and nothing is refused, the pattern comes whole and memory doesn't run out, a filling is done.
 pub fn a_filling_is_done_unless()
     ensures { FillIsDoneUnless }
 {}
 
-/// Where nothing fails and nothing is refused, and memory doesn't run out, a generating is done.
+/// If nothing fails and nothing is refused, and memory doesn't run out, a generating is done.
 pub fn a_generating_is_done_unless()
     ensures { GenerateIsDoneUnless }
 {}
@@ -73,7 +73,7 @@ pub fn faults_are_of_a_generating()
     ensures { GenerateFaultsAreOfSteps }
 {}
 
-/// A filling that came to no sweep leaves every file, but that an absent output may be made, empty.
+/// A filling that came to no sweep leaves every file, except that an absent output may be made, empty.
 pub fn a_filling_leaves_files_before_it_begins()
     ensures { UnbegunFillLeaves }
 {}
@@ -83,7 +83,7 @@ pub fn a_generating_leaves_files_before_it_begins()
     ensures { UnbegunGenerateLeaves }
 {}
 
-/// A filling whose answer comes before its sweep leaves every file as it was, but that an absent output may be made,
+/// A filling whose answer comes before its sweep leaves every file as it was, except that an absent output may be made,
 /// empty.
 pub fn a_refused_filling_leaves()
     ensures { RefusedFillLeaves }

@@ -156,7 +156,8 @@ record GainsLost (c : Call) (old new : List Entry) : Type 0 where
   lost : Lost c [] more
 
 lost_gains : (c : Call) (old new : List Entry) → Lost c old new → GainsLost c old new
-lost_gains c old new (inl grew) = record { more = Failed c ∷ []; grew = grew; lost = inl refl }
+lost_gains c old new (inl grew) =
+    record { more = Failed c grew.0 ∷ []; grew = grew.1; lost = inl (grew.0, refl) }
 lost_gains c old new (inr same) = record { more = []; grew = same ∙ sym (append-nil old); lost = inr refl }
 
 lost_stands : (name : List ℕ) (pos size : ℕ) (answer : Option MapRead) (start start' : Folder) (old new : List Entry)
@@ -164,8 +165,8 @@ lost_stands : (name : List ℕ) (pos size : ℕ) (answer : Option MapRead) (star
     → (after start' new).files ≡ (after start old).files
 lost_stands name pos size answer start start' old new same (inl grew) =
     ap (λ (d : Folder). (after d new).files) same
-    ∙ ap (λ (r : List Entry). (after start r).files) grew
-    ∙ ap (λ (d : Folder). d.files) (after-append start old (Failed (map_read name pos size answer) ∷ []))
+    ∙ ap (λ (r : List Entry). (after start r).files) grew.1
+    ∙ ap (λ (d : Folder). d.files) (after-append start old (Failed (map_read name pos size answer) grew.0 ∷ []))
 lost_stands name pos size answer start start' old new same (inr is) =
     ap (λ (d : Folder). (after d new).files) same ∙ ap (λ (r : List Entry). (after start r).files) is
 

@@ -4,19 +4,20 @@ use Rattle.std.specs.Str.{bytes_eq}
 use Rattle.std.proofs.lemmas.Bool.{cases_lt, cond_both}
 use Rattle.std.proofs.lemmas.Slice.Eq.{bytes_eq-Decides}
 use Rattle.block_list.specs.declared.status.Status.{Status}
-use Rattle.crash_site.specs.Files.{File}
-use Rattle.crash_site.specs.Calls.{Call, Entry, Done as Returned, map_remove}
-use Rattle.crash_site.specs.Disk.{Showing, Disk, only, or_this, at_rest, entered, disk_after}
+use Rattle.crash_site.specs.Files.{File, empty_file, draft_of}
+use Rattle.crash_site.specs.Calls.{Call, Entry, Done as Returned, map_remove, map_settle}
+use Rattle.crash_site.specs.Folder.{Folder}
+use Rattle.crash_site.specs.Disk.{Showing, Disk, only, or_this, after_part, at_rest, entered, disk_after}
 use Rattle.crash_site.specs.Left.{MayShow, Leaves, until, MayBeLeft}
 use Rattle.crash_site.specs.Along.{AlongCalls}
 use Rattle.crash_site.specs.SiteState.{SiteState}
-use Rattle.crash_site.proofs.DiskLemmas.{run-append}
-use Rattle.crash_site.proofs.LawLemmas.{found_only, own_name, until_past, until_all, left_past}
+use Rattle.crash_site.proofs.DiskLemmas.{run-append, run_reads}
+use Rattle.crash_site.proofs.LawLemmas.{found_only, own_name, put_other, until_past, until_all, left_past}
 use Rattle.crash_site.proofs.AlongLemmas.{WentOn, along_until, along_calls, made_goes, broke_goes}
 use Rattle.save_resume.specs.MapNames.{names_of}
 use Rattle.save_resume.specs.Saving.{save_calls}
-use Rattle.save_resume.specs.SaveStops.{disk_of, text_file, Old, New, IsSaved, LeftAt, CouldBefore}
-use Rattle.rescue_rules.proofs.BeforeLemmas.{or_found}
+use Rattle.save_resume.specs.SaveStops.{disk_of, text_file, Old, New, IsSaved, IsEmptyDraft, LeftAt, CouldBefore}
+use Rattle.rescue_rules.proofs.BeforeLemmas.{or_found, look_shown}
 use Rattle.work_rules.specs.Work.{IsIdle}
 use Rattle.ddrescuelog_words.specs.declared.mode.LogMode.{LogMode}
 use Rattle.ddrescuelog_words.specs.declared.mode.LogMode.TheVariants.{Change, Combine, Complete, ListBlocks, Create, Test, Compare, Summarize}
@@ -70,13 +71,15 @@ left_after site front rest calls grew reads k files left =
 
 -- ---- what a mode leaves
 
--- each file that a stop finds could be found before, or is what the mode leaves in the mapfile's place
+-- each file that a stop finds could be found before, or is what the mode leaves in the mapfile's place; and a mode that
+-- settles the mapfile may leave an empty draft
 abbrev pub EachFound : LogMode → Command → (line list : List ℕ) → Maps → SiteState → List Entry → Type 0
 EachFound mode c line list m site calls =
     (k : ℕ) (files : List ℕ → Option File) → k ≤ length calls → LeftAt site calls k files
     → (name : List ℕ) → (creates mode ≡ true → name ≢ (names_of c.mapfile).draft)
     → CouldBefore site name (files name)
-    ⊎ ((name ≡ c.mapfile) × Replaces mode c line list m (files c.mapfile))
+    ⊎ (((name ≡ c.mapfile) × Replaces mode c line list m (files c.mapfile))
+    ⊎ (IsChanging mode × IsEmptyDraft site (names_of c.mapfile).draft name (files name)))
 
 -- and after an answer that it is done, only that
 abbrev pub KeptBy : LogMode → Command → (line list : List ℕ) → Maps → SiteState → List Entry → LogEnding → Type 0
@@ -101,45 +104,62 @@ leaves_all mode c line list m site calls e reads short = record {
 -- ---- a mapfile that is removed
 
 -- what may be found while it is removed
+abbrev IsRemoved : List ℕ → (was : Disk) → (n : List ℕ) → (found : Option File) → Type 0
+IsRemoved name was n found = MayShow (was.shows n) found ⊎ (((n ≡ name) × (found ≡ None))
+    ⊎ ((n ≡ draft_of name) × (was.reads.files n ≡ None) × (found ≡ Some empty_file)))
+
 abbrev FoundRemoved : List ℕ → (was : Disk) → Disk → Type 0
-FoundRemoved name was d = (n : List ℕ) (found : Option File) → MayShow (d.shows n) found
-    → MayShow (was.shows n) found ⊎ ((n ≡ name) × (found ≡ None))
+FoundRemoved name was d =
+    (n : List ℕ) (found : Option File) → MayShow (d.shows n) found → IsRemoved name was n found
 
 -- what a disk shows under a name, by whether that is the mapfile's
 removed_shows : (name : List ℕ) (was : Disk) (d : Disk) (changed : Showing) (n : List ℕ) (found : Option File)
     → (bytes_eq n name ≡ true → MayShow changed found → MayShow (was.shows n) found ⊎ (found ≡ None))
-    → MayShow (cond (bytes_eq n name) changed (was.shows n)) found
-    → MayShow (was.shows n) found ⊎ ((n ≡ name) × (found ≡ None))
+    → MayShow (cond (bytes_eq n name) changed (was.shows n)) found → IsRemoved name was n found
 removed_shows name was d changed n found own =
-    let P : Showing → Type 0 = λ s. MayShow s found → MayShow (was.shows n) found ⊎ ((n ≡ name) × (found ≡ None)) in
+    let P : Showing → Type 0 = λ s. MayShow s found → IsRemoved name was n found in
     cond_both (bytes_eq n name) changed (was.shows n) P
-    (λ on h. elim (own on h) [ inl old ↦ inl old | inr none ↦ inr ((bytes_eq-Decides n name).0 on, none) ])
+    (λ on h. elim (own on h) [ inl old ↦ inl old | inr none ↦ inr (inl ((bytes_eq-Decides n name).0 on, none)) ])
     (λ off h. inl h)
 
-along_removal : (name : List ℕ) (was : Disk) → AlongCalls (FoundRemoved name was) was (removal_calls name)
-along_removal name was =
-    let removed : Disk = entered was (Returned (map_remove name)) in
-    let other : (n : List ℕ) (found : Option File) → MayShow (removed.shows n) found
-    → MayShow (was.shows n) found ⊎ ((n ≡ name) × (found ≡ None)) =
-    λ n found. removed_shows name was removed (or_this None (was.shows n)) n found
-    (λ on h. or_found None (was.shows n) found h) in (
-      (λ n found h. inl h),
-      other,
-      (
-        other,
-        other,
-        λ n found h.
-            let P : Showing → Type 0 = λ s. MayShow s found
-            → MayShow (was.shows n) found ⊎ ((n ≡ name) × (found ≡ None)) in
-            cond_both (bytes_eq n name) (only (removed.reads.files n)) (removed.shows n) P
-            (λ on g. inr (
-              (bytes_eq-Decides n name).0 on,
-              found_only (removed.reads.files n) found g
-                  ∙ ap (λ (b : Bool). cond b None (was.reads.files n)) on,
-            ))
-            (λ off g. other n found g) h,
-      ),
-    )
+module _ (name : List ℕ) (was : Disk) where
+  abbrev gone : Disk
+  gone = entered was (Returned (map_remove name))
+
+  -- while the name is settled, its draft is looked at
+  abbrev at_look : Disk
+  at_look = after_part (map_settle name) gone
+
+  gone_shows : FoundRemoved name was gone
+  gone_shows n found =
+      removed_shows name was gone (or_this None (was.shows n)) n found (λ on h. or_found None (was.shows n) found h)
+
+  look_shows : FoundRemoved name was at_look
+  look_shows n found h =
+      elim (look_shown (bytes_eq n (draft_of name)) (gone.reads.files n) (gone.shows n) found h) [
+        | inl old ↦ gone_shows n found old
+        | inr made ↦
+            let is : n ≡ draft_of name = (bytes_eq-Decides n (draft_of name)).0 made.0 in
+            let apart : n ≢ name = λ e. apart_draft name (sym e ∙ is) in
+            inr (inr (is, sym (put_other was.reads.files name n None apart) ∙ made.1, made.2))
+      ]
+
+  settled_shows : FoundRemoved name was (entered gone (Returned (map_settle name)))
+  settled_shows n found =
+      let P : Showing → Type 0 = λ s. MayShow s found → IsRemoved name was n found in
+      cond_both (bytes_eq n name) (only (gone.reads.files n)) (at_look.shows n) P
+      (λ on g. inr (inl (
+        (bytes_eq-Decides n name).0 on,
+        found_only (gone.reads.files n) found g ∙ ap (λ (b : Bool). cond b None (was.reads.files n)) on,
+      )))
+      (λ off g. look_shows n found g)
+
+  along_removal : AlongCalls (FoundRemoved name was) was (removal_calls name)
+  along_removal = (
+    (λ n found h. inl h),
+    (λ steps. gone_shows),
+    (gone_shows, (λ steps. look_shows), settled_shows),
+  )
 
 -- what holds along calls that were made holds at each stop of them
 found_along : (P : Disk → Type 0) (d : Disk) (calls : List Call) (rest : List Entry) (j : ℕ) → WentOn calls [] rest
@@ -168,7 +188,8 @@ removed_sure name d found h =
     let removed : Disk = entered d (Returned (map_remove name)) in
     let own : bytes_eq name name ≡ true = own_name name in
     found_only (removed.reads.files name) found
-    (subst (λ (b : Bool). MayShow (cond b (only (removed.reads.files name)) (removed.shows name)) found) own h)
+    (subst (λ (b : Bool). MayShow (cond b (only (removed.reads.files name))
+    ((after_part (map_settle name) removed).shows name)) found) own h)
     ∙ ap (λ (b : Bool). cond b None (d.reads.files name)) own
 
 module _ (c : Command) (line list : List ℕ) (m : Maps) (site : SiteState) (front rest calls : List Entry)
@@ -182,7 +203,17 @@ module _ (c : Command) (line list : List ℕ) (m : Maps) (site : SiteState) (fro
             elim (found_along (FoundRemoved c.mapfile (disk_of site)) (disk_of site) (removal_calls c.mapfile) rest j
             went (along_removal c.mapfile (disk_of site)) name (files name) (l name)) [
               | inl old ↦ inl old
-              | inr (same, none) ↦ inr (same, (done, ap files (sym same) ∙ none))
+              | inr (inl (same, none)) ↦ inr (inl (same, (done, ap files (sym same) ∙ none)))
+              | inr (inr made) ↦
+                  inr (inr (
+                    tt,
+                    (
+                      made.0,
+                      sym (ap (λ (d : Folder). d.files name) (run_reads (at_rest site.start) site.calls))
+                          ∙ made.1,
+                      made.2,
+                    ),
+                  ))
             ]
       ]
 
@@ -227,7 +258,8 @@ module _ (listed other : Status) (c : Command) (line list : List ℕ) (m : Maps)
       let ends : length (site.calls ++ calls) ≡ length ((site.calls ++ front) ++ rest) = ap length all_calls in
       let here : MayBeLeft site.start ((site.calls ++ front) ++ rest) at files =
       subst (λ (es : List Entry). MayBeLeft site.start es at files) all_calls left in
-      elim (stops_by_save (names_of c.mapfile) text site.start (site.calls ++ front) ((site.calls ++ front) ++ rest)
+      elim (stops_by_save (names_of c.mapfile) text site.start (site.calls ++ front)
+      ((site.calls ++ front) ++ rest) refl
       (save_after (names_of c.mapfile) text (site.calls ++ front) rest saved) at files (omega (arith, fronts, is))
       (omega (arith, alls, ends, le)) here name apart) [
         | Old old ↦ inl (subst (λ (d : Disk). MayShow (d.shows name) (files name)) before_save old)
@@ -243,7 +275,7 @@ module _ (listed other : Status) (c : Command) (line list : List ℕ) (m : Maps)
         | inr (j, at, l) ↦
             elim (save_found text saved k j at le files left name (apart refl)) [
               | inl old ↦ inl old
-              | inr (same, there) ↦ inr (same, (numbers, text, are, is, there))
+              | inr (same, there) ↦ inr (inl (same, (numbers, text, are, is, there)))
             ]
       ]
 
@@ -257,7 +289,7 @@ module _ (listed other : Status) (c : Command) (line list : List ℕ) (m : Maps)
       ap (λ (r : List Entry). (site.calls ++ front) ++ r) (all done) in
       let sure : IsSaved (names_of c.mapfile) text (disk_after (at_rest site.start) (site.calls ++ front))
       (disk_after (at_rest site.start) ((site.calls ++ front) ++ rest)) =
-      saved_by (names_of c.mapfile) text site.start (site.calls ++ front) ((site.calls ++ front) ++ rest) made in
+      saved_by (names_of c.mapfile) text site.start (site.calls ++ front) ((site.calls ++ front) ++ rest) refl made in
       let same : disk_after (disk_of site) calls ≡ disk_after (at_rest site.start) ((site.calls ++ front) ++ rest) =
       sym (run-append (at_rest site.start) site.calls calls) ∙ ap (disk_after (at_rest site.start)) all_calls in
       let shown : MayShow (only (Some (text_file text))) (files c.mapfile) =
@@ -412,10 +444,15 @@ stops_safely c line list found m site e calls w =
       mapfile =
           elim (l.each k files stop.within stop.left c.mapfile (λ on. apart_draft c.mapfile)) [
             | inl old ↦ inl old
-            | inr new ↦ inr new.1
+            | inr (inl new) ↦ inr new.1
+            | inr (inr made) ↦ absurd (apart_draft c.mapfile made.1.0)
           ];
       kept = λ over.
           l.kept files over.done over.changes (subst (λ (n : ℕ). LeftAt site calls n files) over.last stop.left);
       others = λ name apart draft.
-          elim (l.each k files stop.within stop.left name draft) [ inl old ↦ old | inr new ↦ absurd (apart new.0) ];
+          elim (l.each k files stop.within stop.left name draft) [
+            | inl old ↦ inl old
+            | inr (inl new) ↦ absurd (apart new.0)
+            | inr (inr made) ↦ inr made
+          ];
     }

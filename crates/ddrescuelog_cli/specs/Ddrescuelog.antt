@@ -5,6 +5,7 @@ use Rattle.crash_site.specs.SiteChanges.{Keeps as SiteKeeps}
 use Rattle.rescue_console.specs.FeedState.{FeedState, Keeps as FeedKeeps}
 use Rattle.rescue_console.specs.ConsoleState.{ConsoleState}
 use Rattle.save_resume.specs.MapNames.{names_of}
+use Rattle.save_resume.specs.SaveStops.{IsEmptyDraft}
 use Rattle.work_rules.specs.Work.{Deeds}
 use Rattle.program_promise.specs.World.{WorldState, no_clock, no_source, Told}
 use Rattle.program_promise.specs.Program.{Program}
@@ -18,7 +19,7 @@ use Rattle.ddrescuelog_cli.specs.Modes.{prints, puts_pieces}
 use Rattle.ddrescuelog_cli.specs.Outside.{Agrees, Outside}
 use Rattle.ddrescuelog_cli.specs.Results.{text_of}
 use Rattle.ddrescuelog_cli.specs.Work.{RunsAs, first_rows, log_faults}
-use Rattle.ddrescuelog_cli.specs.Stops.{StopsSafely, OnlyReads, LeavesFiles, LeavesAll}
+use Rattle.ddrescuelog_cli.specs.Stops.{IsChanging, StopsSafely, OnlyReads, LeavesFiles, LeavesAll}
 use Rattle.ddrescuelog_cli.specs.Answers.{FitsCommand, IsModeFault, TakesFeed, drafting_left, row_of}
 use Rattle.ddrescuelog_cli.specs.Printing.{PutsAs, PutsInPieces}
 
@@ -40,15 +41,19 @@ pub record LeavesAs (c : Command) (line : List ℕ) (o : Outside) (e : LogEnding
   pub takes : TakesFeed (creates c.mode) e old.feed_ new.feed_
   -- If the files tell: at whatever moment the call is stopped, the mapfile that is found is one that could be found
   -- before, or the created map, whole, or none if it was done and is to be removed. Every other file but the draft is
-  -- found as it could be before.
+  -- found as it could be before. So is the draft unless a map is created, except that -d may leave one that was absent
+  -- empty.
   pub stops : StopsSafely c line o.list o.maps old.site did.gain.calls e
   -- A mode that only reads leaves everything as it was, and so does any other if the work isn't done and no call on the
   -- files failed: the files as they read, and what a stop may find of them.
   pub stands : OnlyReads c.mode ⊎ LeavesFiles e → IsTrue old.site.tells
       → ((name : List ℕ) → files_in new.site name ≡ files_in old.site name) × LeavesAll old.site did.gain.calls
-  -- Always all files read as they did, except the mapfile and the draft of a map that is created.
+  -- Always all files read as they did, except the mapfile and the draft of a map that is created; and -d may have left an
+  -- absent draft empty.
   pub others : IsTrue old.site.tells → (name : List ℕ) → name ≢ c.mapfile
-      → (creates c.mode ≡ true → name ≢ (names_of c.mapfile).draft) → files_in new.site name ≡ files_in old.site name
+      → (creates c.mode ≡ true → name ≢ (names_of c.mapfile).draft)
+      → (files_in new.site name ≡ files_in old.site name)
+      ⊎ (IsChanging c.mode × IsEmptyDraft old.site (names_of c.mapfile).draft name (files_in new.site name))
 
 -- What stays of files and feed, also whether an image is open. A draft is left begun exactly if an append to it failed,
 -- or its sync.

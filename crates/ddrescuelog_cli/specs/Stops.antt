@@ -4,7 +4,7 @@ use Rattle.crash_site.specs.Files.{File}
 use Rattle.crash_site.specs.Calls.{Entry}
 use Rattle.crash_site.specs.SiteState.{SiteState}
 use Rattle.save_resume.specs.MapNames.{names_of}
-use Rattle.save_resume.specs.SaveStops.{text_file, LeftAt, CouldBefore}
+use Rattle.save_resume.specs.SaveStops.{text_file, IsEmptyDraft, LeftAt, CouldBefore}
 use Rattle.map_algebra.specs.Compare.{IsDoneIn}
 use Rattle.map_algebra.specs.Numbers.{numbers_in}
 use Rattle.program_promise.specs.Kinds.{AtCall, Failed}
@@ -57,9 +57,11 @@ pub record IsSafe (c : Command) (site : SiteState) (Left : Option File → Type 
   pub mapfile : CouldBefore site c.mapfile (files c.mapfile) ⊎ Left (files c.mapfile)
   -- once that is for good, only this;
   pub kept : Over → Left (files c.mapfile)
-  -- and every file but the mapfile, and the draft of a map that is created, as it could be found before.
+  -- and every file but the mapfile, and the draft of a map that is created, as it could be found before; except that -d
+  -- may leave an absent draft empty.
   pub others : (name : List ℕ) → name ≢ c.mapfile → (creates c.mode ≡ true → name ≢ (names_of c.mapfile).draft)
       → CouldBefore site name (files name)
+      ⊎ (IsChanging c.mode × IsEmptyDraft site (names_of c.mapfile).draft name (files name))
 
 -- all calls were made, and a mode that changes what is in the mapfile's place is done
 pub record IsOver (mode : LogMode) (answer : LogEnding) (calls : List Entry) (k : ℕ) : Type 0 where

@@ -88,7 +88,7 @@ module _ (c : Command) (there : Type 0) (IsText : List ℕ → Type 0) where
   open_broke : (call : SiteCall) (saved : Bool) (calls : List Entry) → saved ≡ false
       → BrokeAt call (image_open c.outfile false ∷ []) [] calls → Shape c there saved IsText calls
   open_broke call saved calls short (inl (named, inl grew)) =
-      Early short (ap (list_any is_sync) grew) (subst (GoesAlong (opening_calls c)) (sym grew) (refl, refl))
+      Early short (ap (list_any is_sync) grew.1) (subst (GoesAlong (opening_calls c)) (sym grew.1) (refl, refl))
   open_broke call saved calls short (inl (named, inr same)) = nothing saved calls short same
   open_broke call saved calls short (inr broke) = absurd broke
 
@@ -103,14 +103,14 @@ module _ (c : Command) (there : Type 0) (IsText : List ℕ → Type 0) where
       → calls ≡ Returned (image_open c.outfile false) ∷ rest
       → BrokeAt call (barrier_calls (names_of c.mapfile)) [] rest → Shape c there saved IsText calls
   barrier_broke call saved calls rest short grew (inl (named, inl settle)) =
-      let is : calls ≡ Returned (image_open c.outfile false) ∷ Failed (map_settle c.mapfile) ∷ [] =
-      grew ∙ ap (λ (r : List Entry). Returned (image_open c.outfile false) ∷ r) settle in
+      let is : calls ≡ Returned (image_open c.outfile false) ∷ Failed (map_settle c.mapfile) settle.0 ∷ [] =
+      grew ∙ ap (λ (r : List Entry). Returned (image_open c.outfile false) ∷ r) settle.1 in
       Early short (ap (list_any is_sync) is) (subst (GoesAlong (opening_calls c)) (sym is) (refl, (refl, refl)))
   barrier_broke call saved calls rest short grew (inl (named, inr same)) = only_opened saved calls rest short grew same
   barrier_broke call saved calls rest short grew (inr (inl (named, inl sync))) =
       let is : calls
-      ≡ Returned (image_open c.outfile false) ∷ Returned (map_settle c.mapfile) ∷ Failed image_sync ∷ [] =
-      grew ∙ ap (λ (r : List Entry). Returned (image_open c.outfile false) ∷ r) sync in
+      ≡ Returned (image_open c.outfile false) ∷ Returned (map_settle c.mapfile) ∷ Failed image_sync sync.0 ∷ [] =
+      grew ∙ ap (λ (r : List Entry). Returned (image_open c.outfile false) ∷ r) sync.1 in
       Early short (ap (list_any is_sync) is) (subst (GoesAlong (opening_calls c)) (sym is) (refl, (refl, (refl, refl))))
   barrier_broke call saved calls rest short grew (inr (inl (named, inr same))) =
       let is : calls ≡ Returned (image_open c.outfile false) ∷ Returned (map_settle c.mapfile) ∷ [] =
@@ -137,7 +137,7 @@ halted_reads : (halt : Halt) (p : Comparison) (from : ℕ) (reads : List Reading
     → HaltsAt halt p from reads calls → AreReads calls
 halted_reads NoRoom p from reads calls h = same_reads calls [] h.1 tt
 halted_reads InputLost p from reads calls h = same_reads calls [] h.4 tt
-halted_reads ImageFault p from reads calls (r, piece, whole, is, inl lost) = same_reads calls _ lost (refl, tt)
+halted_reads ImageFault p from reads calls (r, piece, whole, is, inl lost) = same_reads calls _ lost.1 (refl, tt)
 halted_reads ImageFault p from reads calls (r, piece, whole, is, inr same) = same_reads calls [] same tt
 
 -- a save, by what its work says

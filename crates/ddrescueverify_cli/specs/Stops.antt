@@ -4,9 +4,11 @@ use Rattle.block_list.specs.declared.status.Status.{Status}
 use Rattle.mapfile_text.specs.declared.state.MapState.{MapState}
 use Rattle.mapfile_text.specs.Printed.{printed}
 use Rattle.crash_site.specs.Files.{File, bytes_of}
+use Rattle.crash_site.specs.Disk.{lost_in}
+use Rattle.crash_site.specs.Left.{MatchesFile}
 use Rattle.crash_site.specs.SiteState.{SiteState, files_in}
 use Rattle.save_resume.specs.MapNames.{names_of}
-use Rattle.save_resume.specs.SaveStops.{text_file, LeftAt, CouldBefore}
+use Rattle.save_resume.specs.SaveStops.{disk_of, text_file, IsEmptyDraft, LeftAt, CouldBefore}
 use Rattle.rescue_rules.specs.Start.{Stands}
 use Rattle.rescue_rules.specs.Stops.{has_barrier}
 use Rattle.work_rules.specs.Work.{Deeds}
@@ -33,14 +35,14 @@ pub record IsVerifiedMap (c : Command) (line : List ℕ) (o : Outside) (site : S
 -- At whatever moment a call is stopped, between or within its calls on the files:
 pub record StopsSafely (c : Command) (line : List ℕ) (o : Outside) (did : Deeds) (site : SiteState)
     (answer : VerifyEnding) : Type 0 where
-  -- before the barrier has returned, each file could be found so before
+  -- before the barrier has returned, each file could be found so before, except that an absent draft may be there, empty
   pub before : (k : ℕ) (files : List ℕ → Option File) (name : List ℕ) → k ≤ length did.gain.calls
       → LeftAt site did.gain.calls k files → has_barrier (take k did.gain.calls) ≡ false
-      → CouldBefore site name (files name)
-  -- once the barrier has returned, the output is found as it was
+      → CouldBefore site name (files name) ⊎ IsEmptyDraft site (names_of c.mapfile).draft name (files name)
+  -- once the barrier has returned, the output is found as it was, except where it was lost before
   pub output : (k : ℕ) (files : List ℕ → Option File) → k ≤ length did.gain.calls
       → LeftAt site did.gain.calls k files → has_barrier (take k did.gain.calls) ≡ true
-      → files c.outfile ≡ files_in site c.outfile
+      → MatchesFile (files_in site c.outfile) (lost_in ((disk_of site).shows c.outfile)) (files c.outfile)
   -- once the barrier has returned, the mapfile is found as it was, or as the new one, whole
   pub mapfile : (k : ℕ) (files : List ℕ → Option File) → k ≤ length did.gain.calls
       → LeftAt site did.gain.calls k files → has_barrier (take k did.gain.calls) ≡ true

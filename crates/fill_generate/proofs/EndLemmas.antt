@@ -38,9 +38,9 @@ after : (at : SiteCall) (calls : List Call) (front back new : List Entry) → Br
     → After at calls front back new
 after at [] front back new broke = absurd broke
 after at (call ∷ calls) front back new (inl (named, inl listed)) = record {
-  rest = back ++ Failed call ∷ [];
-  is = listed ∙ append_assoc front back (Failed call ∷ []);
-  broke = inl (named, inl refl);
+  rest = back ++ Failed call listed.0 ∷ [];
+  is = listed.1 ∙ append_assoc front back (Failed call listed.0 ∷ []);
+  broke = inl (named, inl (listed.0, refl));
 }
 after at (call ∷ calls) front back new (inl (named, inr unlisted)) = record {
   rest = back;

@@ -8,7 +8,7 @@ use Rattle.mapfile_text.proofs.PieceLemmas.{in_pieces}
 use Rattle.crash_site.specs.Files.{File, empty_file, written, bytes_of}
 use Rattle.crash_site.specs.FileAnswers.{kind_of}
 use Rattle.crash_site.specs.Calls.{Call, Entry, Done, Failed, image_open, image_read, image_write, image_sync, map_read, draft_begin, draft_append, draft_sync, draft_publish, map_settle, map_remove}
-use Rattle.crash_site.specs.Disk.{Showing, Disk, only, or_this, entered, disk_after}
+use Rattle.crash_site.specs.Disk.{Showing, Disk, lost_in, only, or_this, entered, disk_after}
 use Rattle.crash_site.specs.Left.{MayShow, Leaves, until}
 use Rattle.crash_site.proofs.LawLemmas.{Sure, found_only}
 use Rattle.save_resume.specs.Saving.{save_calls}
@@ -23,7 +23,7 @@ use Rattle.rescue_rules.specs.StopsBy.{IsSave, is_publish}
 use Rattle.rescue_rules.proofs.WriteLemmas.{length-written}
 use Rattle.rescue_rules.proofs.CutLemmas.{Cut, tally, tally_is, Each, at_stop}
 use Rattle.rescue_rules.proofs.BeforeLemmas.{or_found}
-use Rattle.rescue_rules.proofs.SaveStages.{Doing, Base, StoodFile, Stood, stood_found, stood_only, Calm, calm_written, Wrote, calm_unwritten, Synced, calm_synced, Drafting, begun, unbegun, grown, ungrown, firm, Moved, published_moved, Unmoved, unpublished, moved_unmoved, Settled, moved_settled}
+use Rattle.rescue_rules.proofs.SaveStages.{Doing, Base, StoodFile, Stood, stood_found, stood_only, Calm, calm_written, Wrote, calm_unwritten, calm_unsynced, Synced, calm_synced, Drafting, begun, unbegun, grown, ungrown, firm, Moved, published_moved, Unmoved, unpublished, moved_unmoved, moved_unsettled, Settled, moved_settled}
 
 -- the save at a run's end, and all its calls
 abbrev pub last_calls : Setting → Snapshot → List Call
@@ -193,6 +193,7 @@ module _ (promise : ℕ → List ℕ → Type 0) (free : ℕ → ℕ → Type 0)
         map = record { shows = h.map.shows; reads = h.map.reads };
         output = subst (λ (v : Showing). Stood promise free (saved_base c statuses) w v) (sym h.output.shows)
             (stood_only promise free (saved_base c statuses) w c.new stood);
+        unlost = ap lost_in h.output.shows;
         reads = h.output.reads;
         sound = h.sound;
       }
@@ -206,8 +207,8 @@ module _ (promise : ℕ → List ℕ → Type 0) (free : ℕ → ℕ → Type 0)
       go d (subst (λ (t : List ℕ). Drafting promise free c w t d) (sym (append-nil got)) h)
   each_appends c ok w got d (p ∷ ps) rest three good h go = (
     synced_holds c ok c.number w d good (omega arith) h.synced,
-    synced_holds c ok c.number w (entered d (Failed (draft_append p))) good (omega arith)
-        (ungrown promise free c w got p d three h),
+    (λ steps. synced_holds c ok c.number w (entered d (Failed (draft_append p) steps)) good (omega arith)
+        (ungrown promise free c w got p d steps three h)),
     each_appends c ok w (got ++ p) (entered d (Done (draft_append p))) ps rest three good
         (grown promise free c w got p d three h)
         (λ d' h'. go d' (subst (λ (t : List ℕ). Drafting promise free c w t d') (append_assoc got p (concat ps)) h')),
@@ -225,17 +226,20 @@ module _ (promise : ℕ → List ℕ → Type 0) (free : ℕ → ℕ → Type 0)
       let h1 : Drafting promise free c w c.text d1 = firm promise free c w c.text d h in
       let h2 : Moved promise free c w d2 = published_moved promise free c w d1 three refl h1 in (
         synced_holds c ok c.number w d good (omega arith) h.synced,
-        synced_holds c ok c.number w d good (omega arith) h.synced,
+        (λ steps. synced_holds c ok c.number w d good (omega arith) h.synced),
         (
           synced_holds c ok c.number w d1 good (omega arith) h1.synced,
-          unmoved_holds c statuses (suc c.number) w (entered d1 (Failed (draft_publish c.a.s.names.map))) good next
-              (omega arith) (unpublished promise free c w d1 three refl h1),
+          (λ steps. unmoved_holds c statuses (suc c.number) w
+              (entered d1 (Failed (draft_publish c.a.s.names.map) steps)) good
+              next (omega arith) (unpublished promise free c w d1 steps three refl h1)),
           (
             unmoved_holds c statuses (suc c.number) w d2 good next (omega arith) (moved_unmoved promise free c w d2 h2),
-            unmoved_holds c statuses (suc c.number) w d2 good next (omega arith) (moved_unmoved promise free c w d2 h2),
+            (λ steps. unmoved_holds c statuses (suc c.number) w
+                (entered d2 (Failed (map_settle c.a.s.names.map) steps)) good
+                next (omega arith) (moved_unsettled promise free c w d2 steps three h2)),
             go (entered d2 (Done (map_settle c.a.s.names.map)))
                 (settled_calm c statuses w (entered d2 (Done (map_settle c.a.s.names.map))) next h2.stood
-                (moved_settled promise free c w d2 h2)),
+                (moved_settled promise free c w d2 three h2)),
           ),
         ),
       )
@@ -252,11 +256,13 @@ module _ (promise : ℕ → List ℕ → Type 0) (free : ℕ → ℕ → Type 0)
       let h1 : Synced promise free c w d1 = calm_synced promise free c ok w d three h in
       let back : List Call = draft_sync ∷ draft_publish c.a.s.names.map ∷ map_settle c.a.s.names.map ∷ [] in (
         calm_holds c ok c.number w c.new d good (omega arith) h,
-        calm_holds c ok c.number w c.new d good (omega arith) h,
+        (λ steps. wrote_holds c ok c.number w (entered d (Failed image_sync steps)) good (omega arith)
+            (calm_unsynced promise free c w c.new d steps h)),
         (
           synced_holds c ok c.number w d1 good (omega arith) h1,
-          synced_holds c ok c.number w (entered d1 (Failed (draft_begin c.a.s.names.draft))) good (omega arith)
-              (unbegun promise free c w d1 three h1),
+          (λ steps. synced_holds c ok c.number w (entered d1 (Failed (draft_begin c.a.s.names.draft) steps))
+              good (omega arith)
+              (unbegun promise free c w d1 steps three h1)),
           subst (λ (l : List Call). Each (Holds c.a) c.number c.number w d2 l)
               (sym (append_assoc (map draft_append (pieces_of c.text)) back rest))
               (each_appends c ok w [] d2 (pieces_of c.text) (back ++ rest) three good (begun promise free c w d1 three h1)
@@ -276,6 +282,7 @@ module _ (promise : ℕ → List ℕ → Type 0) (free : ℕ → ℕ → Type 0)
   recast_stood c text new w v h = record {
     file = h.file;
     loose = h.loose;
+    lost = h.lost;
     is = h.is;
     owned = h.owned;
     kept = recast_file c text new w h.file h.kept;
@@ -288,6 +295,7 @@ module _ (promise : ℕ → List ℕ → Type 0) (free : ℕ → ℕ → Type 0)
     image = h.image;
     map = h.map;
     output = recast_stood c text new w (d.shows c.a.s.outfile) h.output;
+    unlost = h.unlost;
     reads = h.reads;
     sound = h.sound;
   }
@@ -317,15 +325,15 @@ module _ (promise : ℕ → List ℕ → Type 0) (free : ℕ → ℕ → Type 0)
   each_calls c ok w now d [] rest three good at h go = go w d h
   each_calls c ok w now d (image_write pos piece ∷ calls) rest three good at h go = (
     calm_holds c ok c.number w now d good (omega arith) h,
-    wrote_holds c ok c.number (suc w) (entered d (Failed (image_write pos piece))) good (omega arith)
-        (calm_unwritten promise free c w now d pos piece three at.0 h),
+    (λ steps. wrote_holds c ok c.number (suc w) (entered d (Failed (image_write pos piece) steps)) good (omega arith)
+        (calm_unwritten promise free c w now d pos piece steps three at.0 h)),
     each_calls c ok (suc w) (record { bytes = written now.bytes pos piece; regular = now.regular })
         (entered d (Done (image_write pos piece))) calls rest three good at.1
         (calm_written promise free c w now d pos piece three at.0 h) go,
   )
   each_calls c ok w now d (image_read pos asked answer ∷ calls) rest three good at h go = (
     calm_holds c ok c.number w now d good (omega arith) h,
-    calm_holds c ok c.number w now d good (omega arith) h,
+    (λ steps. calm_holds c ok c.number w now d good (omega arith) h),
     each_calls c ok w now d calls rest three good at h go,
   )
   each_calls c ok w now d (image_open name make ∷ calls) rest three good at h go = absurd at
@@ -431,6 +439,7 @@ module _ (promise : ℕ → List ℕ → Type 0) (free : ℕ → ℕ → Type 0)
             unwritten = λ none. first_bytes;
             there = sym (ap (λ (o : Option File). kind_of o false) over.rests.reads) ∙ over.kind;
           }));
+      unlost = ap lost_in over.rests.output;
       reads = over.rests.reads;
       sound = over.rests.sound;
     }

@@ -7,16 +7,17 @@ use Rattle.std.proofs.lemmas.Bool.{cases_Bool, cond-true, cond-false}
 use Rattle.std.proofs.lemmas.Option.{same_Some}
 use Rattle.mapfile_text.specs.Pieces.{pieces_of}
 use Rattle.crash_site.specs.declared.site.MapRead.{MapRead}
-use Rattle.crash_site.specs.Files.{File, put}
+use Rattle.crash_site.specs.Files.{File, draft_of, put}
 use Rattle.crash_site.specs.Calls.{Call, Entry, Done, Failed, image_open, image_read, image_write, image_sync, map_read, draft_begin, draft_append, draft_sync, draft_publish, map_settle, map_remove}
 use Rattle.crash_site.specs.Folder.{Folder, with_piece}
-use Rattle.crash_site.specs.Disk.{Showing, Disk, only, with_opened, entered, disk_after}
+use Rattle.crash_site.specs.Disk.{Showing, Disk, lose, lose_all, in_each, synced, only, with_opened, after_part, entered, disk_after}
 use Rattle.crash_site.specs.Left.{MayShow, Leaves, until, MayBeLeft}
 use Rattle.crash_site.proofs.DiskLemmas.{same_name}
-use Rattle.crash_site.proofs.LawLemmas.{at_other, some_other, part_other}
+use Rattle.crash_site.proofs.LawLemmas.{at_other, some_other, part_other, part_reads}
 use Rattle.save_resume.specs.Saving.{save_calls}
 use Rattle.save_resume.specs.Loading.{piece_size, piece_reads}
 use Rattle.save_resume.proofs.StageLemmas.{appended_draft}
+use Rattle.save_resume.specs.MapNames.{HasOwnDraft}
 use Rattle.rescue_rules.specs.Setting.{Setting}
 use Rattle.rescue_rules.specs.Snapshots.{Snapshot, text_of}
 use Rattle.rescue_rules.specs.Deeds.{Deed, save_of, deed_calls, image_after, WritesAt, KeepsOn, KeepsUp}
@@ -34,6 +35,7 @@ pub record IsOther (s : Setting) (name : List ℕ) : Type 0 where
   pub output : name ≢ s.outfile
   pub map : name ≢ s.names.map
   pub draft : name ≢ s.names.draft
+  pub own : HasOwnDraft s.names
 
 -- a load's reads
 abbrev pub reads_of : Setting → List ℕ → ℕ → Option MapRead → List Call
@@ -84,7 +86,7 @@ aside s b d (image_read pos asked answer) name of at other = refl
 aside s b d (image_write pos piece) name of at other =
     part_other d (image_write pos piece) name (image_apart d.reads.image s.outfile name at.image (λ e. other.output (sym e)))
 aside s b d image_sync name of at other =
-    some_other d d.reads.image name (λ f v. only f)
+    some_other d d.reads.image name synced
     (image_apart d.reads.image s.outfile name at.image (λ e. other.output (sym e)))
 aside s b d (map_read n pos asked answer) name of at other = refl
 aside s b d (draft_begin n) name of at other = part_other d (draft_begin n) name (λ e. other.draft (e ∙ of))
@@ -94,22 +96,32 @@ aside s b d draft_sync name of at other = refl
 aside s b d (draft_publish n) name of at other =
     part_other d (draft_publish n) name
     (λ ch. ⊎_elim (λ e. draft_is s d.reads name (at.draft of.0) other e) (λ e. other.map (e ∙ of.1)) ch)
-aside s b d (map_settle n) name of at other = at_other d n name (λ f v. only f) (λ e. other.map (e ∙ of))
+aside s b d (map_settle n) name of at other =
+    at_other (after_part (map_settle n) d) n name (λ f v. only f) (λ e. other.map (e ∙ of))
+    ∙ part_other d (map_settle n) name (λ e. other.draft (e ∙ ap draft_of of ∙ sym other.own))
 aside s b d (map_remove n) name of at other = absurd of
 
-aside_failed : (s : Setting) (b : Bool) (d : Disk) (call : Call) (name : List ℕ) → IsOfRun s b call → AtRun s b d.reads
-    → IsOther s name → (entered d (Failed call)).shows name ≡ d.shows name
-aside_failed s b d (image_open n make) name of at other = absurd of
-aside_failed s b d (image_read pos asked answer) name of at other = refl
-aside_failed s b d (image_write pos piece) name of at other = aside s b d (image_write pos piece) name of at other
-aside_failed s b d image_sync name of at other = refl
-aside_failed s b d (map_read n pos asked answer) name of at other = refl
-aside_failed s b d (draft_begin n) name of at other = aside s b d (draft_begin n) name of at other
-aside_failed s b d (draft_append piece) name of at other = aside s b d (draft_append piece) name of at other
-aside_failed s b d draft_sync name of at other = refl
-aside_failed s b d (draft_publish n) name of at other = aside s b d (draft_publish n) name of at other
-aside_failed s b d (map_settle n) name of at other = refl
-aside_failed s b d (map_remove n) name of at other = absurd of
+aside_failed : (s : Setting) (b : Bool) (d : Disk) (call : Call) (steps : ℕ) (name : List ℕ) → IsOfRun s b call
+    → AtRun s b d.reads → IsOther s name → (entered d (Failed call steps)).shows name ≡ d.shows name
+aside_failed s b d (image_open n make) steps name of at other = absurd of
+aside_failed s b d (image_read pos asked answer) steps name of at other = refl
+aside_failed s b d (image_write pos piece) steps name of at other =
+    let mid : Disk = after_part (image_write pos piece) d in
+    some_other mid mid.reads.image name (λ f v. in_each (lose pos (length piece)) v)
+    (image_apart mid.reads.image s.outfile name (ap (λ (r : Folder). r.image)
+    (part_reads d (image_write pos piece)) ∙ at.image)
+    (λ e. other.output (sym e))) ∙ aside s b d (image_write pos piece) name of at other
+aside_failed s b d image_sync steps name of at other =
+    some_other d d.reads.image name (λ f v. in_each lose_all v)
+    (image_apart d.reads.image s.outfile name at.image (λ e. other.output (sym e)))
+aside_failed s b d (map_read n pos asked answer) steps name of at other = refl
+aside_failed s b d (draft_begin n) steps name of at other = aside s b d (draft_begin n) name of at other
+aside_failed s b d (draft_append piece) steps name of at other = aside s b d (draft_append piece) name of at other
+aside_failed s b d draft_sync steps name of at other = refl
+aside_failed s b d (draft_publish n) steps name of at other = aside s b d (draft_publish n) name of at other
+aside_failed s b d (map_settle n) steps name of at other =
+    part_other d (map_settle n) name (λ e. other.draft (e ∙ ap draft_of of ∙ sym other.own))
+aside_failed s b d (map_remove n) steps name of at other = absurd of
 
 -- the image and the draft after such a call
 pub run_image : (s : Setting) (b : Bool) (d : Disk) (call : Call) → IsOfRun s b call → AtRun s b d.reads
@@ -150,9 +162,9 @@ each_aside : (s : Setting) (b : Bool) (name : List ℕ) (v : Showing) (r p w : �
 each_aside s b name v r p w d [] of other at h = h
 each_aside s b name v r p w d (c ∷ cs) of other at h = (
   h,
-  aside_failed s b d c name of.0 at other ∙ h,
-  each_aside s (drafts c b) name v (add (is_settle (Done c)) r) (add (is_publish (Failed c)) p)
-      (add (is_write (Failed c)) w) (entered d (Done c)) cs of.1 other
+  (λ steps. aside_failed s b d c steps name of.0 at other ∙ h),
+  each_aside s (drafts c b) name v (add (is_settle (Done c)) r) (add (is_publish (Done c)) p)
+      (add (is_write (Done c)) w) (entered d (Done c)) cs of.1 other
       (record { image = run_image s b d c of.0 at; draft = λ on. run_draft s b d c of.0 at on })
       (aside s b d c name of.0 at other ∙ h),
 )
@@ -270,19 +282,24 @@ module _ (s : Setting) (makes : Bool) (deeds : List Deed) (last : Snapshot) (giv
       let h1 : (at_open s makes d).shows name ≡ v = at_other d s.outfile name (with_opened makes) other.output in
       let image : (at_settle s makes d).reads.image ≡ Some s.outfile
       = opens_image d.reads s.outfile makes (d.reads.files s.outfile) opens in
+      let looked : (after_part (map_settle s.names.map) (at_open s makes d)).shows name ≡ v
+      = part_other (at_open s makes d) (map_settle s.names.map) name (λ e. other.draft (e ∙ sym other.own)) ∙ h1 in
       let h2 : (at_settle s makes d).shows name ≡ v
-      = at_other (at_open s makes d) s.names.map name (λ f v. only f) other.map ∙ h1 in
+      = at_other (after_part (map_settle s.names.map) (at_open s makes d)) s.names.map name (λ f v. only f) other.map
+      ∙ looked in
       let h3 : (at_barrier s makes d).shows name ≡ v
-      = some_other (at_settle s makes d) (at_settle s makes d).reads.image name (λ f v. only f)
+      = some_other (at_settle s makes d) (at_settle s makes d).reads.image name synced
       (image_apart (at_settle s makes d).reads.image s.outfile name image (λ e. other.output (sym e))) ∙ h2 in (
         refl,
-        h1,
+        (λ steps. h1),
         (
           h1,
-          h1,
+          (λ steps. looked),
           (
             h2,
-            h2,
+            (λ steps. some_other (at_settle s makes d) (at_settle s makes d).reads.image name
+                (λ f v. in_each lose_all v)
+                (image_apart (at_settle s makes d).reads.image s.outfile name image (λ e. other.output (sym e))) ∙ h2),
             each_aside s false name v 1 0 0 (at_barrier s makes d) (reads_of s given at answer ++ all_calls s deeds last)
                 of other
                 (record { image = image; draft = λ off. absurd (let apart : false ≡ true = off in cc) }) h3,

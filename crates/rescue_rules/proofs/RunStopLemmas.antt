@@ -22,7 +22,7 @@ pub comes_cut : (calls : List Call) (es : List Entry) → ComesTo calls es → C
 comes_cut calls [] h = tt
 comes_cut [] (e ∷ es) h = absurd h
 comes_cut (c ∷ cs) (Done x ∷ es) h = (h.0, comes_cut cs es h.1)
-comes_cut (c ∷ cs) (Failed x ∷ es) h = (inl h.0, h.1)
+comes_cut (c ∷ cs) (Failed x steps ∷ es) h = (inl h.0, h.1)
 
 -- what a run has to keep, without its reads
 abbrev doing_of : RunPromise → Doing

@@ -49,7 +49,7 @@ tally_at_first shown time areas = record {
   first_areas = areas;
 }
 
--- a run over a map, at this time, that resumes from a mapfile's state if one is given; what a mapfile showed stands
+-- a run over a map, at this time, that resumes from a mapfile's state if one is given; what a mapfile showed stays
 -- until the first event
 abbrev pub machine_of : Setting → List Status → (from : Option MapState) → (shown : MapState) → (time : ℕ) → Machine
 machine_of s map from shown time = record {

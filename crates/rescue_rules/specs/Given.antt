@@ -2,7 +2,7 @@
 use Rattle.std.specs.Prelude.{ℕ, ◌-◌, List, [], ◌∷◌, slice_get, Option, Some, None, if◌then◌else◌}
 use Rattle.faulty_source.specs.Journal.{Reading, covers}
 
--- the later of two bytes, where there is one
+-- the later of two bytes, if there is one
 abbrev pub last_of_both : Option ℕ → Option ℕ → Option ℕ
 last_of_both (Some later) earlier = Some later
 last_of_both None earlier = earlier

@@ -1,4 +1,4 @@
--- Where a rescue stands, and what it asks for there.
+-- Where a rescue is, and what it asks for there.
 use Rattle.std.specs.Prelude.{◌≡◌, ℕ, ◌+◌, ◌-◌, ◌*◌, ◌/◌, min, max, Bool, true, false, ◌&&◌, nat_le, nat_lt, List, [], ◌∷◌, length, slice_get, slice_index_or, Option, Some, None, if◌then◌else◌}
 use Rattle.std.specs.List.{list_any, range_with_len}
 use Rattle.block_list.specs.declared.status.Status.{Status}

@@ -16,11 +16,11 @@ trimmed_again NonScraped = NonTrimmed
 trimmed_again BadSector = NonTrimmed
 trimmed_again status = status
 
--- what is made of a status where that is asked for
+-- what is made of a status if that is asked for
 abbrev pub if_asked : Bool → (Status → Status) → Status → Status
 if_asked asked change status = if asked then change status else status
 
--- a status is first tried again, then trimmed again, where that is asked for
+-- a status is first tried again, then trimmed again, if that is asked for
 abbrev pub prepared_status : (try_again retrim : Bool) → Status → Status
 prepared_status try_again retrim status = if_asked retrim trimmed_again (if_asked try_again tried_again status)
 
@@ -38,7 +38,7 @@ pub record IsChanged (domain : ℕ → Bool) (change : Status → Status) (old n
   pub size : length new ≡ length old
   pub each : (x : ℕ) (status : Status) → Has old status x → Has new (if_asked (domain x) change status) x
 
--- a position is finished in one map exactly where it is in the other
+-- a position is finished in one map exactly when it is in the other
 pub record AreFinishedAlike (a b : List Status) : Type 0 where
   pub each : (x : ℕ) → Has a Finished x ↔ Has b Finished x
 

@@ -1,4 +1,4 @@
--- How counts go on where positions are marked, and where the input is found to end.
+-- How counts go on when positions are marked, and when the input is found to end.
 -- For contracts and proofs: no promise uses it.
 use Rattle.std.specs.Prelude.{◌≡◌, ℕ, zero, suc, ◌+◌, ◌-◌, Bool, false, not, ◌||◌, nat_lt, count_by, if◌then◌else◌}
 use Rattle.std.specs.List.{range_with_len}

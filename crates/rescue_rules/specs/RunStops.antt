@@ -28,7 +28,7 @@ abbrev pub ComesTo : List Call → List Entry → Type 0
 ComesTo calls [] = ⊤
 ComesTo [] (e ∷ es) = ⊥
 ComesTo (c ∷ cs) (Done x ∷ es) = (x ≡ c) × ComesTo cs es
-ComesTo (c ∷ cs) (Failed x ∷ es) = (x ≡ c) × (es ≡ [])
+ComesTo (c ∷ cs) (Failed x steps ∷ es) = (x ≡ c) × (es ≡ [])
 
 -- what a run has to keep: its setting, the mapfile that it begins with and its map, the output's bytes and kind then,
 -- its reads, and what it saves
@@ -43,7 +43,7 @@ pub record RunPromise : Type 0 where
 
 -- The mapfile found is one that the run saved, or the one that it began with: no older than the last save that had
 -- returned, and no newer than the last that had begun to be published. The output holds what that mapfile's map
--- promises, stands until a write has begun, and is there, of the kind that it had.
+-- promises, is unchanged until a write has begun, and is there, of the kind that it had.
 pub record KeepsPromise (a : RunPromise) (returned published written : ℕ) (files : List ℕ → Option File) : Type 0 where
   pub number : ℕ
   pub no_older : returned ≤ number
@@ -63,7 +63,7 @@ pub record Rests (s : Setting) (d : Disk) : Type 0 where
   pub output : d.shows s.outfile ≡ only (Some file)
   pub sound : Leaves d d.reads.files
 
--- what a run from a state has to keep, over a disk as it reads before it, where its mapfile has this map
+-- what a run from a state has to keep, over a disk as it reads before it, if its mapfile has this map
 abbrev pub promise_of_run : Setting → (began : List Status) → Machine → List Event → Disk → RunPromise
 promise_of_run s began m events d = record {
   s = s;

@@ -20,6 +20,6 @@ abbrev pub said_after : Option Said → (current : Current) → (second : ℕ) �
 said_after said current second =
     if is_line_due said current second then Some (record { current = current; second = second }) else said
 
--- a count of bytes stands still at the end of its type
+-- a count of bytes stays at the end of its type
 abbrev pub more_written : (written more : ℕ) → ℕ
 more_written written more = min (2 ^ 64 - 1) (written + more)

@@ -13,7 +13,7 @@ pub record Setting : Type 0 where
   pub forced : Bool
   -- whether there is a mapfile; without one nothing is saved, and the output is synced at the end
   pub has_mapfile : Bool
-  -- the names of the mapfile and of its draft, which mean nothing where there is none
+  -- the names of the mapfile and of its draft, which mean nothing if there is none
   pub names : MapNames
   -- the command line, as a mapfile shows it
   pub line : List ℕ

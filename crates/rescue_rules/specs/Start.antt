@@ -8,7 +8,7 @@ use Rattle.mapfile_text.specs.declared.read.Mode.TheVariants.{Tight}
 use Rattle.mapfile_text.specs.MapText.{IsMapText, Blank}
 use Rattle.crash_site.specs.Files.{File}
 
--- nothing of the input was tried yet, and nothing says where the rescue stands
+-- nothing of the input was tried yet, and nothing says where the rescue is
 pub record IsFresh (end : ℕ) (map : List Status) (state : Option MapState) : Type 0 where
   pub map_is : map ≡ replicate end NonTried
   pub state_is : state ≡ None
@@ -28,7 +28,7 @@ pub data TextStands (text : List ℕ) (end : ℕ) (map : List Status) (state : O
   AsNone : Blank text → IsFresh end map state → TextStands text end map state
   AsMap : IsResumed text end map state → TextStands text end map state
 
--- what a mapfile stands for: its text, or an input that wasn't tried where it is absent
+-- what a mapfile stands for: its text, or an input that wasn't tried if it is absent
 abbrev pub StandsFor : Option File → (end : ℕ) → List Status → (state : Option MapState) → Type 0
 StandsFor None end map state = IsFresh end map state
 StandsFor (Some f) end map state = TextStands f.bytes end map state

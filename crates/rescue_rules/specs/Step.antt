@@ -68,7 +68,7 @@ earlier (Some other) end = min other end
 abbrev pub over_after : Machine → Reading → Option ℕ
 over_after m r = if r.ended then Some (earlier m.tally.over (r.pos + length r.given)) else m.tally.over
 
--- the kept part is finished, and of a read that failed the rest is marked; what an end cut off stands
+-- the kept part is finished, and of a read that failed the rest is marked; what an end cut off is unchanged
 abbrev pub map_after : Setting → Machine → Reading → List Status
 map_after s m r =
     let good : List Status = marked m.map r.pos (kept s.sector r) Finished in
@@ -77,7 +77,7 @@ map_after s m r =
     then scraped m.progress.mode r.pos (marked good (r.pos + kept s.sector r) rest (rest_status s m rest))
     else good
 
--- Trimming goes from a range's front to its back where a read failed and there is more of it; it stays there until
+-- Trimming goes from a range's front to its back if a read failed and there is more of it; it stays there until
 -- the range has no more or a read fails.
 abbrev pub mode_after : TrimMode → (good more : Bool) → (p q : ℕ) → TrimMode
 mode_after Lead true more p q = Lead

@@ -82,7 +82,7 @@ pub record Runs (s : Setting) (statuses : List Status) (state : Option MapState)
   pub run : IsRun s (begins s statuses state g) (events_in g)
   pub ends : Ends s (begins s statuses state g) (events_in g) spare g.calls end
 
--- the calls before a mapfile is read: the output is opened, and with a mapfile the barrier makes durable what stands
+-- the calls before a mapfile is read: the output is opened, and with a mapfile the barrier makes durable what exists
 abbrev pub opening_calls : Setting → List Call
 opening_calls s = image_open s.outfile true ∷ (if s.has_mapfile then barrier_calls s.names else [])
 

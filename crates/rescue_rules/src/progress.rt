@@ -8,7 +8,7 @@ pub struct Progress {
     pub pass: u32,
     /// Where the next search begins, except in trimming.
     pub cursor: u64,
-    /// Where trimming stands.
+    /// Where trimming is.
     pub mode: TrimMode,
     /// How far copying jumps next.
     pub skip: u64,

@@ -24,7 +24,7 @@ pub struct Said {
 /// What a line tells.
 #[derive(Clone, Copy, Debug, PartialEq, Eq)]
 pub struct Report {
-    /// Where a mapfile would show that the run stands.
+    /// Where a mapfile would show that the run is.
     pub shown: MapState,
     pub counts: Counts,
     /// How many reads failed.

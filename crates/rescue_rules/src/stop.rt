@@ -28,7 +28,7 @@ pub enum Stop {
     NoMemory,
 }
 
-/// Where trimming stands: before a range's front, or at the back of the range that begins at a position.
+/// Where trimming is: before a range's front, or at the back of the range that begins at a position.
 #[derive(Clone, Copy, Debug, PartialEq, Eq)]
 pub enum TrimMode {
     Lead,

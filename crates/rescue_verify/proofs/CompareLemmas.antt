@@ -280,7 +280,7 @@ record Halted (halt : Halt) (p : Comparison) (from : ℕ) (source source' : Sour
   record_ : IsTrue site.tells → site'.calls ≡ site.calls ++ calls
 
 lost_gains : (call : Call) (old new : List Entry) → Lost call old new → (calls : List Entry) × Lost call [] calls × (new ≡ old ++ calls)
-lost_gains call old new (inl grew) = (Failed call ∷ [], inl refl, grew)
+lost_gains call old new (inl grew) = (Failed call grew.0 ∷ [], inl (grew.0, refl), grew.1)
 lost_gains call old new (inr same) = ([], inr refl, same ∙ sym (append-nil old))
 
 broken_read : (at : SiteCall) (call : Call) (old new : List Entry) → BrokeAt at (call ∷ []) old new → Lost call old new

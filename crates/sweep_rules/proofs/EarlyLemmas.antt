@@ -1,5 +1,5 @@
 -- A sweep that ended before its first piece stops safely.
-use Rattle.std.proofs.Common.{◌≡◌, ◌≢◌, ◌⊎◌, inl, inr, ℕ, zero, suc, ◌+◌, ◌≤◌, Bool, true, false, List, [], ◌∷◌, ◌++◌, length, take, map, Option, Some, None, refl, sym, ◌∙◌, ap, subst, arith, append_assoc}
+use Rattle.std.proofs.Common.{◌≡◌, ◌≢◌, ◌⊎◌, inl, inr, ℕ, zero, suc, ◌+◌, ◌-◌, ◌≤◌, Bool, true, false, List, [], ◌∷◌, ◌++◌, length, take, drop, map, Option, Some, None, refl, sym, ◌∙◌, ap, subst, arith, append_assoc}
 use Rattle.std.proofs.Math.Numerals.{add-one}
 use Rattle.std.specs.List.{count_by}
 use Rattle.block_list.specs.declared.status.Status.{Status}
@@ -7,26 +7,28 @@ use Rattle.mapfile_text.specs.declared.state.MapState.{MapState}
 use Rattle.mapfile_text.specs.declared.state.Current.TheVariants.{Filling}
 use Rattle.crash_site.specs.declared.site.MapRead.{MapRead}
 use Rattle.crash_site.specs.declared.site.SiteCall.TheVariants.{MapRead as MapReadName}
-use Rattle.crash_site.specs.Files.{File, bytes_of}
+use Rattle.crash_site.specs.Files.{File}
 use Rattle.crash_site.specs.Calls.{Call, Entry, Done, Failed, image_open, image_sync, map_read, map_settle}
 use Rattle.crash_site.specs.CallsMade.{BrokeAt}
-use Rattle.crash_site.specs.Disk.{Showing, Disk, with_opened, entered, disk_after}
-use Rattle.crash_site.specs.Left.{MayShow, until, MayBeLeft}
+use Rattle.crash_site.specs.Disk.{Showing, Disk, with_opened, after_part, entered, disk_after}
+use Rattle.crash_site.specs.Left.{MayShow, Leaves, until, MayBeLeft}
 use Rattle.crash_site.proofs.LawLemmas.{at_other}
 use Rattle.save_resume.specs.Loading.{piece_size, piece_reads}
 use Rattle.rescue_rules.specs.Setting.{Setting}
 use Rattle.rescue_rules.specs.Start.{Stands}
 use Rattle.rescue_rules.specs.Snapshots.{Snapshot}
 use Rattle.rescue_rules.specs.Laws.{AreThreeNames}
-use Rattle.rescue_rules.specs.Stops.{Before, files_before, has_barrier, LeftBy}
-use Rattle.rescue_rules.specs.StopsBy.{is_publish, IsSave, IsKeptBy, StopsBy}
+use Rattle.rescue_rules.specs.Stops.{Before, files_before, files_after, opened_output, CouldBeOutput, has_barrier, LeftBy}
+use Rattle.rescue_rules.specs.StopsBy.{is_publish, IsSave, IsKeptBy, KeepsOver, StopsBy}
 use Rattle.rescue_rules.proofs.CutLemmas.{Cut, cut_all, cut_more, tally, tally_is, Each, at_stop}
-use Rattle.rescue_rules.proofs.BarrierLemmas.{Opens}
+use Rattle.rescue_rules.proofs.BarrierLemmas.{Opens, opened_kind}
 use Rattle.rescue_rules.proofs.MapfileLemmas.{opening_by}
 use Rattle.rescue_rules.proofs.BeforeLemmas.{disk_before, left_by, could_before}
 use Rattle.rescue_rules.proofs.DeedStages.{all_calls}
 use Rattle.rescue_rules.proofs.OthersLemmas.{reads_of, found_could}
-use Rattle.rescue_rules.proofs.StopsByLemmas.{peel, barrier_after, SafeRun, found_keeps, output_stands, map_stands, unwritten_stands, could_be_before, others_stand}
+use Rattle.rescue_rules.proofs.StopsByLemmas.{peel, barrier_after, SafeRun}
+use Rattle.rescue_rules.proofs.LostLemmas.{over_disk, could_read, read_left}
+use Rattle.rescue_rules.proofs.KeptLemmas.{tail, found_keeps, output_stands, map_stands, unwritten_stands, could_be_before, others_stand, resolved, regular_kind}
 use Rattle.rescue_rules.proofs.GoesLemmas.{broke_cut, front_cut}
 use Rattle.sweep_rules.specs.SweepOpens.{EndsEarly, InOpening, InLoad, OpensOrEnds, EndsEarlySafely}
 use Rattle.sweep_rules.proofs.EndLemmas.{opening_is}
@@ -70,8 +72,9 @@ Unpublished r p w d = p ≡ 0
 
 reads_unpublished : (name : List ℕ) (pos : ℕ) (given : List ℕ) (at : ℕ) (answer : Option MapRead) (r : ℕ) (d : Disk)
     → Each Unpublished r 0 0 d (piece_reads name pos given ++ map_read name at piece_size answer ∷ [])
-reads_unpublished name pos [] at answer r d = (refl, refl, refl)
-reads_unpublished name pos (n ∷ ns) at answer r d = (refl, refl, reads_unpublished name (pos + n) ns at answer r d)
+reads_unpublished name pos [] at answer r d = (refl, (λ steps. refl), refl)
+reads_unpublished name pos (n ∷ ns) at answer r d =
+    (refl, (λ steps. refl), reads_unpublished name (pos + n) ns at answer r d)
 
 unpublished : (s : Setting) (makes : Bool) (calls : List Entry) (d : Disk) (k : ℕ) → Early s makes calls
     → count_by is_publish (take (k + 1) calls) ≡ 0
@@ -79,7 +82,11 @@ unpublished s makes calls d k e =
     let d3 : Disk
     = entered (entered (entered d (Done (image_open s.outfile makes))) (Done (map_settle s.names.map))) (Done image_sync) in
     let each : Each Unpublished 0 0 0 d (opening_by s makes ++ reads_of s e.given e.at e.answer)
-    = (refl, refl, (refl, refl, (refl, refl, reads_unpublished s.names.map 0 e.given e.at e.answer 1 d3))) in
+    = (
+      refl,
+      (λ steps. refl),
+      (refl, (λ steps. refl), (refl, (λ steps. refl), reads_unpublished s.names.map 0 e.given e.at e.answer 1 d3)),
+    ) in
     let none : tally is_publish (take (suc k) calls) 0 ≡ 0
     = at_stop Unpublished 0 0 0 d (opening_by s makes ++ reads_of s e.given e.at e.answer) calls k each e.cut in
     ap (λ (n : ℕ). count_by is_publish (take n calls)) (add-one k) ∙ tally_is is_publish (take (suc k) calls) ∙ none
@@ -101,7 +108,8 @@ Same began n map image = map ≡ began
 abbrev Nowhere : ℕ → List Status → ℕ → Type 0
 Nowhere n map y = ⊥
 
-early_is_safe : (s : Setting) (makes : Bool) (old : List ℕ) (began : List Status) (calls : List Entry) → Early s makes calls
+abbrev early_is_safe : (s : Setting) (makes : Bool) (old : List ℕ) (began : List Status) (calls : List Entry)
+    → Early s makes calls
     → SafeRun (Same began) Nowhere makes s old began (unsaved began ∷ []) calls
 early_is_safe s makes old began calls e =
     let reads : List Call = reads_of s e.given e.at e.answer in
@@ -125,16 +133,18 @@ early_is_safe s makes old began calls e =
 -- where its output was opened
 module _ (b : Before) (s : Setting) (makes : Bool) (calls : List Entry) (three : AreThreeNames s)
     (opens : Opens makes (files_before b s.outfile)) (e : Early s makes calls) where
-  is_safe : (began : List Status)
-      → SafeRun (Same began) Nowhere makes s (bytes_of (files_before b s.outfile)) began (unsaved began ∷ []) calls
-  is_safe began = early_is_safe s makes (bytes_of (files_before b s.outfile)) began calls e
+  abbrev is_safe : (was : File) (began : List Status) → SafeRun (Same began) Nowhere makes s was.bytes began
+      (unsaved began ∷ []) calls
+  is_safe was began = early_is_safe s makes was.bytes began calls e
 
-  opened_kept : (k : ℕ) (files : List ℕ → Option File) (began : List Status) (state : Option MapState)
-      → LeftBy b calls k files → has_barrier (take k calls) ≡ true → Stands (files_before b s.names.map) s.end began state
-      → IsKeptBy [] (Same began) b s calls began k files
-  opened_kept k files began state left is stands =
-      let h = found_keeps (Same began) Nowhere makes b s began (unsaved began ∷ []) calls three opens (is_safe began) k files
-      left is in
+  opened_kept : (was : File) (k : ℕ) (files : List ℕ → Option File) (began : List Status) (state : Option MapState)
+      → has_barrier (take k calls) ≡ true
+      → Leaves (disk_after (over_disk makes b s three opens was) (until (k - 3) (drop 3 calls))) files
+      → Stands (files_before b s.names.map) s.end began state → IsKeptBy [] (Same began) b s calls began k files
+  opened_kept was k files began state is left stands =
+      let h = found_keeps (Same began) Nowhere makes b s began (unsaved began ∷ []) calls three opens was
+      (is_safe was began)
+      k files is left in
       let few : h.number ≤ 0 = omega (arith, h.no_newer, unpublished s makes calls (disk_before b) k e) in
       let none = no_number (files_before b s.names.map) began s.line (unsaved began ∷ []) h.number (files s.names.map)
       h.statuses few h.is_save in
@@ -150,36 +160,66 @@ module _ (b : Before) (s : Setting) (makes : Bool) (calls : List Entry) (three :
         held = none.2;
       }
 
-  opened_safely : StopsBy (λ began shown. []) (λ began shown number map image. map ≡ began) makes b s calls
-  opened_safely = record {
-    before = λ k files le left none. could_be_before (Same []) Nowhere makes b s [] (unsaved [] ∷ []) calls three opens
-        (is_safe []) k files left none;
-    output = λ k files le left is none. output_stands (Same []) Nowhere makes b s [] (unsaved [] ∷ []) calls three opens
-        (is_safe []) k files left is none;
-    there = λ k files le left is. (found_keeps (Same []) Nowhere makes b s [] (unsaved [] ∷ []) calls three opens
-        (is_safe []) k files left is).there;
-    mapfile = λ k files le left is none. map_stands (Same []) Nowhere makes b s [] (unsaved [] ∷ []) calls three opens
-        (is_safe []) k files left is none;
-    kept = λ k files began state le left is stands. opened_kept k files began state left is stands;
-    unwritten = λ k files y le left is none within. unwritten_stands (Same []) Nowhere makes b s [] (unsaved [] ∷ []) calls
-        three opens (is_safe []) k files y left is none within;
-    others = λ k files name le left output mapfile draft. others_stand (Same []) Nowhere makes b s [] (unsaved [] ∷ []) calls
-        three opens (is_safe []) k files name left (record { output = output; map = mapfile; draft = draft });
-  }
+  -- what it keeps over an output that could be before it
+  abbrev over : (was : File) → CouldBeOutput b s.outfile s.names.draft was → (k : ℕ) (files : List ℕ → Option File)
+      → has_barrier (take k calls) ≡ true
+      → Leaves (disk_after (over_disk makes b s three opens was) (until (k - 3) (drop 3 calls))) files
+      → KeepsOver (λ began shown. []) (λ old began shown number map image. map ≡ began) makes b s calls k files
+  over was could k files is left =
+      let p = is_safe was [] in
+      record {
+        was = was;
+        could = could;
+        output = λ none. output_stands (Same []) Nowhere makes b s [] (unsaved [] ∷ []) calls three opens
+            was p k files is
+            left none;
+        mapfile = λ none. map_stands (Same []) Nowhere makes b s [] (unsaved [] ∷ []) calls three opens was p k files is
+            left none;
+        there = (found_keeps (Same []) Nowhere makes b s [] (unsaved [] ∷ []) calls three opens was p k files is
+            left).there
+            ∙ regular_kind (opened_output (files_before b s.outfile)) was could.alike.regular
+            ∙ opened_kind makes (files_before b s.outfile) opens;
+        kept = λ began state stands. opened_kept was k files began state is left stands;
+        unwritten = λ y free_here within. unwritten_stands (Same []) Nowhere makes b s [] (unsaved [] ∷ []) calls three
+            opens was p k files is left y free_here within;
+      }
+
+  opened_safely : StopsBy (λ began shown. []) (λ old began shown number map image. map ≡ began) makes b s calls
+  opened_safely =
+      let first : File = opened_output (files_before b s.outfile) in
+      record {
+        before = λ stop none. could_be_before (Same []) Nowhere makes b s [] (unsaved [] ∷ []) calls three opens first
+            (is_safe first []) stop.k stop.files stop.left none;
+        past = λ stop is.
+            let r = resolved (Same []) Nowhere makes b s [] (unsaved [] ∷ []) calls three opens first (is_safe first [])
+            stop.k stop.files stop.left is in
+            over r.was r.could stop.k stop.files is r.left;
+        reads = λ k within is. (
+          over first (could_read makes b s three opens) k (files_after b (take k calls)) is
+              (read_left makes b s three opens (tail (Same []) Nowhere makes b s [] (unsaved [] ∷ []) calls three opens
+              first (is_safe first [])) calls k (is_safe first []).course.cut is),
+          refl,
+        );
+        others = λ stop name output mapfile draft. others_stand (Same []) Nowhere makes b s []
+            (unsaved [] ∷ []) calls three
+            opens first (is_safe first []) stop.k stop.files name stop.left
+            (record { output = output; map = mapfile; draft = draft; own = three.own });
+      }
 
 -- if it wasn't, there is no call after the open
 cut_one : (c : Call) (tail : List Call) (calls : List Entry) → length calls ≤ 1 → Cut (c ∷ tail) calls → Cut (c ∷ []) calls
 cut_one c tail [] few cut = tt
 cut_one c tail (Done x ∷ []) few cut = (cut.0, tt)
 cut_one c tail (Done x ∷ e ∷ es) few cut = absurd (omega (arith, few))
-cut_one c tail (Failed x ∷ es) few cut = cut
+cut_one c tail (Failed x steps ∷ es) few cut = cut
 
 none_left : (es : List Entry) (j : ℕ) → Cut [] es → has_barrier (take j es) ≡ true → ⊥
 none_left [] zero cut is = absurd (cc)
 none_left [] (suc j) cut is = absurd (cc)
 none_left (e ∷ es) j cut is = absurd cut
 
-module _ (b : Before) (s : Setting) (calls : List Entry) (few : length calls ≤ 1) (e : Early s false calls) where
+module _ (b : Before) (s : Setting) (three : AreThreeNames s) (calls : List Entry) (few : length calls ≤ 1)
+    (e : Early s false calls) where
   one : Cut (image_open s.outfile false ∷ []) calls
   one = cut_one (image_open s.outfile false) _ calls few e.cut
 
@@ -193,31 +233,29 @@ module _ (b : Before) (s : Setting) (calls : List Entry) (few : length calls ≤
       × (files name ≡ before name)
   unopened_others k files name left output =
       let d : Disk = disk_before b in
-      let stays : (entered d (Failed (image_open s.outfile false))).shows name ≡ d.shows name
+      let stays : (after_part (image_open s.outfile false) d).shows name ≡ d.shows name
       = at_other d s.outfile name (with_opened false) output in
       let same : (disk_after d (until k calls)).shows name ≡ d.shows name
       = at_stop (λ r p w d'. d'.shows name ≡ d.shows name) 0 0 0 d (image_open s.outfile false ∷ []) calls k
-      (refl, stays, stays) one in
+      (refl, (λ steps. stays), stays) one in
       found_could b name files
       (subst (λ (v : Showing). MayShow v (files name)) same (left_by b calls k files left name))
 
-  unopened_safely : StopsBy (λ began shown. []) (λ began shown number map image. map ≡ began) false b s calls
+  unopened_safely : StopsBy (λ began shown. []) (λ old began shown number map image. map ≡ began) false b s calls
   unopened_safely = record {
-    before = λ k files le left none. could_before b s false (reads_of s e.given e.at e.answer) calls k files e.cut none
-        (left_by b calls k files left);
-    output = λ k files le left is none. absurd (no_barrier k is);
-    there = λ k files le left is. absurd (no_barrier k is);
-    mapfile = λ k files le left is none. absurd (no_barrier k is);
-    kept = λ k files began state le left is stands. absurd (no_barrier k is);
-    unwritten = λ k files y le left is none within. absurd (no_barrier k is);
-    others = λ k files name le left output mapfile draft. unopened_others k files name left output;
+    before = λ stop none. could_before b s false (reads_of s e.given e.at e.answer) calls stop.k stop.files
+        three e.cut none
+        (left_by b calls stop.k stop.files stop.left);
+    past = λ stop is. absurd (no_barrier stop.k is);
+    reads = λ k within is. absurd (no_barrier k is);
+    others = λ stop name output mapfile draft. unopened_others stop.k stop.files name stop.left output;
   }
 
 early_by : (b : Before) (s : Setting) (makes : Bool) (file : Option File) (calls : List Entry) → AreThreeNames s
     → files_before b s.outfile ≡ file → OpensOrEnds makes file calls → Early s makes calls
-    → StopsBy (λ began shown. []) (λ began shown number map image. map ≡ began) makes b s calls
+    → StopsBy (λ began shown. []) (λ old began shown number map image. map ≡ began) makes b s calls
 early_by b s true file calls three is opens e = opened_safely b s true calls three tt e
-early_by b s false None calls three is opens e = unopened_safely b s calls opens e
+early_by b s false None calls three is opens e = unopened_safely b s three calls opens e
 early_by b s false (Some f) calls three is opens e =
     opened_safely b s false calls three (subst (λ (o : Option File). Opens false o) (sym is) tt) e
 

@@ -4,7 +4,7 @@ use Rattle.std.specs.List.{flat_map}
 use Rattle.std.proofs.lemmas.Grind.{flat_map-append}
 use Rattle.block_list.specs.declared.status.Status.{Status}
 use Rattle.mapfile_text.specs.declared.state.MapState.{MapState}
-use Rattle.crash_site.specs.Files.{bytes_of}
+use Rattle.crash_site.specs.Files.{File}
 use Rattle.crash_site.specs.Calls.{Call, Entry, Done, image_open}
 use Rattle.save_resume.specs.Resuming.{barrier_calls}
 use Rattle.rescue_rules.specs.declared.stop.Stop.{Stop}
@@ -17,7 +17,7 @@ use Rattle.rescue_rules.specs.RunCalls.{closing_calls}
 use Rattle.rescue_rules.specs.Work.{Gain, end_of}
 use Rattle.rescue_rules.specs.Laws.{AreThreeNames, AreTimes}
 use Rattle.rescue_rules.specs.Deeds.{Deed, deed_calls, save_of, doing_calls, some_save, saves_in}
-use Rattle.rescue_rules.specs.Stops.{Before, files_before}
+use Rattle.rescue_rules.specs.Stops.{Before, files_before, CouldBeOutput}
 use Rattle.rescue_rules.specs.StopsBy.{StopsBy}
 use Rattle.rescue_rules.proofs.CutLemmas.{Cut, cut_all, cut_more}
 use Rattle.rescue_rules.proofs.BarrierLemmas.{Opens}
@@ -25,7 +25,8 @@ use Rattle.rescue_rules.proofs.MapfileLemmas.{opening_by}
 use Rattle.rescue_rules.proofs.StandsLemmas.{stands_for_one, stands_small}
 use Rattle.rescue_rules.proofs.SnapshotLemmas.{IsReadable}
 use Rattle.rescue_rules.proofs.DeedStages.{last_calls, all_calls, doing_is}
-use Rattle.rescue_rules.proofs.StopsByLemmas.{CutOf, SafeRun, OneMap, stops_by}
+use Rattle.rescue_rules.proofs.StopsByLemmas.{CutOf, SafeRun, OneMap}
+use Rattle.rescue_rules.proofs.KeptLemmas.{stops_by}
 use Rattle.rescue_rules.proofs.GoesLemmas.{broke_cut, past_load}
 use Rattle.rescue_rules.proofs.StopsLemmas.{first_small}
 use Rattle.sweep_rules.specs.Sweep.{Sweeper, Sweep, Swept, IsPiece, after_piece, after_pieces, due_save, sweep_end, deeds_of}
@@ -174,13 +175,14 @@ module _ (b : Before) (s : Setting) (w : Sweeper) (g : Gain) (statuses : List St
       (stands_small (files_before b s.names.map) s.end statuses state low o.stands))))
 
   -- a sweep that is a safe run stops safely
-  pub sweep_stops_by : (promise : List Status → Option MapState → ℕ → List Status → List ℕ → Type 0)
+  pub sweep_stops_by : (promise : List ℕ → List Status → Option MapState → ℕ → List Status → List ℕ → Type 0)
       (free : List Status → Option MapState → ℕ → List Status → ℕ → Type 0)
       → ((map : List Status) (e : Swept) → length (w.marks map e) ≡ length map) → AreThreeNames s → s.end < 2 ^ 63
       → AreTimes g.times → Opens w.makes (files_before b s.outfile)
-      → SafeRun (promise statuses state) (free statuses state) w.makes s (bytes_of (files_before b s.outfile)) statuses
-      (sweep_saves w statuses state g o.sweeps.events o.end) g.calls
+      → ((was : File) → CouldBeOutput b s.outfile s.names.draft was
+      → SafeRun (promise was.bytes statuses state) (free statuses state) w.makes s was.bytes statuses
+      (sweep_saves w statuses state g o.sweeps.events o.end) g.calls)
       → StopsBy (λ began shown. sweep_saves w began shown g o.sweeps.events o.end) promise w.makes b s g.calls
   sweep_stops_by promise free sizes three low times opens is_safe =
       stops_by (λ began shown. sweep_saves w began shown g o.sweeps.events o.end) promise free w.makes b s g.calls three
-      opens (OneMap statuses state o.stands is_safe) (saves_readable sizes low times)
+      opens (λ was could. OneMap statuses state o.stands (is_safe was could)) (saves_readable sizes low times)

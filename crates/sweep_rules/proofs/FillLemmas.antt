@@ -6,12 +6,11 @@ use Rattle.std.proofs.lemmas.List.Elements.{All-append, All-nil, All-cons, All-h
 use Rattle.std.proofs.lemmas.Option.{slice_get-get_or, slice_get_within}
 use Rattle.block_list.specs.declared.status.Status.{Status}
 use Rattle.block_list.specs.declared.types.TypeSet.{TypeSet}
-use Rattle.crash_site.specs.Files.{File, written, bytes_of}
+use Rattle.crash_site.specs.Files.{File, written}
 use Rattle.crash_site.specs.Left.{IsLoose, Matches}
 use Rattle.rescue_rules.specs.Setting.{Setting, IsSensible, place}
 use Rattle.rescue_rules.specs.Snapshots.{Snapshot}
 use Rattle.rescue_rules.specs.Deeds.{Deed, Outlasts}
-use Rattle.rescue_rules.specs.Stops.{files_before}
 use Rattle.rescue_rules.proofs.WriteLemmas.{written_inside, written_outside}
 use Rattle.rescue_rules.proofs.MarkLemmas.{slice_get-take}
 use Rattle.rescue_rules.proofs.HoldLemmas.{loose_same}
@@ -247,32 +246,33 @@ fills_safely b s types buffer g statuses state ok on three low times size o =
     let m : Sweep = first b s w g statuses state on o in
     let t = tailed b s w g statuses state on o in
     let last : Snapshot = last_of b s w g statuses state on o in
-    let old : List ℕ = bytes_of (files_before b s.outfile) in
     let pieces : ℕ → List Swept = pieces_before w m es in
     let none : pieces 0 ≡ [] = none_before w m es in
-    let nothing : AreFilled s buffer [] old = All-nil (HoldsPiece s buffer old) in
     sweep_stops_by b s w g statuses state on o
-    (λ began shown n map image. FillPromise s buffer began (pieces_before w (sweep_begins w began shown g) es n) map image)
+    (λ old began shown n map image. FillPromise s buffer began
+    (pieces_before w (sweep_begins w began shown g) es n) map image)
     (λ began shown n map y. All (IsOff s y) (pieces_before w (sweep_begins w began shown g) es n))
     (λ map e. refl) three low times tt
-    (record {
+    (λ was could. record {
       deeds = deeds_of w m es ++ t.tail;
       last = last;
       saves_are = saves_tailed s w (after_pieces w m es) (deeds_of w m es) t.tail last t.is_tail;
-      outlasts = fill_outlasts s types buffer ok size statuses pieces (sweep_saves w statuses state g es o.end) old
+      outlasts = fill_outlasts s types buffer ok size statuses pieces
+          (sweep_saves w statuses state g es o.end) was.bytes
           (λ n. before_all (λ (e : Swept). e.len ≤ length buffer) w es m n
           (pieces_few s types buffer ok size m es o.sweeps.run));
       first = record {
         same = refl;
-        filled = subst (λ (l : List Swept). AreFilled s buffer l old) (sym none) nothing;
+        filled = subst (λ (l : List Swept). AreFilled s buffer l was.bytes) (sym none)
+            (All-nil (HoldsPiece s buffer was.bytes));
       };
-      keeps = fill_keeps s types buffer ok size statuses pieces es [] 0 statuses m old t.tail last o.sweeps.run
+      keeps = fill_keeps s types buffer ok size statuses pieces es [] 0 statuses m was.bytes t.tail last o.sweeps.run
           (record {
             kept = refl;
             low = All-nil (IsBelow s types buffer ok size m.cursor);
             saved = subst (λ (l : List Swept). All (IsBelow s types buffer ok size m.cursor) l) (sym none)
                 (All-nil (IsBelow s types buffer ok size m.cursor));
-            holds = nothing;
+            holds = All-nil (HoldsPiece s buffer was.bytes);
             goes = λ k j at. ap pieces (let e : k ≡ suc j = omega (arith, at) in e);
           })
           t.is_tail (end_map _ (after_pieces w m es));

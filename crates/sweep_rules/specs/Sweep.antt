@@ -71,7 +71,7 @@ part_of sector e x =
     range_with_len (max e.pos (floor sector x))
     (min (e.pos + e.len) (floor sector x + sector) - max e.pos (floor sector x))
 
--- A position of a piece is generated where the output gave a byte for it, and for some position of its sector part one
+-- A position of a piece is generated if the output gave a byte for it, and for some position of its sector part one
 -- other than zero.
 abbrev pub is_generated : Setting → Swept → ℕ → Bool
 is_generated s e x =
@@ -90,7 +90,7 @@ generator s = record {
   starves = true;
 }
 
--- where a sweep stands: its map, the position from which it looks for its next piece, and what it has come to
+-- where a sweep is: its map, the position from which it looks for its next piece, and what it has come to
 pub record Sweep : Type 0 where
   pub map : List Status
   pub cursor : ℕ

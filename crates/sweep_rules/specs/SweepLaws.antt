@@ -17,7 +17,7 @@ abbrev pub PieceIsOne : Type 0
 PieceIsOne = (s : Setting) (w : Sweeper) (m : Sweep) (p q p' q' : ℕ) → IsPiece s w m p q → IsPiece s w m p' q'
     → (p ≡ p') × (q ≡ q')
 
--- law: a filled map stands
+-- law: a filling leaves its map as it is
 abbrev pub FilledMapStands : Type 0
 FilledMapStands = (s : Setting) (types : TypeSet) (buffer : List ℕ) (m : Sweep) (es : List Swept)
     → (after_pieces (filler s types buffer) m es).map ≡ m.map

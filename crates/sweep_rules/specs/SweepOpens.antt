@@ -33,4 +33,4 @@ OpensOrEnds false (Some f) calls = ⊤
 abbrev pub EndsEarlySafely : Type 0
 EndsEarlySafely = (b : Before) (s : Setting) (makes : Bool) (calls : List Entry) → s.has_mapfile ≡ true
     → AreThreeNames s → OpensOrEnds makes (files_before b s.outfile) calls → EndsEarly s makes (files_before b) calls
-    → StopsBy (λ began shown. []) (λ began shown number map image. map ≡ began) makes b s calls
+    → StopsBy (λ began shown. []) (λ old began shown number map image. map ≡ began) makes b s calls

@@ -40,7 +40,7 @@ pub record FillPromise (s : Setting) (buffer : List ℕ) (began : List Status) (
   pub filled : AreFilled s buffer before image
 
 -- What a mapfile promises in generate mode: what its map calls finished was finished in the map that the sweep began
--- with, or has a byte in the output; and the output's old bytes stand.
+-- with, or has a byte in the output; and the output's old bytes stay.
 pub record GeneratePromise (s : Setting) (old : List ℕ) (began map : List Status) (image : List ℕ) : Type 0 where
   pub held : (x : ℕ) → Has map Rescued x → Has began Rescued x ⊎ ((b : ℕ) × (slice_get image (place s x) ≡ Some b))
   pub stands : (y : ℕ) → y < length old → slice_get image y ≡ slice_get old y
@@ -75,7 +75,7 @@ FillsSafely = (b : Before) (s : Setting) (types : TypeSet) (buffer : List ℕ) (
     → AreTimes g.times → length buffer ≡ s.cluster
     → (o : SweepsOver s (filler s types buffer) b statuses state g)
     → StopsBy (λ began shown. sweep_saves (filler s types buffer) began shown g o.sweeps.events o.end)
-    (λ began shown number map image. FillPromise s buffer began
+    (λ old began shown number map image. FillPromise s buffer began
     (pieces_before (filler s types buffer) (sweep_begins (filler s types buffer) began shown g) o.sweeps.events number)
     map image) true b s g.calls
 
@@ -88,5 +88,5 @@ GeneratesSafely = (b : Before) (s : Setting) (g : Gain) (statuses : List Status)
     → (o : SweepsOver s (generator s) b statuses state g)
     → AreGiven s (bytes_of (files_before b s.outfile)) o.sweeps.events
     → StopsBy (λ began shown. sweep_saves (generator s) began shown g o.sweeps.events o.end)
-    (λ began shown number map image. GeneratePromise s (bytes_of (files_before b s.outfile)) began map image)
+    (λ old began shown number map image. GeneratePromise s old began map image)
     false b s g.calls

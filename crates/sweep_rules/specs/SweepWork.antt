@@ -34,7 +34,7 @@ SweepEndsBy (Some NoMemory) s w m = (w.starves ≡ true) × ((p : ℕ) × (q : �
 abbrev pub sweep_calls : Setting → Sweeper → Sweep → List Swept → List Call
 sweep_calls s w m es = flat_map (deed_calls s) (deeds_of w m es)
 
--- a piece's call where it failed
+-- a piece's call if it failed
 abbrev pub lost_call : Sweeper → (p q : ℕ) → Call
 lost_call w p q = unanswered (w.call (record { pos = p; len = q - p; got = []; after = 0 }))
 
@@ -96,7 +96,7 @@ pub record Sweeps (s : Setting) (w : Sweeper) (statuses : List Status) (state : 
   pub run : IsSweep s w (sweep_begins w statuses state g) events
   pub ends : SweepEnds s w (sweep_begins w statuses state g) events g.calls end
 
--- the calls before the mapfile is read: the output is opened, made or not where it is absent, and the barrier makes
--- durable what stands
+-- the calls before the mapfile is read: the output is opened, made or not if it is absent, and the barrier makes
+-- durable what is there
 abbrev pub sweep_opening : Setting → (makes : Bool) → List Call
 sweep_opening s makes = image_open s.outfile makes ∷ (if s.has_mapfile then barrier_calls s.names else [])

@@ -3,7 +3,7 @@ use Rattle.std.proofs.Common.{◌≡◌, ◌≢◌, ℕ, true, List, Option, Som
 use Rattle.std.specs.Prelude.{option_map}
 use Rattle.std.specs.Str.{bytes_eq}
 use Rattle.std.proofs.lemmas.Bool.{cond_both}
-use Rattle.save_resume.specs.MapNames.{MapNames, names_of}
+use Rattle.save_resume.specs.MapNames.{MapNames, names_of, HasOwnDraft}
 use Rattle.rescue_rules.specs.Laws.{AreThreeNames}
 use Rattle.rescue_core.specs.RunState.{names_in}
 use Rattle.ddrescue_words.specs.Command.{Command, Task}
@@ -35,6 +35,7 @@ record AreThree (outfile : List ℕ) (names : MapNames) : Type 0 where
   map : outfile ≢ names.map
   draft : outfile ≢ names.draft
   apart : names.map ≢ names.draft
+  own : HasOwnDraft names
 
 three_by : (outfile : List ℕ) (mapfile : Option (List ℕ)) → is_some (option_map names_of mapfile) ≡ true
     → AreNamedApart outfile (option_map names_of mapfile) → AreThree outfile (names_in (option_map names_of mapfile))
@@ -43,6 +44,7 @@ three_by outfile (Some name) on apart = record {
   map = ne_of outfile name apart.0;
   draft = ne_of outfile (names_of name).draft apart.1;
   apart = apart_draft name;
+  own = refl;
 }
 
 pub three_names : (c : Command) (line : List ℕ) (end : ℕ) (maps : Maps) → (setting_of c line end maps).has_mapfile ≡ true
@@ -50,7 +52,7 @@ pub three_names : (c : Command) (line : List ℕ) (end : ℕ) (maps : Maps) → 
 three_names c line end maps on different =
     let three : AreThree c.outfile (names_in (names_by c)) =
     three_by c.outfile c.mapfile on (apart_of c.infile c.outfile (names_by c) different) in
-    record { map = three.map; draft = three.draft; apart = three.apart }
+    record { map = three.map; draft = three.draft; apart = three.apart; own = three.own }
 
 -- no two files have one name
 pub names_pass : (c : Command) → first_same_with_optional_map c.infile c.outfile (names_by c) ≡ None → (e : Ending)

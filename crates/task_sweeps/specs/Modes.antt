@@ -3,14 +3,14 @@ use Rattle.std.specs.Prelude.{◌≡◌, ◌⊎◌, ℕ, true, false, List, [], 
 use Rattle.block_list.specs.declared.status.Status.{Status}
 use Rattle.block_list.specs.declared.types.TypeSet.{TypeSet}
 use Rattle.mapfile_text.specs.declared.state.MapState.{MapState}
-use Rattle.crash_site.specs.Files.{File, bytes_of}
+use Rattle.crash_site.specs.Files.{File}
 use Rattle.save_resume.specs.Named.{map_mode}
 use Rattle.rescue_rules.specs.declared.stop.RunEnd.{RunEnd}
 use Rattle.rescue_rules.specs.Setting.{Setting}
 use Rattle.rescue_rules.specs.Start.{Stands}
 use Rattle.rescue_rules.specs.Lines.{opening_lines}
 use Rattle.rescue_rules.specs.Work.{Gain}
-use Rattle.rescue_rules.specs.Stops.{Before, files_before}
+use Rattle.rescue_rules.specs.Stops.{Before}
 use Rattle.rescue_rules.specs.StopsBy.{StopsBy}
 use Rattle.sweep_rules.specs.Sweep.{Sweeper, Swept, filler, generator}
 use Rattle.sweep_rules.specs.SweepWork.{Sweeps, sweep_begins, sweep_lines}
@@ -110,7 +110,7 @@ abbrev pub FillStops : Before → Setting → (types : TypeSet) → (buffer : Li
 FillStops b s types buffer pieces end g =
     let w = filler s types buffer in
     StopsBy (λ began shown. sweep_saves w began shown g pieces end)
-    (λ began shown number map image. FillPromise s buffer began
+    (λ old began shown number map image. FillPromise s buffer began
     (pieces_before w (sweep_begins w began shown g) pieces number) map image) true b s g.calls
 
 -- At whatever moment a generating is stopped, what the mapfile found calls finished was so when it began, or has a byte
@@ -118,5 +118,4 @@ FillStops b s types buffer pieces end g =
 abbrev pub GenerateStops : Before → Setting → List Swept → RunEnd → Gain → Type 0
 GenerateStops b s pieces end g =
     StopsBy (λ began shown. sweep_saves (generator s) began shown g pieces end)
-    (λ began shown number map image. GeneratePromise s (bytes_of (files_before b s.outfile)) began map image)
-    false b s g.calls
+    (λ old began shown number map image. GeneratePromise s old began map image) false b s g.calls

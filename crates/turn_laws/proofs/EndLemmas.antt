@@ -6,12 +6,13 @@ use Rattle.std.proofs.lemmas.Grind.{flat_map-append}
 use Rattle.std.proofs.lemmas.List.{map-append}
 use Rattle.fault_count.specs.Schedule.{no_schedule}
 use Rattle.crash_site.specs.Calls.{Call, Entry, Done, image_sync}
-use Rattle.crash_site.specs.Disk.{Disk, only, at_rest, disk_after}
+use Rattle.crash_site.specs.Disk.{Disk, synced, at_rest, disk_after}
 use Rattle.crash_site.specs.Folder.{Folder}
 use Rattle.crash_site.specs.SiteState.{SiteState}
 use Rattle.crash_site.specs.SiteChanges.{Keeps}
 use Rattle.crash_site.proofs.DiskLemmas.{run-append}
-use Rattle.crash_site.proofs.LawLemmas.{sure_synced}
+use Rattle.crash_site.proofs.LawLemmas.{shows_synced}
+use Rattle.save_resume.specs.MapNames.{HasOwnDraft}
 use Rattle.save_resume.specs.Saving.{save_calls}
 use Rattle.save_resume.specs.SaveStops.{disk_of, IsSaved}
 use Rattle.save_resume.proofs.FillLemmas.{keeps_more}
@@ -68,10 +69,10 @@ made_over start calls = record {
 }
 
 -- what the calls of a close leave
-saved_by : (s : Setting) (p : Snapshot) (start : Folder) (calls : List Entry)
+saved_by : (s : Setting) (p : Snapshot) (start : Folder) (calls : List Entry) → HasOwnDraft s.names
     → IsSaved s.names (text_of s.line p) (disk_after (at_rest start) calls)
     (disk_after (at_rest start) (calls ++ map Done (save_calls s.names (text_of s.line p))))
-saved_by s p start calls =
+saved_by s p start calls own =
     let made : List Call = save_calls s.names (text_of s.line p) in
     saved_where_ok s.names (text_of s.line p) (Ok true) (made_over start calls)
     (made_over start (calls ++ map Done made))
@@ -83,7 +84,7 @@ saved_by s p start calls =
       image = refl;
       draft = refl;
       draft_left = tt;
-    }) refl
+    }) refl own
 
 last_saved : (s : Setting) (p : Snapshot) (start : Folder) (calls : List Entry) (now : Disk)
     → now ≡ disk_after (at_rest start) (calls ++ map Done (closing_calls s p))
@@ -93,10 +94,12 @@ last_saved s p start calls now is =
     let made : List Call = save_calls s.names (text_of s.line p) in
     let at : Bool → Disk = λ b. disk_after (at_rest start) (calls ++ map Done (if b then made else image_sync ∷ [])) in
     record {
-      mapfile = λ on. subst (IsSaved s.names (text_of s.line p) was) (sym (is ∙ ap at on)) (saved_by s p start calls);
-      output = λ off image open_. subst (λ (d : Disk). d.shows image ≡ only (was.reads.files image))
+      mapfile = λ on own.
+          subst (IsSaved s.names (text_of s.line p) was) (sym (is ∙ ap at on)) (saved_by s p start calls own);
+      output = λ off image open_.
+          subst (λ (d : Disk). d.shows image ≡ synced (was.reads.files image) (was.shows image))
           (sym (is ∙ ap at off ∙ run-append (at_rest start) calls (Done image_sync ∷ [])))
-          (sure_synced was was.reads.image image open_);
+          (shows_synced was was.reads.image image open_);
     }
 
 -- what they leave after those of a run

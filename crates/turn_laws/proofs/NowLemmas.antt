@@ -29,7 +29,8 @@ use Rattle.turn_laws.specs.NowLaws.{IsMapped, RestIsSafeNow}
 -- what holds before each of these calls, after it if it failed, and after them all
 abbrev pub EachStop : (Disk → Type 0) → Disk → List Call → Type 0
 EachStop P d [] = P d
-EachStop P d (c ∷ cs) = P d × P (entered d (Failed c)) × EachStop P (entered d (Done c)) cs
+EachStop P d (c ∷ cs) =
+    P d × ((steps : ℕ) → P (entered d (Failed c steps))) × EachStop P (entered d (Done c)) cs
 
 pub each_first : (P : Disk → Type 0) (d : Disk) (cs : List Call) → EachStop P d cs → P d
 each_first P d [] h = h
@@ -48,13 +49,13 @@ pub each_to : (P Q : Disk → Type 0) (d : Disk) (cs : List Call) → ((e : Disk
     → EachStop Q d cs
 each_to P Q d [] go h = go d h
 each_to P Q d (c ∷ cs) go h =
-    (go d h.0, go (entered d (Failed c)) h.1, each_to P Q (entered d (Done c)) cs go h.2)
+    (go d h.0, (λ steps. go (entered d (Failed c steps)) (h.1 steps)), each_to P Q (entered d (Done c)) cs go h.2)
 
-one_failed : (P : Disk → Type 0) (d : Disk) (x : Call) (k : ℕ) → P (entered d (Failed x))
-    → P (disk_after d (until k (Failed x ∷ [])))
-one_failed P d x zero h = h
-one_failed P d x (suc zero) h = h
-one_failed P d x (suc (suc k)) h = h
+one_failed : (P : Disk → Type 0) (d : Disk) (x : Call) (steps k : ℕ) → P (entered d (Failed x steps))
+    → P (disk_after d (until k (Failed x steps ∷ [])))
+one_failed P d x steps zero h = h
+one_failed P d x steps (suc zero) h = h
+one_failed P d x steps (suc (suc k)) h = h
 
 -- so it holds at each stop within them,
 pub each_stop : (P : Disk → Type 0) (d : Disk) (cs : List Call) (es : List Entry) (k : ℕ) → EachStop P d cs
@@ -63,13 +64,13 @@ each_stop P d cs [] zero h comes = each_first P d cs h
 each_stop P d cs [] (suc k) h comes = each_first P d cs h
 each_stop P d [] (e ∷ es) k h comes = absurd comes
 each_stop P d (c ∷ cs) (Done x ∷ es) zero h comes =
-    subst (λ (z : Call). P (entered d (Failed z))) (sym comes.0) h.1
+    subst (λ (z : Call). P (entered d (Failed z 0))) (sym comes.0) (h.1 0)
 each_stop P d (c ∷ cs) (Done x ∷ es) (suc k) h comes =
     subst (λ (z : Call). P (disk_after (entered d (Done z)) (until k es))) (sym comes.0)
     (each_stop P (entered d (Done c)) cs es k h.2 comes.1)
-each_stop P d (c ∷ cs) (Failed x ∷ es) k h comes =
-    subst (λ (l : List Entry). P (disk_after d (until k (Failed x ∷ l)))) (sym comes.1)
-    (one_failed P d x k (subst (λ (z : Call). P (entered d (Failed z))) (sym comes.0) h.1))
+each_stop P d (c ∷ cs) (Failed x steps ∷ es) k h comes =
+    subst (λ (l : List Entry). P (disk_after d (until k (Failed x steps ∷ l)))) (sym comes.1)
+    (one_failed P d x steps k (subst (λ (z : Call). P (entered d (Failed z steps))) (sym comes.0) (h.1 steps)))
 
 -- and after as many of them as were made
 pub each_made : (P : Disk → Type 0) (d : Disk) (cs : List Call) (es : List Entry) → EachStop P d cs → ComesTo cs es
@@ -79,9 +80,9 @@ each_made P d [] (e ∷ es) h comes = absurd comes
 each_made P d (c ∷ cs) (Done x ∷ es) h comes =
     subst (λ (z : Call). P (disk_after (entered d (Done z)) es)) (sym comes.0)
     (each_made P (entered d (Done c)) cs es h.2 comes.1)
-each_made P d (c ∷ cs) (Failed x ∷ es) h comes =
-    subst (λ (l : List Entry). P (disk_after d (Failed x ∷ l))) (sym comes.1)
-    (subst (λ (z : Call). P (entered d (Failed z))) (sym comes.0) h.1)
+each_made P d (c ∷ cs) (Failed x steps ∷ es) h comes =
+    subst (λ (l : List Entry). P (disk_after d (Failed x steps ∷ l))) (sym comes.1)
+    (subst (λ (z : Call). P (entered d (Failed z steps))) (sym comes.0) (h.1 steps))
 
 -- a run that is safe stays so while its output and its mapfile stand
 pub stands_by : (s : Setting) (start : List ℕ) (reads : List Reading) (m : Machine) (d e : Disk)
@@ -92,19 +93,35 @@ stands_by s start reads m d e image shows reads_as maps n = record {
   image = image ∙ n.image;
   synced = n.synced;
   loose = n.loose;
+  lost = n.lost;
   shows = shows ∙ n.shows;
   now = n.now;
   reads_as = reads_as ∙ n.reads_as;
   longer = n.longer;
   current = n.current;
+  unlost = n.unlost;
   maps = λ mapfile may. n.maps mapfile (subst (λ (v : Showing). MayShow v mapfile) maps may);
 }
 
+-- What is shown of a run's output and mapfile, whatever is lost of the output.
+pub record Shown (s : Setting) (start : List ℕ) (reads : List Reading) (m : Machine) (d : Disk) : Type 0 where
+  pub synced : File
+  pub loose : List (ℕ × ℕ)
+  pub lost : List (ℕ × ℕ)
+  pub shows : d.shows s.outfile ≡ one_version synced loose lost
+  pub maps : (mapfile : Option File) → MayShow (d.shows s.names.map) mapfile
+      → IsBacked s start reads m.map synced.bytes loose mapfile
+
+safe_shown : (s : Setting) (start : List ℕ) (reads : List Reading) (m : Machine) (d : Disk)
+    → IsSafeNow s start reads m d → Shown s start reads m d
+safe_shown s start reads m d n =
+    record { synced = n.synced; loose = n.loose; lost = n.lost; shows = n.shows; maps = n.maps }
+
 -- what is found of an output of which ranges are loose
-found_file : (f : File) (loose : List (ℕ × ℕ)) (found : Option File) → MayShow (one_version f loose) found
+found_file : (f : File) (loose lost : List (ℕ × ℕ)) (found : Option File) → MayShow (one_version f loose lost) found
     → (g : File) × (found ≡ Some g) × Matches f loose g
-found_file f loose None may = absurd (never_none f loose may)
-found_file f loose (Some g) may = (g, refl, shown_matches f loose g may)
+found_file f loose lost None may = absurd (never_none f loose lost may)
+found_file f loose lost (Some g) may = (g, refl, shown_matches f loose lost g may)
 
 within_old : (xs ys : List ℕ) (i : ℕ) → slice_get xs i ≡ slice_get ys i → i < length ys → i < length xs
 within_old xs ys i same old = slice_get_within xs i (get_or ys i 0) (same ∙ slice_get-get_or ys i 0 old)
@@ -116,34 +133,50 @@ held_apart : (s : Setting) (start : List ℕ) (reads : List Reading) (now : List
 held_apart s start reads now f g loose mapfile b m = record {
   rescued = λ x byte inside is gave.
       let here : slice_get f.bytes (place s x) ≡ Some byte = b.held.rescued x byte inside is gave in
-      loose_same f loose g (place s x) m (b.firm x inside is) (slice_get_within f.bytes (place s x) byte here) ∙ here;
+      loose_same f loose g (place s x) m (b.clear.firm x inside is) (slice_get_within f.bytes (place s x) byte here)
+      ∙ here;
   stood = λ x inside is none old.
       let here : slice_get f.bytes (place s x) ≡ slice_get start (place s x) = b.held.stood x inside is none old in
-      loose_same f loose g (place s x) m (b.firm x inside is) (within_old f.bytes start (place s x) here old) ∙ here;
+      loose_same f loose g (place s x) m (b.clear.firm x inside is) (within_old f.bytes start (place s x) here old)
+      ∙ here;
   outside = λ y old apart.
       let here : slice_get f.bytes y ≡ slice_get start y = b.held.outside y old apart in
-      loose_same f loose g y m (b.outside y old apart) (within_old f.bytes start y here old) ∙ here;
+      loose_same f loose g y m (b.clear.outside y old apart) (within_old f.bytes start y here old) ∙ here;
 }
 
--- what is found of a safe run, by the reads that it goes on to make
-pub found_of : (s : Setting) (start : List ℕ) (reads : List Reading) (m : Machine) (d : Disk) (es : List Event)
-    (files : List ℕ → Option File) → IsMapped s m → IsSafeNow s start reads m d → IsRun s m es → Leaves d files
+-- what is found of a run so shown is held
+pub shown_held : (s : Setting) (start : List ℕ) (reads : List Reading) (m : Machine) (d : Disk)
+    (files : List ℕ → Option File) (n : Shown s start reads m d) → Leaves d files
+    → (b : IsBacked s start reads m.map n.synced.bytes n.loose (files s.names.map))
+    → Held s reads start b.map (bytes_of (files s.outfile))
+shown_held s start reads m d files n leaves b =
+    let f : (g : File) × (files s.outfile ≡ Some g) × Matches n.synced n.loose g
+    = found_file n.synced n.loose n.lost (files s.outfile)
+    (subst (λ (v : Showing). MayShow v (files s.outfile)) n.shows (leaves s.outfile)) in
+    subst (λ (i : List ℕ). Held s reads start b.map i) (sym (ap bytes_of f.1))
+    (held_apart s start reads m.map n.synced f.0 n.loose (files s.names.map) b f.2)
+
+-- so it is by the reads that it goes on to make
+pub shown_found : (s : Setting) (start : List ℕ) (reads : List Reading) (m : Machine) (d : Disk) (es : List Event)
+    (files : List ℕ → Option File) → IsMapped s m → Shown s start reads m d → IsRun s m es → Leaves d files
     → IsHeldIn s start (reads ++ reads_of es) files
-found_of s start reads m d es files by n run leaves =
+shown_found s start reads m d es files by n run leaves =
     let b : IsBacked s start reads m.map n.synced.bytes n.loose (files s.names.map)
     = n.maps (files s.names.map) (leaves s.names.map) in
-    let f : (g : File) × (files s.outfile ≡ Some g) × Matches n.synced n.loose g
-    = found_file n.synced n.loose (files s.outfile)
-    (subst (λ (v : Showing). MayShow v (files s.outfile)) n.shows (leaves s.outfile)) in
-    let here : Held s reads start b.map f.0.bytes
-    = held_apart s start reads m.map n.synced f.0 n.loose (files s.names.map) b f.2 in
     record {
       map = b.map;
       has = b.has;
       held = held_more s reads (reads_of es) start b.map (bytes_of (files s.outfile))
           (λ x inside is. (finished_stands s m es x by.sensible by.order run (b.fewer x inside is)).0)
-          (subst (λ (i : List ℕ). Held s reads start b.map i) (sym (ap bytes_of f.1)) here);
+          (shown_held s start reads m d files n leaves b);
     }
+
+-- so it is of a safe run
+pub found_of : (s : Setting) (start : List ℕ) (reads : List Reading) (m : Machine) (d : Disk) (es : List Event)
+    (files : List ℕ → Option File) → IsMapped s m → IsSafeNow s start reads m d → IsRun s m es → Leaves d files
+    → IsHeldIn s start (reads ++ reads_of es) files
+found_of s start reads m d es files by n run leaves =
+    shown_found s start reads m d es files by (safe_shown s start reads m d n) run leaves
 
 -- a map promises no more than one that finishes more
 pub held_fewer : (s : Setting) (reads : List Reading) (start : List ℕ) (less more : List Status) (image : List ℕ)
@@ -163,11 +196,13 @@ rest_is_safe_now s began state m d alike rests stands =
       image = rests.image;
       synced = rests.file;
       loose = [];
+      lost = [];
       shows = rests.output;
       now = rests.file;
       reads_as = rests.reads;
       longer = omega (arith, ap length bytes);
       current = subst (λ (i : List ℕ). Held s [] start m.map i) (sym bytes) (held_at_first s m.map start);
+      unlost = record { firm = λ x inside has off. off; outside = λ y old apart off. off };
       maps = λ mapfile may.
           let is : mapfile ≡ d.reads.files s.names.map
           = found_only (d.reads.files s.names.map) mapfile
@@ -177,7 +212,6 @@ rest_is_safe_now s began state m d alike rests stands =
             has = Read state (subst (λ (f : Option File). Stands f s.end began state) (sym is) stands);
             fewer = λ x inside has. (alike.each x).0 has;
             held = subst (λ (i : List ℕ). Held s [] start began i) (sym bytes) (held_at_first s began start);
-            firm = λ x inside has off. off;
-            outside = λ y old apart off. off;
+            clear = record { firm = λ x inside has off. off; outside = λ y old apart off. off };
           };
     }

@@ -8,7 +8,6 @@ use Rattle.crash_site.specs.Calls.{Call, Entry, Done, Failed}
 use Rattle.crash_site.specs.CallsMade.{BrokeAt}
 use Rattle.crash_site.specs.Disk.{Disk, entered, disk_after}
 use Rattle.crash_site.specs.SiteState.{SiteState}
-use Rattle.crash_site.proofs.DiskLemmas.{run-append}
 use Rattle.save_resume.specs.SaveStops.{disk_of}
 use Rattle.save_resume.specs.Saving.{save_calls}
 use Rattle.transfer_token.specs.declared.token.Request.{Request}
@@ -28,14 +27,13 @@ use Rattle.rescue_core.specs.Across.{Across}
 use Rattle.rescue_core.specs.RunState.{RunState, names_in, setting_in}
 use Rattle.rescue_core.specs.Turning.{IsEvent, move_by, Halted, Starved, Lost, Unwritten, Limited, Unsaved}
 use Rattle.copy_passes.proofs.AlikeLemmas.{run_alike}
-use Rattle.turn_laws.specs.SafeNow.{IsBacked, IsSafeNow}
+use Rattle.turn_laws.specs.SafeNow.{IsClear, IsBacked, IsSafeNow}
 use Rattle.turn_laws.specs.Laws.{IsTurnOf, reads_by}
-use Rattle.turn_laws.specs.NowLaws.{IsMapped, TurnStaysSafeNow, HaltedStaysSafeNow, PhaseStaysSafeNow, StoppedStaysSafeNow}
+use Rattle.turn_laws.specs.NowLaws.{StaysSafeNow, IsMapped, TurnStaysSafeNow, HaltedStaysSafeNow, PhaseStaysSafeNow, StoppedStaysSafeNow}
 use Rattle.turn_laws.proofs.SiteLemmas.{Grew, broke_grew, grown_disk}
 use Rattle.turn_laws.proofs.TurnLemmas.{TurnRun, turn_run}
 use Rattle.turn_laws.proofs.PhaseLemmas.{TurnsRun, turns_run}
-use Rattle.turn_laws.proofs.NowLemmas.{each_made}
-use Rattle.turn_laws.proofs.NowSaves.{each_save}
+use Rattle.turn_laws.proofs.NowSaves.{SafeAfter, safe_after, after_more, site_safe}
 use Rattle.turn_laws.proofs.NowRuns.{run_one, write_of, failed_write, read_now, wrote_now, mapped_next, run_stays_safe_now}
 
 -- safety as the files stand depends on a state's map alone
@@ -45,11 +43,13 @@ same_map s start reads m n d same h = record {
   image = h.image;
   synced = h.synced;
   loose = h.loose;
+  lost = h.lost;
   shows = h.shows;
   now = h.now;
   reads_as = h.reads_as;
   longer = h.longer;
   current = subst (λ (t : List Status). Held s reads start t h.now.bytes) (sym same) h.current;
+  unlost = subst (λ (t : List Status). IsClear s start t h.lost) (sym same) h.unlost;
   maps = λ mapfile may. subst (λ (t : List Status). IsBacked s start reads t h.synced.bytes h.loose mapfile) (sym same)
       (h.maps mapfile may);
 }
@@ -58,7 +58,7 @@ same_map s start reads m n d same h = record {
 data Left (request : Request) (r r' : RunState) (o : Across) (own : List Reading) (more : List Entry) : Type 0 where
   Still : own ≡ [] → r'.machine ≡ r.machine → more ≡ [] → Left request r r' o own more
   Unwrote : (e : Event) → own ≡ e.reading ∷ [] → IsEvent request e o.source o.source' o.clock o.clock'
-      → r'.machine ≡ r.machine → (more ≡ []) ⊎ (more ≡ Failed (write_of (setting_in r) e) ∷ [])
+      → r'.machine ≡ r.machine → (more ≡ []) ⊎ ((steps : ℕ) × (more ≡ Failed (write_of (setting_in r) e) steps ∷ []))
       → Left request r r' o own more
   Wrote : (e : Event) → own ≡ e.reading ∷ [] → IsEvent request e o.source o.source' o.clock o.clock'
       → r'.machine ≡ step (setting_in r) r.machine e → (saving : List Entry)
@@ -73,7 +73,8 @@ record HasLeft (request : Request) (r r' : RunState) (o : Across) (own : List Re
 
 -- a write that broke
 unwrote : (none : Bool) (at : SiteCall) (c : Call) (old new : List Entry)
-    → BrokeAt at (if none then [] else c ∷ []) old new → (new ≡ old) ⊎ (new ≡ old ++ Failed c ∷ [])
+    → BrokeAt at (if none then [] else c ∷ []) old new
+    → (new ≡ old) ⊎ ((steps : ℕ) × (new ≡ old ++ Failed c steps ∷ []))
 unwrote true at c old new h = absurd h
 unwrote false at c old new (inl (name, inl is)) = inr is
 unwrote false at c old new (inl (name, inr is)) = inl is
@@ -100,10 +101,10 @@ has_left request stop r r' o (Unwritten is same e read names breaks console) tel
       grew = none ∙ sym (append-nil o.site.calls);
       left = Unwrote e refl read by (inl refl);
     })
-    (λ (one : o.site'.calls ≡ o.site.calls ++ Failed (write_of n e) ∷ []). record {
-      more = Failed (write_of n e) ∷ [];
-      grew = one;
-      left = Unwrote e refl read by (inr refl);
+    (λ (one : (steps : ℕ) × (o.site'.calls ≡ o.site.calls ++ Failed (write_of n e) steps ∷ [])). record {
+      more = Failed (write_of n e) one.0 ∷ [];
+      grew = one.1;
+      left = Unwrote e refl read by (inr (one.0, refl));
     })
     (unwrote (nat_eq (kept n.sector e.reading) 0) ImageWrite (write_of n e) o.site.calls o.site'.calls (breaks.broke tells))
 has_left request stop r r' o (Limited limit is e read steps met makes says) tells =
@@ -156,26 +157,26 @@ module _ (s : Setting) (start : List ℕ) (reads : List Reading) (request : Requ
   write_calls_are e = ap (λ (x : Setting). write_calls x e.reading) h.setting
 
   left_safe : (own : List Reading) (more : List Entry) → Left request r r' o own more
-      → IsSafeNow s start (reads ++ own) r'.machine (disk_after d more)
+      → SafeAfter s start (reads ++ own) r'.machine d more
   left_safe own more (Still none same is) =
-      subst (λ (es : List Entry). IsSafeNow s start (reads ++ own) r'.machine (disk_after d es)) (sym is)
+      inl (subst (λ (es : List Entry). IsSafeNow s start (reads ++ own) r'.machine (disk_after d es)) (sym is)
       (subst (λ (rs : List Reading). IsSafeNow s start rs r'.machine d)
       (sym (append-nil reads) ∙ ap (λ (rs : List Reading). reads ++ rs) (sym none))
-      (same_map s start reads m r'.machine d (ap (λ (k : Machine). k.map) same ∙ map_is) n))
+      (same_map s start reads m r'.machine d (ap (λ (k : Machine). k.map) same ∙ map_is) n)))
   left_safe own more (Unwrote e one read same (inl is)) =
-      subst (λ (es : List Entry). IsSafeNow s start (reads ++ own) r'.machine (disk_after d es)) (sym is)
+      inl (subst (λ (es : List Entry). IsSafeNow s start (reads ++ own) r'.machine (disk_after d es)) (sym is)
       (subst (λ (rs : List Reading). IsSafeNow s start (reads ++ rs) r'.machine d) (sym one)
       (same_map s start (reads ++ e.reading ∷ []) m r'.machine d (ap (λ (k : Machine). k.map) same ∙ map_is)
-      (read_now s start reads m d e by (from_here e read) n)))
-  left_safe own more (Unwrote e one read same (inr is)) =
-      let c : Call = write_of s e in
+      (read_now s start reads m d e by (from_here e read) n))))
+  left_safe own more (Unwrote e one read same (inr failed)) =
+      let steps : ℕ = failed.0 in
       let run : IsRun s m (e ∷ []) = from_here e read in
-      let at : Disk = entered d (Failed c) in
-      subst (λ (es : List Entry). IsSafeNow s start (reads ++ own) r'.machine (disk_after d es))
-      (sym (is ∙ ap (λ (x : Setting). Failed (write_of x e) ∷ []) h.setting))
+      let at : Disk = entered d (Failed (write_of s e) steps) in
+      inl (subst (λ (es : List Entry). IsSafeNow s start (reads ++ own) r'.machine (disk_after d es))
+      (sym (failed.1 ∙ ap (λ (x : Setting). Failed (write_of x e) steps ∷ []) h.setting))
       (subst (λ (rs : List Reading). IsSafeNow s start (reads ++ rs) r'.machine at) (sym one)
       (same_map s start (reads ++ e.reading ∷ []) m r'.machine at (ap (λ (k : Machine). k.map) same ∙ map_is)
-      (read_now s start reads m at e by run (failed_write s start reads m d e by run n))))
+      (read_now s start reads m at e by run (failed_write s start reads m d e steps by run n)))))
   left_safe own more (Wrote e one read steps saving is comes) =
       let run : IsRun s m (e ∷ []) = from_here e read in
       let k : Machine = (move_of s m e).after in
@@ -188,21 +189,19 @@ module _ (s : Setting) (start : List ℕ) (reads : List Reading) (request : Requ
       = subst (λ (j : Machine). ComesTo (save_calls s.names (text_of s.line (snapshot_of j))) saving) (sym came)
       (subst (λ (x : Setting). ComesTo (save_calls x.names (text_of x.line (snapshot_of r'.machine))) saving)
       h.setting comes) in
-      let now : IsSafeNow s start all k (disk_after to saving)
-      = each_made (λ l. IsSafeNow s start all k l) to save saving
-      (each_save s start all k (snapshot_of k) to by.names refl (wrote_now s start reads m d e by run n)) comes' in
-      subst (λ (es : List Entry). IsSafeNow s start (reads ++ own) r'.machine (disk_after d es))
+      let now : SafeAfter s start all k to saving
+      = safe_after s start all k (snapshot_of k) to saving by.names refl
+      (wrote_now s start reads m d e by run n) comes' in
+      subst (λ (es : List Entry). SafeAfter s start (reads ++ own) r'.machine d es)
       (sym (is ∙ ap (λ (cs : List Call). map Done cs ++ saving) (write_calls_are e)))
-      (subst (λ (rs : List Reading). IsSafeNow s start (reads ++ rs) r'.machine (disk_after d (writes ++ saving)))
-      (sym one)
-      (subst (λ (j : Machine). IsSafeNow s start all j (disk_after d (writes ++ saving))) came
-      (subst (λ (l : Disk). IsSafeNow s start all k l) (sym (run-append d writes saving)) now)))
+      (subst (λ (rs : List Reading). SafeAfter s start (reads ++ rs) r'.machine d (writes ++ saving)) (sym one)
+      (subst (λ (j : Machine). SafeAfter s start all j d (writes ++ saving)) came
+      (after_more s start all k d writes saving now)))
 
 pub halted_stays_safe_now : HaltedStaysSafeNow
 halted_stays_safe_now s start reads request stop r r' o by h t n =
     let l : HasLeft request r r' o (reads_by t) = has_left request stop r r' o t h.tells in
-    subst (λ (d : Disk). IsSafeNow s start (reads ++ reads_by t) r'.machine d)
-    (sym (grown_disk o.site o.site' l.more h.tells h.keeps l.grew))
+    site_safe s start (reads ++ reads_by t) r'.machine o.site o.site' l.more h.tells h.keeps l.grew
     (left_safe s start reads request r r' o r.machine (disk_of o.site) by refl refl
     (turn_apart s request r o h.setting h.asks h.within h.tells) n (reads_by t) l.more l.left)
 
@@ -253,11 +252,11 @@ stopped_stays_safe_now s start reads stop r r' o by setting tells keeps w n =
     let l : HasLeft w.request q r' p own = has_left w.request stop q r' p w.halted (subst IsTrue (sym w.site_tells) tells) in
     let all : o.site'.calls ≡ o.site.calls ++ (made ++ l.more)
     = l.grew ∙ ap (λ (c : List Entry). c ++ l.more) t.calls ∙ append_assoc o.site.calls made l.more in
-    let now : IsSafeNow s start ((reads ++ reads_of es) ++ own) r'.machine (disk_after d l.more)
+    let now : SafeAfter s start ((reads ++ reads_of es) ++ own) r'.machine d l.more
     = left_safe s start (reads ++ reads_of es) w.request q r' p to d (mapped_run s r.machine es by t.run)
     (sym t.alike.next) t.alike.map
     (turn_apart s w.request q p t.setting w.asks w.within (subst IsTrue (sym w.site_tells) tells))
     (run_stays_safe_now s start reads r.machine (disk_of o.site) es by n t.run) own l.more l.left in
-    subst (λ (rs : List Reading). IsSafeNow s start rs r'.machine (disk_of o.site')) (append_assoc reads (reads_of es) own)
-    (subst (λ (x : Disk). IsSafeNow s start ((reads ++ reads_of es) ++ own) r'.machine x)
-    (sym (grown_disk o.site o.site' (made ++ l.more) tells keeps all ∙ run-append (disk_of o.site) made l.more)) now)
+    subst (λ (rs : List Reading). StaysSafeNow s start rs r'.machine o.site') (append_assoc reads (reads_of es) own)
+    (site_safe s start ((reads ++ reads_of es) ++ own) r'.machine o.site o.site' (made ++ l.more) tells keeps all
+    (after_more s start ((reads ++ reads_of es) ++ own) r'.machine (disk_of o.site) made l.more now))

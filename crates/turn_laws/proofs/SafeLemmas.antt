@@ -39,7 +39,7 @@ comes_more [] more [] h = tt
 comes_more [] more (e ∷ es) h = absurd h
 comes_more (c ∷ cs) more [] h = tt
 comes_more (c ∷ cs) more (Done x ∷ es) h = (h.0, comes_more cs more es h.1)
-comes_more (c ∷ cs) more (Failed x ∷ es) h = h
+comes_more (c ∷ cs) more (Failed x steps ∷ es) h = h
 
 -- a mapfile that is a save of a run, or the one that it began with, has a map
 has_map_of : (s : Setting) (old found : Option File) (began : List Status) (state : Option MapState)

@@ -23,7 +23,8 @@ pub record Grew (calls : List Call) (old new : List Entry) : Type 0 where
 
 pub broke_grew : (at : SiteCall) (calls : List Call) (old new : List Entry) → BrokeAt at calls old new → Grew calls old new
 broke_grew at [] old new h = absurd h
-broke_grew at (c ∷ cs) old new (inl (name, inl is)) = record { more = Failed c ∷ []; is = is; comes = (refl, refl) }
+broke_grew at (c ∷ cs) old new (inl (name, inl is)) =
+    record { more = Failed c is.0 ∷ []; is = is.1; comes = (refl, refl) }
 broke_grew at (c ∷ cs) old new (inl (name, inr is)) = record { more = []; is = is ∙ sym (append-nil old); comes = tt }
 broke_grew at (c ∷ cs) old new (inr h) =
     let g : Grew cs (old ++ Done c ∷ []) new = broke_grew at cs (old ++ Done c ∷ []) new h in

@@ -51,7 +51,7 @@ abbrev pub RunStaysUnderWay : Type 0
 RunStaysUnderWay = (s : Setting) (m : Machine) (es : List Event) → IsSensible s → IsUnderWay s m → IsRun s m es
     → IsUnderWay s (state_after s m es)
 
--- Where the pass of a run that is under way has no request, the run is under way at the start of the next pass.
+-- If the pass of a run that is under way has no request, the run is under way at the start of the next pass.
 abbrev pub NextPassIsUnderWay : Type 0
 NextPassIsUnderWay = (s : Setting) (m : Machine) (c p : Pass) (ps : List Pass) → IsUnderWay s m
     → has_request s m ≡ false → m.passes ≡ c ∷ p ∷ ps → IsUnderWay s (begun s m p ps)

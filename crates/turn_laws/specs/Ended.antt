@@ -1,7 +1,8 @@
 -- What a run leaves that is done.
 use Rattle.std.specs.Prelude.{◌≡◌, ℕ, true, false, List, map, Some}
 use Rattle.crash_site.specs.Calls.{Done}
-use Rattle.crash_site.specs.Disk.{Disk, only, disk_after}
+use Rattle.crash_site.specs.Disk.{Disk, synced, disk_after}
+use Rattle.save_resume.specs.MapNames.{HasOwnDraft}
 use Rattle.save_resume.specs.SaveStops.{IsSaved}
 use Rattle.rescue_rules.specs.Setting.{Setting}
 use Rattle.rescue_rules.specs.Machine.{Machine}
@@ -11,11 +12,11 @@ use Rattle.rescue_rules.specs.Snapshots.{Snapshot, text_of, finished_snapshot}
 use Rattle.rescue_rules.specs.RunCalls.{run_calls}
 use Rattle.turn_laws.specs.UnderWay.{EndsWellSince}
 
--- With a mapfile this is saved in it; without one the open output is durable as it read.
+-- With a mapfile this is saved in it; without one the open output is durable as it read, except where it was lost.
 pub record IsLastSaved (s : Setting) (p : Snapshot) (was now : Disk) : Type 0 where
-  pub mapfile : s.has_mapfile ≡ true → IsSaved s.names (text_of s.line p) was now
+  pub mapfile : s.has_mapfile ≡ true → HasOwnDraft s.names → IsSaved s.names (text_of s.line p) was now
   pub output : s.has_mapfile ≡ false → (image : List ℕ) → was.reads.image ≡ Some image
-      → now.shows image ≡ only (was.reads.files image)
+      → now.shows image ≡ synced (was.reads.files image) (was.shows image)
 
 -- A run from a state, over a disk, is done: no request is left and no limit was met, each position is left well, and
 -- after its calls its map was saved, which says that it is finished.

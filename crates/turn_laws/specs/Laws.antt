@@ -33,15 +33,15 @@ use Rattle.rescue_core.specs.Turning.{Turned, Halted, Starved, Lost, Unwritten, 
 use Rattle.rescue_core.specs.Closing.{Closes}
 use Rattle.turn_laws.specs.Safe.{IsHeldIn, IsSafe}
 
--- A run is safe where it begins on an open output and a mapfile that are durable, and stands for a map that finishes
--- what the run's does.
+-- A run is safe if it begins on an open output and a mapfile that are durable, and stands for a map that finishes what
+-- the run's does.
 abbrev pub RestIsSafe : Type 0
 RestIsSafe = (s : Setting) (began : List Status) (state : Option MapState) (m : Machine) (d : Disk) → IsSensible s
     → s.has_mapfile ≡ true → AreThreeNames s → IsInOrder s m → AreFinishedAlike began m.map → Rests s d
     → Stands (d.reads.files s.names.map) s.end began state
     → IsSafe s (bytes_of (d.reads.files s.outfile)) [] m d
 
--- Where a run is safe, what may be found is held.
+-- If a run is safe, what may be found is held.
 abbrev pub SafeIsHeld : Type 0
 SafeIsHeld = (s : Setting) (start : List ℕ) (reads : List Reading) (m : Machine) (d : Disk)
     (files : List ℕ → Option File) → IsSafe s start reads m d → Leaves d files → IsHeldIn s start reads files
@@ -66,7 +66,7 @@ pub record IsLeftWithin (site site' : SiteState) (files : List ℕ → Option Fi
   pub to : moment ≤ length site'.calls
   pub left : MayBeLeft site'.start site'.calls moment files
 
--- A turn of a run that is safe by a setting with all names: it asks for its request where no limit is met, and its site
+-- A turn of a run that is safe by a setting with all names: it asks for its request if no limit is met, and its site
 -- tells.
 pub record IsTurnOf (s : Setting) (request : Request) (r : RunState) (o : Across) : Type 0 where
   pub setting : setting_in r ≡ nameless s

@@ -1,11 +1,12 @@
--- What stays of a run's safety as its files stand, also after a call on them that failed.
-use Rattle.std.specs.Prelude.{◌≡◌, ℕ, true, IsTrue, List, [], ◌∷◌, ◌++◌, map, Option}
+-- What stays of a run's safety as its files are, also after a call on them that failed.
+use Rattle.std.specs.Prelude.{◌≡◌, ◌⊎◌, ℕ, true, IsTrue, List, [], ◌∷◌, ◌++◌, map, Option}
 use Rattle.block_list.specs.declared.status.Status.{Status}
 use Rattle.mapfile_text.specs.declared.state.MapState.{MapState}
 use Rattle.faulty_source.specs.Journal.{Reading}
-use Rattle.crash_site.specs.Files.{bytes_of}
-use Rattle.crash_site.specs.Calls.{Done}
+use Rattle.crash_site.specs.Files.{File, bytes_of}
+use Rattle.crash_site.specs.Calls.{Entry, Done, Failed, image_sync}
 use Rattle.crash_site.specs.Disk.{Disk, disk_after}
+use Rattle.crash_site.specs.Left.{Leaves}
 use Rattle.crash_site.specs.SiteState.{SiteState}
 use Rattle.crash_site.specs.SiteChanges.{Keeps}
 use Rattle.save_resume.specs.SaveStops.{disk_of}
@@ -30,7 +31,7 @@ use Rattle.rescue_core.specs.RunState.{RunState, setting_in}
 use Rattle.rescue_core.specs.Turning.{Turned, Halted}
 use Rattle.rescue_core.specs.Closing.{Closes}
 use Rattle.copy_passes.specs.Turns.{Went, WentUpTo}
-use Rattle.turn_laws.specs.Safe.{IsSafe}
+use Rattle.turn_laws.specs.Safe.{IsHeldIn, IsSafe}
 use Rattle.turn_laws.specs.SafeNow.{IsSafeNow}
 use Rattle.turn_laws.specs.Laws.{IsTurnOf, reads_by}
 use Rattle.turn_laws.specs.PhaseLaws.{reads_up_to}
@@ -42,7 +43,18 @@ pub record IsMapped (s : Setting) (m : Machine) : Type 0 where
   pub names : AreThreeNames s
   pub order : IsInOrder s m
 
--- Safe as its files stand, a run is safe however it goes on.
+-- the last of these calls is a sync of the output that failed
+abbrev pub EndsUnsynced : List Entry → Type 0
+EndsUnsynced calls = (before : List Entry) × (steps : ℕ) × (calls ≡ before ++ Failed image_sync steps ∷ [])
+
+-- After the calls of a site a run is safe as its files are now. Or the last of them is a sync of the output that failed:
+-- then what may be found is held, but a sync that is tried again makes nothing sure.
+abbrev pub StaysSafeNow : Setting → (start : List ℕ) → List Reading → Machine → SiteState → Type 0
+StaysSafeNow s start reads m site = IsSafeNow s start reads m (disk_of site)
+    ⊎ (EndsUnsynced site.calls
+    × ((files : List ℕ → Option File) → Leaves (disk_of site) files → IsHeldIn s start reads files))
+
+-- Safe as its files are now, a run is safe however it goes on.
 abbrev pub NowIsSafe : Type 0
 NowIsSafe = (s : Setting) (start : List ℕ) (reads : List Reading) (m : Machine) (d : Disk) → IsMapped s m
     → IsSafeNow s start reads m d → IsSafe s start reads m d
@@ -67,12 +79,13 @@ TurnStaysSafeNow = (s : Setting) (start : List ℕ) (reads : List Reading) (requ
     → (t : Turned request turn r r' o) → IsSafeNow s start reads r.machine (disk_of o.site)
     → IsSafeNow s start (reads ++ t.event.reading ∷ []) r'.machine (disk_of o.site')
 
--- With a mapfile, a run safe now stays so after a turn that stopped for any cause, a failed call on the files too.
+-- With a mapfile, a run safe now stays so after a turn that stopped for any cause, also at a failed call on the files; but
+-- after a failed sync of the output only what may be found is held.
 abbrev pub HaltedStaysSafeNow : Type 0
 HaltedStaysSafeNow = (s : Setting) (start : List ℕ) (reads : List Reading) (request : Request) (stop : Stop)
     (r r' : RunState) (o : Across) → IsMapped s r.machine → IsTurnOf s request r o
     → (h : Halted request stop r r' o) → IsSafeNow s start reads r.machine (disk_of o.site)
-    → IsSafeNow s start (reads ++ reads_by h) r'.machine (disk_of o.site')
+    → StaysSafeNow s start (reads ++ reads_by h) r'.machine o.site'
 
 -- With a mapfile, a run that is safe now stays so after the whole turns of a phase.
 abbrev pub PhaseStaysSafeNow : Type 0
@@ -81,16 +94,18 @@ PhaseStaysSafeNow = (s : Setting) (start : List ℕ) (reads : List Reading) (r r
     → (w : Went r r' o) → IsSafeNow s start reads r.machine (disk_of o.site)
     → IsSafeNow s start (reads ++ reads_of w.events) r'.machine (disk_of o.site')
 
--- With a mapfile, a run that is safe now stays so after turns up to one that stopped, for whatever cause.
+-- With a mapfile, a run that is safe now stays so after turns up to one that stopped, for whatever cause; but after a
+-- failed sync of the output only what may be found is held.
 abbrev pub StoppedStaysSafeNow : Type 0
 StoppedStaysSafeNow = (s : Setting) (start : List ℕ) (reads : List Reading) (stop : Stop) (r r' : RunState)
     (o : Across) → IsMapped s r.machine → setting_in r ≡ nameless s → IsTrue o.site.tells → Keeps o.site o.site'
     → (w : WentUpTo stop r r' o) → IsSafeNow s start reads r.machine (disk_of o.site)
-    → IsSafeNow s start (reads ++ reads_up_to w) r'.machine (disk_of o.site')
+    → StaysSafeNow s start (reads ++ reads_up_to w) r'.machine o.site'
 
--- With a mapfile, a run that is safe now stays so after the close, wherever that stopped.
+-- With a mapfile, a run that is safe now stays so after the close, wherever that stopped; but after a failed sync of the
+-- output only what may be found is held.
 abbrev pub CloseStaysSafeNow : Type 0
 CloseStaysSafeNow = (s : Setting) (start : List ℕ) (reads : List Reading) (stop : Option Stop) (r : RunState)
     (end : RunEnd) (site site' : SiteState) → s.has_mapfile ≡ true → AreThreeNames s → setting_in r ≡ nameless s
     → IsTrue site.tells → Keeps site site' → Closes stop r end site site'
-    → IsSafeNow s start reads r.machine (disk_of site) → IsSafeNow s start reads r.machine (disk_of site')
+    → IsSafeNow s start reads r.machine (disk_of site) → StaysSafeNow s start reads r.machine site'

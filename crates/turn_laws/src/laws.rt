@@ -5,12 +5,12 @@ ghost use Rattle.turn_laws.specs.NowLaws.{CloseStaysSafeNow, HaltedStaysSafeNow,
 ghost use Rattle.turn_laws.specs.PassLaws.{PastIsUnderWay, CopyingIsUnderWay, SpentLeadsPast, TypedLeadsPast, UnderWayMayCopy};
 ghost use Rattle.turn_laws.specs.PhaseLaws.{AlikeAreSafe, HaltedTurnStaysSafe, PhaseIsHeld, PhaseStaysSafe, StoppedTurnsAreHeld, StoppedTurnsStaySafe};
 
-/// A run is safe where it begins on an open output and a mapfile that are durable.
+/// A run is safe if it begins on an open output and a mapfile that are durable.
 pub fn a_run_begins_safe()
     ensures { RestIsSafe }
 {}
 
-/// Where a run is safe, what may be found is held.
+/// If a run is safe, what may be found is held.
 pub fn what_is_safe_is_held()
     ensures { SafeIsHeld }
 {}
@@ -45,7 +45,7 @@ pub fn a_halted_turn_stays_safe()
     ensures { HaltedTurnStaysSafe }
 {}
 
-/// Where a run is safe, so is one in a state alike, as the start of a next pass is.
+/// If a run is safe, so is one in a state alike, as the start of a next pass is.
 pub fn alike_states_are_safe_alike()
     ensures { AlikeAreSafe }
 {}
@@ -95,7 +95,8 @@ pub fn a_turn_stays_safe_now()
     ensures { TurnStaysSafeNow }
 {}
 
-/// Files that are as `IsSafeNow` says stay so over a turn that stopped, also at a call on the files that failed.
+/// Files that are as `IsSafeNow` says stay so over a turn that stopped, also at a call on the files that failed. Only after
+/// a failed sync of the output they may not, and then what may be found is held.
 pub fn a_halted_turn_stays_safe_now()
     ensures { HaltedStaysSafeNow }
 {}
@@ -105,12 +106,14 @@ pub fn a_phase_stays_safe_now()
     ensures { PhaseStaysSafeNow }
 {}
 
-/// Files that are as `IsSafeNow` says stay so over turns up to one that stopped, for whatever cause it stopped.
+/// Files that are as `IsSafeNow` says stay so over turns up to one that stopped, for whatever cause it stopped, except a
+/// failed sync of the output. After that what may be found is held.
 pub fn stopped_turns_stay_safe_now()
     ensures { StoppedStaysSafeNow }
 {}
 
-/// Files that are as `IsSafeNow` says stay so over the last save, whole or stopped at whatever call.
+/// Files that are as `IsSafeNow` says stay so over the last save, whole or stopped at whatever call, except a failed sync
+/// of the output. After that what may be found is held.
 pub fn a_close_stays_safe_now()
     ensures { CloseStaysSafeNow }
 {}

@@ -31,10 +31,10 @@ load_reads name file load begins =
 -- such reads change nothing of what files read as, returned or failed
 record Stand (c : Call) (d : Folder) : Type 0 where
   returned : after_entry d (Returned c) ≡ d
-  failed : after_entry d (Failed c) ≡ d
+  failed : (steps : ℕ) → after_entry d (Failed c steps) ≡ d
 
 read_stands : (c : Call) (d : Folder) → IsMapRead c → Stand c d
-read_stands (map_read name at size answer) d is = record { returned = refl; failed = refl }
+read_stands (map_read name at size answer) d is = record { returned = refl; failed = λ steps. refl }
 read_stands c d is = absurd (cc)
 
 pub reads_stand : (calls : List Call) (d : Folder) → AreMapReads calls → after d (map Returned calls) ≡ d
@@ -45,7 +45,8 @@ reads_stand (c ∷ calls) d reads =
 
 lost_stands : (c : Call) (start : Folder) (old new : List Entry) → IsMapRead c → Lost c old new → after start new ≡ after start old
 lost_stands c start old new is (inl grew) =
-    ap (after start) grew ∙ after-append start old (Failed c ∷ []) ∙ (read_stands c (after start old) is).failed
+    ap (after start) grew.1 ∙ after-append start old (Failed c grew.0 ∷ [])
+    ∙ (read_stands c (after start old) is).failed grew.0
 lost_stands c start old new is (inr same) = ap (after start) same
 
 pub broken_stands : (at : SiteCall) (calls : List Call) (start : Folder) (old new : List Entry) → AreMapReads calls

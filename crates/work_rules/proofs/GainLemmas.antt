@@ -7,7 +7,8 @@ use Rattle.save_resume.specs.Saving.{IsNameIn}
 
 -- a record that grew, after other calls
 pub lost_after : (c : Call) (front old new : List Entry) → Lost c old new → Lost c (front ++ old) (front ++ new)
-lost_after c front old new (inl e) = inl (ap (λ r. front ++ r) e ∙ sym (append_assoc front old (Failed c ∷ [])))
+lost_after c front old new (inl e) =
+    inl (e.0, ap (λ r. front ++ r) e.1 ∙ sym (append_assoc front old (Failed c e.0 ∷ [])))
 lost_after c front old new (inr e) = inr (ap (λ r. front ++ r) e)
 
 pub broke_after : (at : SiteCall) (calls : List Call) (front old new : List Entry) → BrokeAt at calls old new
@@ -26,7 +27,8 @@ pub record GainsBroken (at : SiteCall) (calls : List Call) (old new : List Entry
 
 pub broke_gains : (at : SiteCall) (calls : List Call) (old new : List Entry) → BrokeAt at calls old new → GainsBroken at calls old new
 broke_gains at [] old new b = absurd b
-broke_gains at (c ∷ cs) old new (inl (name, inl e)) = record { more = Failed c ∷ []; grew = e; broke = inl (name, inl refl) }
+broke_gains at (c ∷ cs) old new (inl (name, inl e)) =
+    record { more = Failed c e.0 ∷ []; grew = e.1; broke = inl (name, inl (e.0, refl)) }
 broke_gains at (c ∷ cs) old new (inl (name, inr e)) = record { more = []; grew = e ∙ sym (append-nil old); broke = inl (name, inr refl) }
 broke_gains at (c ∷ cs) old new (inr b) =
     let rest : GainsBroken at cs (old ++ Done c ∷ []) new = broke_gains at cs (old ++ Done c ∷ []) new b in
@@ -49,7 +51,7 @@ broke_past at (c ∷ cs) calls old new other (inr b) =
 pub broke_there : (at : SiteCall) (calls : List Call) (old : List Entry) → IsNameIn at calls
     → (new : List Entry) × BrokeAt at calls old new
 broke_there at [] old named = absurd named
-broke_there at (c ∷ cs) old (inl is) = (old ++ Failed c ∷ [], inl (is, inl refl))
+broke_there at (c ∷ cs) old (inl is) = (old ++ Failed c 0 ∷ [], inl (is, inl (0, refl)))
 broke_there at (c ∷ cs) old (inr named) =
     let rest = broke_there at cs (old ++ Done c ∷ []) named in (rest.0, inr rest.1)
 

@@ -22,7 +22,7 @@ is_read call = false
 -- it returned, or failed
 abbrev pub IsRead : Entry → Type 0
 IsRead (Returned c) = is_read c ≡ true
-IsRead (Failed c) = is_read c ≡ true
+IsRead (Failed c steps) = is_read c ≡ true
 
 abbrev pub AreReads : List Entry → Type 0
 AreReads [] = ⊤
@@ -39,14 +39,14 @@ record Stands (e : Entry) : Type 0 where
 read_stands : (e : Entry) → IsRead e → Stands e
 read_stands (Returned (map_read name at size answer)) is =
     record { files = λ d. refl; whole = λ d. refl; part = λ d. refl }
-read_stands (Failed (map_read name at size answer)) is =
+read_stands (Failed (map_read name at size answer) steps) is =
     record { files = λ d. refl; whole = λ d. refl; part = λ d. refl }
 read_stands (Returned (image_read at size answer)) is =
     record { files = λ d. refl; whole = λ d. refl; part = λ d. refl }
-read_stands (Failed (image_read at size answer)) is =
+read_stands (Failed (image_read at size answer) steps) is =
     record { files = λ d. refl; whole = λ d. refl; part = λ d. refl }
 read_stands (Returned c) is = absurd (cc)
-read_stands (Failed c) is = absurd (cc)
+read_stands (Failed c steps) is = absurd (cc)
 
 pub reads_leave : (d : Folder) (es : List Entry) → AreReads es → after d es ≡ d
 reads_leave d [] reads = refl
@@ -105,8 +105,8 @@ pub maps_broke : (at : SiteCall) (calls : List Call) (old new : List Entry) → 
     → BrokeAt at calls old new → AreReads new
 maps_broke at [] old new reads before broke = absurd broke
 maps_broke at (c ∷ calls) old new reads before (inl (name, inl grew)) =
-    same_reads new (old ++ Failed c ∷ []) grew
-    (both_are old (Failed c ∷ []) before (map_is_read c (All-head IsMapRead c calls reads), tt))
+    same_reads new (old ++ Failed c grew.0 ∷ []) grew.1
+    (both_are old (Failed c grew.0 ∷ []) before (map_is_read c (All-head IsMapRead c calls reads), tt))
 maps_broke at (c ∷ calls) old new reads before (inl (name, inr same)) = same_reads new old same before
 maps_broke at (c ∷ calls) old new reads before (inr broke) =
     maps_broke at calls (old ++ Returned c ∷ []) new (All-tail IsMapRead c calls reads)

@@ -10,7 +10,7 @@ use Rattle.crash_site.specs.Disk.{at_rest, disk_after}
 use Rattle.crash_site.specs.Left.{until, MayBeLeft}
 use Rattle.crash_site.specs.SiteState.{SiteState}
 use Rattle.save_resume.specs.declared.draft.SaveFault.{SaveFault}
-use Rattle.save_resume.specs.MapNames.{MapNames}
+use Rattle.save_resume.specs.MapNames.{MapNames, HasOwnDraft}
 use Rattle.save_resume.specs.Saving.{save_calls, drafting_after_fault, Saves}
 use Rattle.save_resume.specs.SaveStops.{IsOldOrNew, IsSaved}
 use Rattle.save_resume.proofs.StopLemmas.{stops_in_save, saved_where_ok}
@@ -66,25 +66,26 @@ abbrev pub HasSaved : MapNames → List ℕ → (old new : List Entry) → Type 
 HasSaved names text old new =
     (new ≡ old ++ map Returned (save_calls names text)) ⊎ ((at : SiteCall) × BrokeAt at (save_calls names text) old new)
 
-pub stops_by_save : (names : MapNames) (text : List ℕ) (start : Folder) (old new : List Entry) → HasSaved names text old new
+pub stops_by_save : (names : MapNames) (text : List ℕ) (start : Folder) (old new : List Entry) → HasOwnDraft names
+    → HasSaved names text old new
     → (k : ℕ) (found : List ℕ → Option File) → length old ≤ k → k ≤ length new → MayBeLeft start new k found
     → (name : List ℕ) → name ≢ names.draft
     → IsOldOrNew names text (disk_after (at_rest start) old) (disk_after (at_rest start) (until k new)) name
     (found name)
-stops_by_save names text start old new (inl grew) k found le most left name apart =
-    stops_in_save names text (Ok tt) (site_at start old false 0) (site_at start new false 0) refl
+stops_by_save names text start old new own (inl grew) k found le most left name apart =
+    stops_in_save names text (Ok tt) (site_at start old false 0) (site_at start new false 0) refl own
     (made_saves names text start old new grew) k found le most left name apart
-stops_by_save names text start old new (inr (at, broke)) k found le most left name apart =
+stops_by_save names text start old new own (inr (at, broke)) k found le most left name apart =
     stops_in_save names text (Err (record { call = at })) (site_at start old false 0)
-    (site_at start new (drafting_after_fault at false) 1) refl
+    (site_at start new (drafting_after_fault at false) 1) refl own
     (broke_saves names text start at old new broke) k found le most left name apart
 
-pub saved_by : (names : MapNames) (text : List ℕ) (start : Folder) (old new : List Entry)
+pub saved_by : (names : MapNames) (text : List ℕ) (start : Folder) (old new : List Entry) → HasOwnDraft names
     → new ≡ old ++ map Returned (save_calls names text)
     → IsSaved names text (disk_after (at_rest start) old) (disk_after (at_rest start) new)
-saved_by names text start old new grew =
+saved_by names text start old new own grew =
     saved_where_ok names text (Ok tt) (site_at start old false 0) (site_at start new false 0)
-    (made_saves names text start old new grew) refl
+    (made_saves names text start old new grew) refl own
 
 -- the calls of a save after others
 pub save_after : (names : MapNames) (text : List ℕ) (before rest : List Entry) → HasSaved names text [] rest

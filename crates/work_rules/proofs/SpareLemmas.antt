@@ -1,15 +1,13 @@
 -- Calls that spare a file: a save, except for its mapfile and its draft.
 use Rattle.std.proofs.Common.{◌≡◌, ◌≢◌, ℕ, List, [], ◌∷◌, ◌++◌, map, Option, Some, refl, sym, ap, ◌∙◌, inl, inr, subst}
 use Rattle.std.specs.Prelude.{⊤}
-use Rattle.crash_site.specs.Files.{File}
 use Rattle.crash_site.specs.Calls.{Call, Entry, Done as Returned, Failed, draft_append, draft_begin, draft_sync}
 use Rattle.crash_site.specs.Changes.{Changes}
 use Rattle.crash_site.specs.Folder.{Folder, appended, after, after_done, after_failed}
 use Rattle.crash_site.specs.Along.{GoesAlong}
-use Rattle.crash_site.proofs.DiskLemmas.{failed_files}
-use Rattle.crash_site.proofs.LawLemmas.{done_other}
+use Rattle.crash_site.proofs.LawLemmas.{done_other, failed_other}
 use Rattle.mapfile_text.specs.Pieces.{pieces_of}
-use Rattle.save_resume.specs.MapNames.{MapNames}
+use Rattle.save_resume.specs.MapNames.{MapNames, HasOwnDraft}
 use Rattle.save_resume.specs.Saving.{publish_calls, save_calls}
 use Rattle.save_resume.proofs.StageLemmas.{appended_draft}
 
@@ -27,9 +25,9 @@ spared n d (call ∷ calls) (Returned c ∷ es) spare goes =
     let Q : Folder → Type 0 = λ f. (after f es).files n ≡ d.files n in
     subst (λ (x : Call). Q (after_done d x)) (sym goes.0)
     (spared n (after_done d call) calls es spare.1 goes.1 ∙ done_other d call n spare.0)
-spared n d (call ∷ calls) (Failed c ∷ es) spare goes =
-    ap (λ (r : List Entry). (after (after_failed d c) r).files n) goes.1
-    ∙ ap (λ (f : List ℕ → Option File). f n) (failed_files d c)
+spared n d (call ∷ calls) (Failed c steps ∷ es) spare goes =
+    ap (λ (r : List Entry). (after (after_failed d c steps) r).files n) goes.1
+    ∙ ap (λ (x : Call). (after_failed d x steps).files n) goes.0 ∙ failed_other d call steps n spare.0
 
 -- another name than the draft's
 not_draft : (n draft : List ℕ) (o : Option (List ℕ)) → o ≡ Some draft → n ≢ draft → o ≡ Some n → ⊥
@@ -37,7 +35,8 @@ not_draft n draft o begun apart is =
     let both : Some draft ≡ Some n = sym begun ∙ is in
     apart (let same : draft ≡ n = cc in sym same)
 
-module _ (names : MapNames) (n : List ℕ) (other : n ≢ names.map) (apart : n ≢ names.draft) where
+module _ (names : MapNames) (n : List ℕ) (own : HasOwnDraft names) (other : n ≢ names.map)
+    (apart : n ≢ names.draft) where
   fill_spares : (d : Folder) (pieces : List (List ℕ)) → d.draft ≡ Some names.draft
       → AllSpare n d (map draft_append pieces ++ draft_sync ∷ publish_calls names)
   fill_spares d [] begun = (
@@ -47,7 +46,7 @@ module _ (names : MapNames) (n : List ℕ) (other : n ≢ names.map) (apart : n 
         | inl is ↦ not_draft n names.draft d.draft begun apart is
         | inr is ↦ other is
       ]),
-      ((λ never. never), tt),
+      ((λ e. apart (e ∙ sym own)), tt),
     ),
   )
   fill_spares d (piece ∷ pieces) begun = (
