@@ -29,10 +29,9 @@ use Rattle.rescue_rules.proofs.DeedStages.{last_calls, all_calls}
 use Rattle.rescue_rules.proofs.FinishLemmas.{run_steps, finished_stands}
 use Rattle.rescue_rules.proofs.MoveLemmas.{run_rest}
 use Rattle.rescue_rules.proofs.MoveStages.{due_first}
-use Rattle.rescue_safety.specs.Saves.{texts_in}
 use Rattle.rescue_safety.specs.Safe.{reads_until}
 use Rattle.rescue_safety.proofs.SpareLemmas.{later_none, earlier_none}
-use Rattle.rescue_safety.proofs.Texts.{Fronts, texts_published, cut_texts, saved_publish}
+use Rattle.rescue_safety.proofs.Texts.{texts_in, Fronts, texts_published, cut_texts, saved_publish}
 
 -- how many of these calls write the output
 abbrev pub writes_in : List Entry → ℕ
@@ -110,7 +109,7 @@ cut_split (c ∷ cs) ds (Done x ∷ es) cut =
       cut = p.cut;
     }))
     (cut_split cs ds es cut.1)
-cut_split (c ∷ cs) ds (Failed x ∷ es) cut = inl cut
+cut_split (c ∷ cs) ds (Failed x steps ∷ es) cut = inl cut
 
 -- ---- what reads gave that had begun to be written
 

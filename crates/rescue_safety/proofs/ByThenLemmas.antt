@@ -38,17 +38,17 @@ unwritten_both y (Done draft_sync ∷ es) fs h k = unwritten_both y es fs h k
 unwritten_both y (Done (draft_publish name) ∷ es) fs h k = unwritten_both y es fs h k
 unwritten_both y (Done (map_settle name) ∷ es) fs h k = unwritten_both y es fs h k
 unwritten_both y (Done (map_remove name) ∷ es) fs h k = unwritten_both y es fs h k
-unwritten_both y (Failed (image_open name make) ∷ es) fs h k = unwritten_both y es fs h k
-unwritten_both y (Failed (image_read pos asked answer) ∷ es) fs h k = unwritten_both y es fs h k
-unwritten_both y (Failed (image_write pos piece) ∷ es) fs h k = (h.0, unwritten_both y es fs h.1 k)
-unwritten_both y (Failed image_sync ∷ es) fs h k = unwritten_both y es fs h k
-unwritten_both y (Failed (map_read name pos asked answer) ∷ es) fs h k = unwritten_both y es fs h k
-unwritten_both y (Failed (draft_begin name) ∷ es) fs h k = unwritten_both y es fs h k
-unwritten_both y (Failed (draft_append piece) ∷ es) fs h k = unwritten_both y es fs h k
-unwritten_both y (Failed draft_sync ∷ es) fs h k = unwritten_both y es fs h k
-unwritten_both y (Failed (draft_publish name) ∷ es) fs h k = unwritten_both y es fs h k
-unwritten_both y (Failed (map_settle name) ∷ es) fs h k = unwritten_both y es fs h k
-unwritten_both y (Failed (map_remove name) ∷ es) fs h k = unwritten_both y es fs h k
+unwritten_both y (Failed (image_open name make) steps ∷ es) fs h k = unwritten_both y es fs h k
+unwritten_both y (Failed (image_read pos asked answer) steps ∷ es) fs h k = unwritten_both y es fs h k
+unwritten_both y (Failed (image_write pos piece) steps ∷ es) fs h k = (h.0, unwritten_both y es fs h.1 k)
+unwritten_both y (Failed image_sync steps ∷ es) fs h k = unwritten_both y es fs h k
+unwritten_both y (Failed (map_read name pos asked answer) steps ∷ es) fs h k = unwritten_both y es fs h k
+unwritten_both y (Failed (draft_begin name) steps ∷ es) fs h k = unwritten_both y es fs h k
+unwritten_both y (Failed (draft_append piece) steps ∷ es) fs h k = unwritten_both y es fs h k
+unwritten_both y (Failed draft_sync steps ∷ es) fs h k = unwritten_both y es fs h k
+unwritten_both y (Failed (draft_publish name) steps ∷ es) fs h k = unwritten_both y es fs h k
+unwritten_both y (Failed (map_settle name) steps ∷ es) fs h k = unwritten_both y es fs h k
+unwritten_both y (Failed (map_remove name) steps ∷ es) fs h k = unwritten_both y es fs h k
 
 -- returned calls that spare a place
 pub all_unwritten : (y : ℕ) (cs : List Call) → All (Spares y) cs → IsUnwritten (map Done cs) y
@@ -59,9 +59,9 @@ one_part : (pos : ℕ) (piece : List ℕ) (e : Entry) (es : List Entry) → Cut 
     → writes_in (e ∷ es) ≡ 1
 one_part pos piece (Done x) [] cut = ap (λ (z : Call). writes_in (Done z ∷ [])) cut.0
 one_part pos piece (Done x) (z ∷ zs) cut = absurd cut.1
-one_part pos piece (Failed x) es cut =
-    ap (λ (l : List Entry). writes_in (Failed x ∷ l)) cut.1
-    ∙ ap (λ (z : Call). writes_in (Failed z ∷ []))
+one_part pos piece (Failed x steps) es cut =
+    ap (λ (l : List Entry). writes_in (Failed x steps ∷ l)) cut.1
+    ∙ ap (λ (z : Call). writes_in (Failed z steps ∷ []))
     (⊎_elim (λ (is : x ≡ image_write pos piece). is) (λ (is : x ≡ image_write pos piece). is) cut.0)
 
 one_written : (none : Bool) (pos : ℕ) (piece : List ℕ) (e : Entry) (es : List Entry)

@@ -4,7 +4,10 @@ use Rattle.std.specs.List.{slice_get}
 use Rattle.std.proofs.lemmas.Bool.{cases_Bool, cases_lt, ne_eqb, eq-eqb, le-leb, leb-true, cond-true, cond-false}
 use Rattle.std.proofs.lemmas.Option.{slice_get_within}
 use Rattle.crash_site.specs.Files.{File, bytes_of}
+use Rattle.crash_site.specs.Left.{IsLoose, Matches}
+use Rattle.crash_site.proofs.RangeLemmas.{loose_or_not}
 use Rattle.rescue_rules.specs.Given.{last_of_both}
+use Rattle.rescue_rules.specs.Stops.{Before, files_before, lost_before, opened_output}
 use Rattle.rescue_safety.specs.Saves.{CallsFinished}
 use Rattle.rescue_safety.specs.Safe.{Target, HasPlace}
 use Rattle.rescue_safety.specs.Holds.{StillHolds}
@@ -13,6 +16,7 @@ use Rattle.rescue_safety.specs.OwedFiles.{IsOwedIn}
 use Rattle.rescue_safety.proofs.ClaimLemmas.{some_or_none, never_some}
 use Rattle.rescue_safety.proofs.FinishedLemmas.{TestsFinished, tests_finished}
 use Rattle.rescue_safety.proofs.LastGiven.{last_after}
+use Rattle.rescue_safety.proofs.SafeLemmas.{same_byte}
 
 -- ---- a function as pairs
 
@@ -61,9 +65,27 @@ given_below f (suc n) x lt =
 
 -- ---- what is there at first
 
-module _ (t : Target) (image : List ℕ) (test : ℕ → Bool) where
+module _ (t : Target) (image : List ℕ) (lost : List (ℕ × ℕ)) (test : ℕ → Bool) where
+  -- the byte at a place, unless that is lost
+  abbrev byte_at : (y : ℕ) → IsLoose lost y ⊎ (IsLoose lost y → ⊥) → Option ℕ
+  byte_at y (inl gone) = None
+  byte_at y (inr there) = slice_get image y
+
+  byte_is : (y b : ℕ) (o : IsLoose lost y ⊎ (IsLoose lost y → ⊥)) → byte_at y o ≡ Some b
+      → (IsLoose lost y → ⊥) × (slice_get image y ≡ Some b)
+  byte_is y b (inl gone) is = absurd (cc)
+  byte_is y b (inr there) is = (there, is)
+
+  is_byte : (y b : ℕ) (o : IsLoose lost y ⊎ (IsLoose lost y → ⊥)) → (IsLoose lost y → ⊥) → slice_get image y ≡ Some b
+      → byte_at y o ≡ Some b
+  is_byte y b (inl gone) unlost is = absurd (unlost gone)
+  is_byte y b (inr there) unlost is = is
+
+  abbrev byte_in : ℕ → Option ℕ
+  byte_in y = byte_at y (loose_or_not lost y)
+
   abbrev placed : ℕ → Option ℕ
-  placed x = if nat_le t.from (x + t.to) then slice_get image (x + t.to - t.from) else None
+  placed x = if nat_le t.from (x + t.to) then byte_in (x + t.to - t.from) else None
 
   abbrev first : ℕ → Option ℕ
   first x = if test x then placed x else None
@@ -72,20 +94,25 @@ module _ (t : Target) (image : List ℕ) (test : ℕ → Bool) where
     passes : test x ≡ true
     place : ℕ
     at : HasPlace t x place
+    unlost : IsLoose lost place → ⊥
     holds : slice_get image place ≡ Some b
 
   some_placed : (x b : ℕ) → test x ≡ true → placed x ≡ Some b → IsFirst x b
   some_placed x b passes is =
       ⊎_elim
       (λ (on : nat_le t.from (x + t.to) ≡ true).
+      let y : ℕ = x + t.to - t.from in
+      let there : (IsLoose lost y → ⊥) × (slice_get image y ≡ Some b)
+      = byte_is y b (loose_or_not lost y) (sym (cond-true _ (byte_in y) None on) ∙ is) in
       record {
         passes = passes;
-        place = x + t.to - t.from;
+        place = y;
         at = omega (arith, leb-true t.from (x + t.to) on);
-        holds = sym (cond-true _ (slice_get image (x + t.to - t.from)) None on) ∙ is;
+        unlost = there.0;
+        holds = there.1;
       })
       (λ (off : nat_le t.from (x + t.to) ≡ false).
-      absurd (never_some b (placed x) (cond-false _ (slice_get image (x + t.to - t.from)) None off) is))
+      absurd (never_some b (placed x) (cond-false _ (byte_in (x + t.to - t.from)) None off) is))
       (cases_Bool (nat_le t.from (x + t.to)))
 
   is_first : (x b : ℕ) → first x ≡ Some b → IsFirst x b
@@ -95,12 +122,13 @@ module _ (t : Target) (image : List ℕ) (test : ℕ → Bool) where
       (λ (off : test x ≡ false). absurd (never_some b (first x) (cond-false _ (placed x) None off) is))
       (cases_Bool (test x))
 
-  first_is : (x y b : ℕ) → test x ≡ true → HasPlace t x y → slice_get image y ≡ Some b → first x ≡ Some b
-  first_is x y b on at holds =
+  first_is : (x y b : ℕ) → test x ≡ true → HasPlace t x y → (IsLoose lost y → ⊥) → slice_get image y ≡ Some b
+      → first x ≡ Some b
+  first_is x y b on at unlost holds =
       let same : y ≡ x + t.to - t.from = omega (arith, at) in
       cond-true _ (placed x) None on
-      ∙ cond-true _ (slice_get image (x + t.to - t.from)) None (le-leb t.from (x + t.to) (omega (arith, at)))
-      ∙ sym (ap (λ (n : ℕ). slice_get image n) same) ∙ holds
+      ∙ cond-true _ (byte_in (x + t.to - t.from)) None (le-leb t.from (x + t.to) (omega (arith, at)))
+      ∙ sym (ap (λ (n : ℕ). byte_in n) same) ∙ is_byte y b (loose_or_not lost y) unlost holds
 
   abbrev pub gave_first : List (ℕ × ℕ)
   gave_first = pairs_below first (length image + t.from)
@@ -145,7 +173,13 @@ module _ (t : Target) (image : List ℕ) (test : ℕ → Bool) where
 
 -- ---- it is owed, and so it stays
 
-module _ (t : Target) (files : List ℕ → Option File) where
+module _ (t : Target) (from : Before) where
+  abbrev files : List ℕ → Option File
+  files = files_before from
+
+  abbrev lost : List (ℕ × ℕ)
+  lost = lost_before from t.outfile
+
   abbrev image : List ℕ
   image = bytes_of (files t.outfile)
 
@@ -153,43 +187,55 @@ module _ (t : Target) (files : List ℕ → Option File) where
   old = tests_finished (files t.mapfile)
 
   abbrev pub gave_at_first : List (ℕ × ℕ)
-  gave_at_first = gave_first t image old.test
+  gave_at_first = gave_first t image lost old.test
 
   abbrev pub bare_at_first : ℕ → Bool
-  bare_at_first = is_bare t image old.test
+  bare_at_first = is_bare t image lost old.test
 
-  owed_one : (x : ℕ) → CallsFinished (files t.mapfile) x → (bare_at_first x ≡ true) ⊎ HoldsLast t gave_at_first image x
-  owed_one x fin =
+  -- over any bytes that are the same where nothing was lost
+  owed_one : (bytes : List ℕ) → ((y b : ℕ) → (IsLoose lost y → ⊥) → slice_get image y ≡ Some b → slice_get bytes y ≡ Some b)
+      → (x : ℕ) → CallsFinished (files t.mapfile) x
+      → (bare_at_first x ≡ true) ⊎ HoldsLast t (last_given gave_at_first) bytes x
+  owed_one bytes same x fin =
       ⊎_elim
-      (λ (some : (b : ℕ) × (first t image old.test x ≡ Some b)).
-      let f : IsFirst t image old.test x some.0 = is_first t image old.test x some.0 some.1 in
+      (λ (some : (b : ℕ) × (first t image lost old.test x ≡ Some b)).
+      let f : IsFirst t image lost old.test x some.0 = is_first t image lost old.test x some.0 some.1 in
       inr (record {
         byte = some.0;
-        given = gave_is t image old.test x ∙ some.1;
+        given = gave_is t image lost old.test x ∙ some.1;
         place = f.place;
         at = f.at;
-        holds = f.holds;
+        holds = same f.place some.0 f.unlost f.holds;
       }))
-      (λ (none : first t image old.test x ≡ None). inl (bare_is t image old.test x (old.true_where x fin) none))
-      (some_or_none (first t image old.test x))
+      (λ (none : first t image lost old.test x ≡ None).
+      inl (bare_is t image lost old.test x (old.true_where x fin) none))
+      (some_or_none (first t image lost old.test x))
 
   pub first_owed : IsOwedIn t gave_at_first bare_at_first files
-  first_owed = record { each = owed_one }
+  first_owed = record { each = owed_one image (λ y b unlost is. is) }
+
+  -- over an output that could be there, too
+  pub first_over : (was : File) → Matches (opened_output (files t.outfile)) lost was → (x : ℕ)
+      → CallsFinished (files t.mapfile) x → (bare_at_first x ≡ true) ⊎ HoldsLast t (last_given gave_at_first) was.bytes x
+  first_over was alike =
+      owed_one was.bytes
+      (λ y b unlost is. same_byte (files t.outfile) lost was y alike unlost (slice_get_within image y b is) ∙ is)
 
   module _ (found : List ℕ → Option File) (gave : List (ℕ × ℕ)) (x : ℕ) where
     abbrev Holds : Type 0
-    Holds = StillHolds t files found x ⊎ HoldsLast t gave (bytes_of (found t.outfile)) x
+    Holds = StillHolds t from found x ⊎ HoldsLast t (last_given gave) (bytes_of (found t.outfile)) x
 
     bare_holds : bare_at_first x ≡ true → Holds
     bare_holds is =
-        let bare : IsBare t image old.test x = is_bare_so t image old.test x is in
+        let bare : IsBare t image lost old.test x = is_bare_so t image lost old.test x is in
         inl (record {
           finished = old.true_only x bare.passes;
-          holds = λ y b at was.
-              absurd (never_some b (first t image old.test x) bare.none (first_is t image old.test x y b bare.passes at was));
+          holds = λ y b at was unlost.
+              absurd (never_some b (first t image lost old.test x) bare.none
+              (first_is t image lost old.test x y b bare.passes at unlost was));
         })
 
-    last_holds : HoldsLast t (gave_at_first ++ gave) (bytes_of (found t.outfile)) x → Holds
+    last_holds : HoldsLast t (last_given (gave_at_first ++ gave)) (bytes_of (found t.outfile)) x → Holds
     last_holds h =
         let both : last_of_both (last_given gave x) (last_given gave_at_first x) ≡ Some h.byte
         = sym (last_after gave_at_first gave x) ∙ h.given in
@@ -203,15 +249,15 @@ module _ (t : Target) (files : List ℕ → Option File) where
           holds = h.holds;
         }))
         (λ (none : last_given gave x ≡ None).
-        let is : first t image old.test x ≡ Some h.byte
-        = sym (gave_is t image old.test x)
+        let is : first t image lost old.test x ≡ Some h.byte
+        = sym (gave_is t image lost old.test x)
         ∙ sym (ap (λ (o : Option ℕ). last_of_both o (last_given gave_at_first x)) none) ∙ both in
-        let f : IsFirst t image old.test x h.byte = is_first t image old.test x h.byte is in
+        let f : IsFirst t image lost old.test x h.byte = is_first t image lost old.test x h.byte is in
         inl (record {
           finished = old.true_only x f.passes;
-          holds = λ y b at was.
+          holds = λ y b at was unlost.
               let place : h.place ≡ y = omega (arith, at, h.at) in
-              let byte : Some h.byte ≡ Some b = sym is ∙ first_is t image old.test x y b f.passes at was in
+              let byte : Some h.byte ≡ Some b = sym is ∙ first_is t image lost old.test x y b f.passes at unlost was in
               subst (λ (n : ℕ). slice_get (bytes_of (found t.outfile)) n ≡ Some b) place (h.holds ∙ byte);
         }))
         (some_or_none (last_given gave x))
@@ -219,5 +265,5 @@ module _ (t : Target) (files : List ℕ → Option File) where
     pub at_last : IsOwedIn t (gave_at_first ++ gave) bare_at_first found → CallsFinished (found t.mapfile) x → Holds
     at_last owed fin =
         ⊎_elim (λ (is : bare_at_first x ≡ true). bare_holds is)
-        (λ (h : HoldsLast t (gave_at_first ++ gave) (bytes_of (found t.outfile)) x). last_holds h)
+        (λ (h : HoldsLast t (last_given (gave_at_first ++ gave)) (bytes_of (found t.outfile)) x). last_holds h)
         (owed.each x fin)

@@ -1,6 +1,6 @@
 -- A generating that goes on from what is owed leaves it so: what it marks is what the output holds.
 use Rattle.std.specs.Bool.{⊤}
-use Rattle.std.proofs.Common.{◌≡◌, ◌≢◌, ◌⊎◌, inl, inr, ⊎_elim, ℕ, ◌+◌, ◌<◌, ◌≤◌, Bool, true, false, if◌then◌else◌, List, [], ◌∷◌, ◌++◌, length, map, take, drop, All, Option, Some, None, option_map, is_some, sym, ap, subst, ◌∙◌, arith, append-nil, append_assoc}
+use Rattle.std.proofs.Common.{◌≡◌, ◌≢◌, ◌⊎◌, inl, inr, ⊎_elim, ℕ, ◌+◌, ◌<◌, ◌≤◌, Bool, true, false, if◌then◌else◌, List, [], ◌∷◌, ◌++◌, length, map, take, drop, All, Option, Some, None, option_map, is_some, refl, sym, ap, subst, ◌∙◌, arith, append-nil, append_assoc}
 use Rattle.std.specs.List.{slice_get}
 use Rattle.std.proofs.lemmas.Bool.{cases_Bool}
 use Rattle.std.proofs.lemmas.List.{append_cancel_left}
@@ -8,8 +8,9 @@ use Rattle.std.proofs.lemmas.List.Elements.{All-nil, All-cons, All-append}
 use Rattle.std.proofs.lemmas.Option.{slice_get_within}
 use Rattle.block_list.specs.declared.status.Status.TheVariants.{Finished}
 use Rattle.block_list.specs.Map.{Has}
-use Rattle.crash_site.specs.Files.{File, bytes_of}
+use Rattle.crash_site.specs.Files.{File, bytes_of, draft_of}
 use Rattle.crash_site.specs.Calls.{Call, Entry}
+use Rattle.crash_site.specs.Left.{NothingLost}
 use Rattle.save_resume.specs.MapNames.{names_of}
 use Rattle.rescue_rules.specs.declared.stop.RunEnd.{RunEnd}
 use Rattle.rescue_rules.specs.Setting.{Setting, IsSensible, place}
@@ -20,7 +21,7 @@ use Rattle.rescue_rules.specs.Events.{began_at}
 use Rattle.rescue_rules.proofs.StandsLemmas.{stands_for_one}
 use Rattle.mapfile_text.specs.declared.state.MapState.{MapState}
 use Rattle.block_list.specs.declared.status.Status.{Status}
-use Rattle.rescue_rules.specs.Stops.{Before, files_before, has_barrier, LeftBy}
+use Rattle.rescue_rules.specs.Stops.{Before, files_before, lost_before, has_barrier, CouldBefore, StopOf, LeftBy}
 use Rattle.rescue_rules.specs.StopsBy.{published, IsKeptBy}
 use Rattle.rescue_rules.proofs.CutLemmas.{Cut, cut_past}
 use Rattle.rescue_rules.proofs.MapfileLemmas.{opening_by}
@@ -51,9 +52,10 @@ use Rattle.ddrescue_cli.proofs.SweepWay.{SweepWay, InMaps, AfterMaps, generate_w
 use Rattle.ddrescue_laws.specs.ModeLaws.{promised_generate}
 use Rattle.rescue_safety.specs.Saves.{CallsFinished}
 use Rattle.rescue_safety.specs.Safe.{Target}
-use Rattle.rescue_safety.specs.Owed.{last_given, looked_at, HoldsLast}
+use Rattle.rescue_safety.specs.Owed.{last_given, HoldsLast}
 use Rattle.rescue_safety.specs.OwedFiles.{IsOwedIn, IsOwedAt}
-use Rattle.rescue_safety.specs.Runs.{NextBegins, Link, IsGenerating, after_barrier}
+use Rattle.rescue_safety.specs.Runs.{NextBegins}
+use Rattle.rescue_safety.specs.MixedRuns.{MixedLink, after_barrier, looked_at, IsGenerating}
 use Rattle.rescue_safety.proofs.Texts.{IsStill}
 use Rattle.rescue_safety.proofs.SaveLemmas.{reads_still, opening_still}
 use Rattle.rescue_safety.proofs.QuietLemmas.{still_none}
@@ -64,6 +66,7 @@ use Rattle.rescue_safety.proofs.LookedLemmas.{pieces_given, StartFrom, given_pla
 use Rattle.rescue_safety.proofs.SeenLemmas.{Begins, calls_of_pieces, seen_in, part_looks, first_pieces, save_seen, none_saved}
 use Rattle.rescue_safety.proofs.SweepLooks.{looks_in, look_pairs, looked_by, IsBlind, cut_looks, blind_before, reads_blind, opening_blind, sweep_opening_blind, piece_look, sweep_looks, looked_pieces}
 use Rattle.rescue_safety.proofs.OwedLemmas.{IsSame, same_back, same_at, owed_before, next_owed, reads_left}
+use Rattle.rescue_safety.proofs.RescueLemmas.{whole_bytes}
 
 -- ---- how far it came
 
@@ -198,7 +201,8 @@ own_target s = record { outfile = s.outfile; mapfile = s.names.map; from = s.inp
 module _ (b : Before) (s : Setting) (g : Gain) (pieces : List Swept) (end : RunEnd)
     (comes : Comes s (files_before b) g.calls) (starts : StartFrom s.input_position pieces)
     (given : AreGiven s (bytes_of (files_before b s.outfile)) pieces) (stops : GenerateStops b s pieces end g)
-    (apart : s.outfile ≢ s.names.map)
+    (apart : s.outfile ≢ s.names.map) (own : s.names.draft ≡ draft_of s.names.map)
+    (unlost : NothingLost (files_before b s.outfile) (lost_before b s.outfile))
     (begins : (began : List Status) (was : Option MapState) → Stands (files_before b s.names.map) s.end began was
     → ((n : ℕ) → published (take n g.calls) ≡ 0) ⊎ Begins s began was g pieces end) where
   abbrev u : Target
@@ -206,6 +210,11 @@ module _ (b : Before) (s : Setting) (g : Gain) (pieces : List Swept) (end : RunE
 
   abbrev old_bytes : List ℕ
   old_bytes = bytes_of (files_before b s.outfile)
+
+  -- a stop
+  abbrev stop_at : (k : ℕ) (files : List ℕ → Option File) → k ≤ length g.calls → LeftBy b g.calls k files
+      → StopOf b g.calls
+  stop_at k files le left = record { k = k; files = files; within = le; left = left }
 
   -- the mapfile that it began with stood for a map, if the one that is found does
   began_of : (k : ℕ) (files : List ℕ → Option File) (x : ℕ)
@@ -216,7 +225,8 @@ module _ (b : Before) (s : Setting) (g : Gain) (pieces : List Swept) (end : RunE
       ⊎_elim
       (λ (none : (n : ℕ) → published (take n g.calls) ≡ 0).
       stands_at (files_before b s.names.map) s.end s.end f.map f.state
-      (subst (λ (o : Option File). Stands o s.end f.map f.state) (stops.mapfile k files le left is (none (k + 1))) f.stands))
+      (subst (λ (o : Option File). Stands o s.end f.map f.state)
+      ((stops.past (stop_at k files le left) is).mapfile (none (k + 1))) f.stands))
       (λ (at : StandsAt (files_before b s.names.map) s.end). at)
       comes
 
@@ -224,7 +234,7 @@ module _ (b : Before) (s : Setting) (g : Gain) (pieces : List Swept) (end : RunE
       (got : AreGiven s old_bytes front) (stand : (y : ℕ) → y < length old_bytes → slice_get image y ≡ slice_get old_bytes y) where
     -- a position that some piece gave a byte
     given_now : (x byte : ℕ) → last_given (pieces_given front) x ≡ Some byte
-        → HoldsLast u (gave ++ pieces_given front) image x
+        → HoldsLast u (last_given (gave ++ pieces_given front)) image x
     given_now x byte is =
         let p = given_placed s old_bytes front x byte first got is in
         record {
@@ -236,8 +246,8 @@ module _ (b : Before) (s : Setting) (g : Gain) (pieces : List Swept) (end : RunE
         }
 
     -- and one that none did
-    given_before : (x : ℕ) → last_given (pieces_given front) x ≡ None → HoldsLast u gave old_bytes x
-        → HoldsLast u (gave ++ pieces_given front) image x
+    given_before : (x : ℕ) → last_given (pieces_given front) x ≡ None → HoldsLast u (last_given gave) old_bytes x
+        → HoldsLast u (last_given (gave ++ pieces_given front)) image x
     given_before x none h = record {
       byte = h.byte;
       given = last_after gave (pieces_given front) x ∙ ap (λ (o : Option ℕ). last_of_both o (last_given gave x)) none
@@ -282,11 +292,15 @@ module _ (b : Before) (s : Setting) (g : Gain) (pieces : List Swept) (end : RunE
 
     -- once its barrier has returned
     owed_over : (x : ℕ) → IsOwedAt u gave old b → has_barrier (take k g.calls) ≡ true → CallsFinished (files s.names.map) x
-        → StandsAt (files_before b s.names.map) s.end → (old x ≡ true) ⊎ HoldsLast u (gave ++ pieces_given front) image x
+        → StandsAt (files_before b s.names.map) s.end → (old x ≡ true) ⊎ HoldsLast u (last_given (gave ++ pieces_given front)) image x
     owed_over x owed is fin (At began was there) =
+        let over = stops.past (stop_at k files le left) is in
         let kept : IsKeptBy (sweep_saves (generator s) began was g pieces end)
         (λ number map image. GeneratePromise s old_bytes began map image) b s g.calls began k files
-        = stops.kept k files began was le left is there in
+        = subst (λ (bytes : List ℕ). IsKeptBy (sweep_saves (generator s) began was g pieces end)
+        (λ number map image. GeneratePromise s bytes began map image) b s g.calls began k files)
+        (whole_bytes (files_before b s.outfile) (lost_before b s.outfile) over.was unlost over.could.alike)
+        (over.kept began was there) in
         let first : IsOwedIn u gave old (files_before b) = owed.each (files_before b) (reads_left b) in
         let has : Has kept.statuses Finished x
         = finished_has (files s.names.map) s.end x kept.statuses kept.shows kept.stands fin in
@@ -295,7 +309,7 @@ module _ (b : Before) (s : Setting) (g : Gain) (pieces : List Swept) (end : RunE
         inr (given_now gave old image front front_starts front_given kept.held.stands x some.0 some.1))
         (λ (none : last_given (pieces_given front) x ≡ None).
         ⊎_elim (λ (is : old x ≡ true). inl is)
-        (λ (h : HoldsLast u gave old_bytes x). inr (given_before gave old image front front_starts front_given kept.held.stands x none h))
+        (λ (h : HoldsLast u (last_given gave) old_bytes x). inr (given_before gave old image front front_starts front_given kept.held.stands x none h))
         (first.each x (calls_finished (files_before b s.names.map) s.end x began was there
         (was_began began was there kept x none has))))
         (some_or_none (last_given (pieces_given front) x))
@@ -312,10 +326,11 @@ module _ (b : Before) (s : Setting) (g : Gain) (pieces : List Swept) (end : RunE
         (λ (off : has_barrier (take k g.calls) ≡ false).
         subst (λ (c : Bool). IsOwedIn u (gave ++ some c) old files) (sym off)
         (subst (λ (l : List (ℕ × ℕ)). IsOwedIn u l old files) (sym (append-nil gave))
-        (owed_before u b gave old files apart owed (stops.before k files le left off))))
+        (owed_before u b gave old files apart owed
+        (subst (λ (n : List ℕ). CouldBefore b s.outfile n files) own (stops.before (stop_at k files le left) off)))))
         (cases_Bool (has_barrier (take k g.calls)))
 
-module _ (t : Target) (l : Link) (apart : t.outfile ≢ t.mapfile) (q : IsGenerating t l) where
+module _ (t : Target) (l : MixedLink) (apart : t.outfile ≢ t.mapfile) (q : IsGenerating t l) where
   abbrev p : TaskDone (Generate q.command) q.call.told
   p = promised_generate q.call.promised q.asks
 
@@ -376,10 +391,24 @@ module _ (t : Target) (l : Link) (apart : t.outfile ≢ t.mapfile) (q : IsGenera
   within : q.step.moment ≤ length g.calls
   within = subst (λ (cs : List Entry). q.step.moment ≤ length cs) calls_are q.step.within
 
-  next : NextBegins b g.calls q.step.moment l.next
+  next : NextBegins s.outfile b g.calls q.step.moment l.next
   next =
-      subst (λ (n : Before). NextBegins n g.calls q.step.moment l.next) q.step.before
-      (subst (λ (cs : List Entry). NextBegins l.before cs q.step.moment l.next) calls_are q.step.next)
+      subst (λ (n : List ℕ). NextBegins n b g.calls q.step.moment l.next) (sym q.step.outfile)
+      (subst (λ (n : Before). NextBegins t.outfile n g.calls q.step.moment l.next) q.step.before
+      (subst (λ (cs : List Entry). NextBegins t.outfile l.before cs q.step.moment l.next) calls_are q.step.next))
+
+  own_draft : s.names.draft ≡ draft_of s.names.map
+  own_draft =
+      subst (λ (m : Option (List ℕ)).
+      (names_in (option_map names_of m)).draft ≡ draft_of (names_in (option_map names_of m)).map)
+      (sym q.step.mapfile) refl
+
+  -- nothing of its output was lost
+  unlost : NothingLost (files_before b s.outfile) (lost_before b s.outfile)
+  unlost =
+      subst (λ (n : List ℕ). NothingLost (files_before b n) (lost_before b n)) (sym q.step.outfile)
+      (subst (λ (n : Before). NothingLost (files_before n t.outfile) (lost_before n t.outfile))
+      q.step.before q.none_lost)
 
   -- what it gave is what its pieces got that it had read by then
   abbrev got_by_then : List Swept
@@ -423,5 +452,6 @@ module _ (t : Target) (l : Link) (apart : t.outfile ≢ t.mapfile) (q : IsGenera
       (next_owed (own_target s) (gave ++ gives) old b g.calls q.step.moment l.next
       (λ files left. owed_at_stop b s g p.outside.pieces p.outside.swept
       (way_comes s (files_of q.call.told) p.outside.pieces p.outside.swept on g way) starts given (p.leaves.stops q.call.site_tells).1 own_apart
+      own_draft unlost
       (λ began was there. way_begins b s p.outside.pieces p.outside.swept on began was there g way)
       gave old q.step.moment files within left here) next))

@@ -27,18 +27,18 @@ module _ (d : Run) (k : ℕ) (files : List ℕ → Option File) (held : IsHeld d
         holds = h.2;
       }
 
-  still_holds : gives d x ≡ None → StillHolds d.target (files_before d.past) files x
+  still_holds : gives d x ≡ None → StillHolds d.target d.past files x
   still_holds none = record {
     finished = ⊎_elim (λ (was : CallsFinished (files_before d.past d.target.mapfile) x). was)
         (λ (some : (b : ℕ) × (gives d x ≡ Some b)). absurd (never_some some.0 (gives d x) none some.1))
         (held.claimed x fin);
-    holds = λ y b at was.
-        held.stood y (slice_get_within (bytes_at_first d) y b was)
+    holds = λ y b at was unlost.
+        held.stood y (slice_get_within (bytes_at_first d) y b was) unlost
         (λ z place. subst (λ (n : ℕ). gives d n ≡ None) (let same : x ≡ z = omega (arith, at, place) in same) none)
         ∙ was;
   }
 
-  holds_it : HoldsGiven d files x ⊎ ((gives d x ≡ None) × StillHolds d.target (files_before d.past) files x)
+  holds_it : HoldsGiven d files x ⊎ ((gives d x ≡ None) × StillHolds d.target d.past files x)
   holds_it =
       ⊎_elim (λ (some : (b : ℕ) × (gives d x ≡ Some b)). inl (holds_given some.0 some.1))
       (λ (none : gives d x ≡ None). inr (none, still_holds none)) (some_or_none (gives d x))

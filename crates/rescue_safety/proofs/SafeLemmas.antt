@@ -1,14 +1,16 @@
 -- Any rescue is safe wherever it is stopped.
-use Rattle.std.proofs.Common.{◌≡◌, ◌⊎◌, inl, inr, ⊎_elim, ℕ, ◌+◌, ◌≤◌, true, false, List, [], ◌∷◌, ◌++◌, length, take, map, All, Option, Some, None, option_map, is_some, refl, sym, ap, subst, ◌∙◌, arith}
+use Rattle.std.proofs.Common.{◌≡◌, ◌⊎◌, inl, inr, ⊎_elim, ℕ, ◌+◌, ◌≤◌, ◌<◌, get_or, true, false, List, [], ◌∷◌, ◌++◌, length, take, map, All, Option, Some, None, option_map, is_some, refl, sym, ap, subst, ◌∙◌, arith}
 use Rattle.std.specs.List.{slice_get}
 use Rattle.std.proofs.lemmas.List.{append_cancel_left}
+use Rattle.std.proofs.lemmas.Option.{slice_get-get_or}
 use Rattle.block_list.specs.declared.status.Status.{Status}
 use Rattle.block_list.specs.declared.status.Status.TheVariants.{Finished}
 use Rattle.block_list.specs.Map.{Has}
 use Rattle.mapfile_text.specs.declared.state.MapState.{MapState}
 use Rattle.faulty_source.specs.Journal.{Reading}
-use Rattle.crash_site.specs.Files.{File, bytes_of}
+use Rattle.crash_site.specs.Files.{File, bytes_of, draft_of}
 use Rattle.crash_site.specs.Calls.{Entry}
+use Rattle.crash_site.specs.Left.{IsLoose, Matches}
 use Rattle.save_resume.specs.MapNames.{names_of}
 use Rattle.save_resume.specs.Named.{map_mode, IsMapOf}
 use Rattle.rescue_domain.specs.Testing.{seen}
@@ -16,8 +18,9 @@ use Rattle.rescue_rules.specs.Setting.{Setting, IsSensible, place}
 use Rattle.rescue_rules.specs.Start.{Stands}
 use Rattle.rescue_rules.specs.Given.{given}
 use Rattle.rescue_rules.specs.Work.{Gain, Goes}
-use Rattle.rescue_rules.specs.Stops.{Before, files_before, has_barrier, LeftBy}
-use Rattle.rescue_rules.specs.StopsBy.{IsKept, RescueStopsBy}
+use Rattle.rescue_rules.specs.Held.{Held}
+use Rattle.rescue_rules.specs.Stops.{Before, files_before, lost_before, has_barrier, CouldBefore, opened_output, CouldBeOutput, StopOf, LeftBy}
+use Rattle.rescue_rules.specs.StopsBy.{IsKept, KeepsOver, saves_of, RescueStopsBy}
 use Rattle.rescue_core.specs.RunState.{names_in}
 use Rattle.option_words.specs.Words.{command_line}
 use Rattle.ddrescue_words.specs.Command.{Command, Rescue as ForRescue}
@@ -49,6 +52,31 @@ use Rattle.rescue_safety.specs.Written.{written_in, kept_in}
 use Rattle.rescue_safety.proofs.BegunLemmas.{writes_in, none_begun}
 use Rattle.rescue_safety.proofs.TestLemmas.{tested}
 use Rattle.rescue_safety.proofs.DomainLemmas.{asked_for, named_file}
+
+-- an output that could be before is no shorter than the one that reads,
+pub was_longer : (o : Option File) (lost : List (ℕ × ℕ)) (was : File) (y : ℕ) → Matches (opened_output o) lost was
+    → y < length (bytes_of o) → y < length was.bytes
+was_longer None lost was y h low = absurd (let no : y < 0 = low in omega arith)
+was_longer (Some f) lost was y h low = omega (arith, low, h.no_shorter)
+
+-- and the same where nothing was lost
+pub same_byte : (o : Option File) (lost : List (ℕ × ℕ)) (was : File) (y : ℕ) → Matches (opened_output o) lost was
+    → (IsLoose lost y → ⊥) → y < length (bytes_of o) → slice_get was.bytes y ≡ slice_get (bytes_of o) y
+same_byte None lost was y h unlost low = absurd (let no : y < 0 = low in omega arith)
+same_byte (Some f) lost was y h unlost low =
+    let e : get_or was.bytes y 0 ≡ get_or f.bytes y 0 = ⊎_elim (λ l. absurd (unlost l)) (λ same. same)
+    (h.stands y low) in
+    slice_get-get_or was.bytes y 0 (omega (arith, low, h.no_shorter)) ∙ ap (λ (v : ℕ). Some v) e
+    ∙ sym (slice_get-get_or f.bytes y 0 low)
+
+-- What a stop leaves past the barrier is held over an output that a stop before the run could have left: this has its byte
+-- in each place whose position no read gave one.
+pub record HeldOver (r : Run) (k : ℕ) (files : List ℕ → Option File) : Type 0 where
+  pub was : File
+  pub could : CouldBeOutput r.past r.target.outfile (draft_of r.target.mapfile) was
+  pub held : IsHeld r k files
+  pub stood : (y : ℕ) → y < length was.bytes → ((x : ℕ) → HasPlace r.target x y → gives r x ≡ None)
+      → slice_get (bytes_of (files r.target.outfile)) y ≡ slice_get was.bytes y
 
 none_left : (test : Option (List Status)) → seen_through test [] ≡ []
 none_left None = refl
@@ -159,13 +187,21 @@ module _ (r : Rescue) where
   -- ---- one stop
 
   module _ (k : ℕ) (files : List ℕ → Option File) (le : k ≤ length g.calls) (left : LeftBy b g.calls k files) where
+    abbrev stop : StopOf b g.calls
+    stop = record { k = k; files = files; within = le; left = left }
+
+    -- after the barrier it keeps its promise over an output that could be before
+    over : has_barrier (take k g.calls) ≡ true → KeepsOver (λ began state. saves_of s began state g)
+        (λ old began state number map image. Held s g.reads old map image) true b s g.calls k files
+    over is = safe.past stop is
+
     -- the mapfile that a rescue began with stood for a map, if the one that is found does
     began_of : (end : ℕ) (map : List Status) (state : Option MapState) → has_barrier (take k g.calls) ≡ true
         → Stands (files s.names.map) end map state → StandsAt (files_before b s.names.map) s.end
     began_of end map state is stands =
         ⊎_elim
         (λ (n : (j : ℕ) → SavesNone g.calls j). stands_at (files_before b s.names.map) end s.end map state
-        (subst (λ (f : Option File). Stands f end map state) (safe.mapfile k files le left is (n k).published) stands))
+        (subst (λ (f : Option File). Stands f end map state) ((over is).mapfile (n k).published) stands))
         (λ (at : StandsAt (files_before b s.names.map) s.end). at)
         (none_or_stands s (files_before b) g on goes)
 
@@ -176,14 +212,15 @@ module _ (r : Rescue) where
         let f : StandsFinished (files s.names.map) s.end x = stands_finished (files s.names.map) s.end x fin in
         began_of s.end f.map f.state is f.stands
 
-    kept_has : (began : List Status) (was : Option MapState) (x : ℕ) (kept : IsKept b s g began was k files)
+    kept_has : {old : List ℕ} (began : List Status) (was : Option MapState) (x : ℕ)
+        (kept : IsKept b s g old began was k files)
         → CallsFinished (files s.names.map) x → Has kept.statuses Finished x
     kept_has began was x kept fin = finished_has (files s.names.map) s.end x kept.statuses kept.shows kept.stands fin
 
     mapfile_over : has_barrier (take k g.calls) ≡ true → StandsAt (files_before b s.names.map) s.end
         → IsOneSaved (files_before b s.names.map) g.calls k (files s.names.map)
     mapfile_over is (At began was there) =
-        let i = safe.kept k files began was le left is there in
+        let i = (over is).kept began was there in
         record {
           number = i.number;
           no_older = λ before after name cut. omega (
@@ -201,7 +238,7 @@ module _ (r : Rescue) where
         (λ (n : (j : ℕ) → SavesNone g.calls j). record {
           number = 0;
           no_older = λ before after name cut. none_settled g.calls k before after name n cut;
-          is = safe.mapfile k files le left is (n k).published;
+          is = (over is).mapfile (n k).published;
         })
         (λ (at : StandsAt (files_before b s.names.map) s.end). mapfile_over is at)
         (none_or_stands s (files_before b) g on goes)
@@ -209,7 +246,7 @@ module _ (r : Rescue) where
     found_over : (end : ℕ) → has_barrier (take k g.calls) ≡ true → StandsAt (files_before b s.names.map) s.end
         → StandsAt (files s.names.map) end
     found_over end is (At began was there) =
-        let kept = safe.kept k files began was le left is there in
+        let kept = (over is).kept began was there in
         stands_at (files s.names.map) s.end end kept.statuses kept.shows kept.stands
 
     pub found_stands : (end : ℕ) (map : List Status) (state : Option MapState) → has_barrier (take k g.calls) ≡ true
@@ -224,7 +261,7 @@ module _ (r : Rescue) where
     same_over : (x : ℕ) → has_barrier (take k g.calls) ≡ true → CallsFinished (files s.names.map) x
         → StandsAt (files_before b s.names.map) s.end → then_gave x ≡ given s.sector g.reads x
     same_over x is fin (At began was there) =
-        let kept = safe.kept k files began was le left is there in
+        let kept = (over is).kept began was there in
         kept_given b s g began was ok on goes there k files kept x (kept_has began was x kept fin)
 
     pub same_then : (x : ℕ) → has_barrier (take k g.calls) ≡ true → CallsFinished (files s.names.map) x
@@ -237,7 +274,7 @@ module _ (r : Rescue) where
     claimed_over : (x : ℕ) → has_barrier (take k g.calls) ≡ true → CallsFinished (files s.names.map) x
         → StandsAt (files_before b s.names.map) s.end → Claims x
     claimed_over x is fin (At began was there) =
-        let kept = safe.kept k files began was le left is there in
+        let kept = (over is).kept began was there in
         ⊎_elim
         (λ (some : (byte : ℕ) × (given s.sector g.reads x ≡ Some byte)).
         inr (some.0, same_then x is fin ∙ some.1))
@@ -250,7 +287,7 @@ module _ (r : Rescue) where
         → given s.sector g.reads x ≡ Some byte → StandsAt (files_before b s.names.map) s.end
         → (y : ℕ) × HasPlace (target_of c r.mapfile) x y × (slice_get (bytes_of (files c.outfile)) y ≡ Some byte)
     rescued_over x byte is fin gave (At began was there) =
-        let kept = safe.kept k files began was le left is there in
+        let kept = (over is).kept began was there in
         let in_domain : s.domain x ≡ true = inside x byte gave in (
           place s x,
           omega (arith, ok.from x in_domain),
@@ -261,7 +298,7 @@ module _ (r : Rescue) where
         → CallsFinished (files s.names.map) x
     still x is fin =
         let f : StandsFinished (files_before b s.names.map) s.end x = stands_finished (files_before b s.names.map) s.end x fin in
-        let kept = safe.kept k files f.map f.state le left is f.stands in
+        let kept = (over is).kept f.map f.state f.stands in
         calls_finished (files s.names.map) s.end x kept.statuses kept.shows kept.stands
         (still_finished b s g f.map f.state ok on goes f.stands k files kept x f.has)
 
@@ -278,8 +315,12 @@ module _ (r : Rescue) where
       kept = λ x fin. still x is fin;
       rescued = λ x byte fin gave.
           rescued_over x byte is fin (sym (same_then x is fin) ∙ gave) (began_by x is fin);
-      stood = λ y low none.
-          safe.unwritten k files y le left is (goes_unwritten s ok y (files_before b) g (k + 1) on goes none) low;
+      stood = λ y low unlost none.
+          let o = over is in
+          let low_was : y < length o.was.bytes = was_longer (files_before b s.outfile) (lost_before b s.outfile) o.was y
+          o.could.alike low in
+          o.unwritten y (goes_unwritten s ok y (files_before b) g (k + 1) on goes none) low_was
+          ∙ same_byte (files_before b s.outfile) (lost_before b s.outfile) o.was y o.could.alike unlost low;
     }
 
   safe_at : (k : ℕ) (files : List ℕ → Option File) → k ≤ length r.did.call.calls → LeftBy b r.did.call.calls k files
@@ -288,20 +329,48 @@ module _ (r : Rescue) where
       let le' : k ≤ length g.calls = subst (λ (l : List Entry). k ≤ length l) calls_are le in
       let left' : LeftBy b g.calls k files = subst (λ (l : List Entry). LeftBy b l k files) calls_are left in
       record {
-        until_barrier = λ off. safe.before k files le' left'
-            (subst (λ (l : List Entry). has_barrier (take k l) ≡ false) calls_are off);
+        until_barrier = λ off. subst (λ (n : List ℕ). CouldBefore b s.outfile n files) draft_is
+            (safe.before (record { k = k; files = files; within = le'; left = left' })
+            (subst (λ (l : List Entry). has_barrier (take k l) ≡ false) calls_are off));
         past_barrier = λ is.
             subst (λ (l : List Entry). IsHeld (run_with k files le' left' r.mapfile l) k files) (sym calls_are)
             (subst (λ (m : List ℕ). IsHeld (run_with k files le' left' m g.calls) k files) map_is
             (held k files le' left' (subst (λ (l : List Entry). has_barrier (take k l) ≡ true) calls_are is)));
         others = λ name output mapfile draft.
-            safe.others k files name le' left' output (λ is. mapfile (is ∙ map_is)) (λ is. draft (is ∙ draft_is));
+            safe.others (record { k = k; files = files; within = le'; left = left' }) name output
+            (λ is. mapfile (is ∙ map_is)) (λ is. draft (is ∙ draft_is));
       }
 
   safe_by : IsSafeAnywhere (run_of r g.reads)
   safe_by = record { own = own; safe = safe_at }
 
+  -- once the barrier has returned, what is found is held over an output that could be before
+  over_at : (k : ℕ) (files : List ℕ → Option File) → k ≤ length r.did.call.calls → LeftBy b r.did.call.calls k files
+      → has_barrier (take k r.did.call.calls) ≡ true → HeldOver (by_then (run_of r g.reads) k) k files
+  over_at k files le left is =
+      let le' : k ≤ length g.calls = subst (λ (l : List Entry). k ≤ length l) calls_are le in
+      let left' : LeftBy b g.calls k files = subst (λ (l : List Entry). LeftBy b l k files) calls_are left in
+      let is' : has_barrier (take k g.calls) ≡ true
+      = subst (λ (l : List Entry). has_barrier (take k l) ≡ true) calls_are is in
+      let o = over k files le' left' is' in
+      record {
+        was = o.was;
+        could = subst (λ (n : List ℕ). CouldBeOutput b s.outfile n o.was) draft_is o.could;
+        held = (safe_at k files le left).past_barrier is;
+        stood = λ y low none.
+            o.unwritten y (goes_unwritten s ok y (files_before b) g (k + 1) on goes
+            (subst (λ (l : List Entry). (x : ℕ) → HasPlace (target_of c r.mapfile) x y
+            → given s.sector (reads_until s.sector (writes_in (take (k + 1) l)) g.reads) x ≡ None) calls_are none)) low;
+      }
+
 -- by any reads that are seen
+pub held_over : (r : Rescue) (reads : List Reading) (k : ℕ) (files : List ℕ → Option File) → AreSeen r reads
+    → k ≤ length r.did.call.calls → LeftBy (b r) r.did.call.calls k files
+    → has_barrier (take k r.did.call.calls) ≡ true → HeldOver (by_then (run_of r reads) k) k files
+held_over r reads k files are le left is =
+    subst (λ (l : List Reading). HeldOver (by_then (run_of r l) k) k files) (sym (seen_alone r reads are))
+    (over_at r k files le left is)
+
 pub safe_anywhere : (r : Rescue) (reads : List Reading) → AreSeen r reads → IsSafeAnywhere (run_of r reads)
 safe_anywhere r reads are =
     subst (λ (l : List Reading). IsSafeAnywhere (run_of r l)) (sym (seen_alone r reads are)) (safe_by r)
@@ -395,7 +464,7 @@ none_given None never = refl
 none_given (Some byte) never = absurd (never byte refl)
 
 pub leaves_the_rest : LeavesTheRest
-leaves_the_rest r k files y le left is low unasked =
-    ((safe_at r k files le left).past_barrier is).stood y low
+leaves_the_rest r k files y le left is low unlost unasked =
+    ((safe_at r k files le left).past_barrier is).stood y low unlost
     (λ x at. none_given (gives (by_then (run_of r (g r).reads) k) x)
     (λ byte gave. unasked x at (begun_asked_for r (g r).reads k x byte (seen_are r) gave)))

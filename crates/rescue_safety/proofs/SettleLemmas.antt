@@ -20,8 +20,7 @@ use Rattle.rescue_rules.proofs.CutLemmas.{Cut}
 use Rattle.rescue_rules.proofs.DeedStages.{last_calls, all_calls}
 use Rattle.rescue_rules.proofs.MapfileLemmas.{opening_by}
 use Rattle.rescue_rules.proofs.OthersLemmas.{reads_of}
-use Rattle.rescue_safety.specs.Saves.{texts_in}
-use Rattle.rescue_safety.proofs.Texts.{IsStill, AreStill, cut_take, texts_published}
+use Rattle.rescue_safety.proofs.Texts.{texts_in, IsStill, AreStill, cut_take, texts_published}
 use Rattle.rescue_safety.proofs.SaveLemmas.{Made, calls_of_run, reads_still, opening_still, load_still, moves_still}
 use Rattle.rescue_safety.proofs.QuietLemmas.{SavesNone}
 use Rattle.rescue_safety.proofs.BegunLemmas.{Past, cut_split, count_both, count_step, cut_published, save_published}
@@ -112,7 +111,7 @@ cut_before : (cs : List Call) (es fs : List Entry) → Cut cs (es ++ fs) → Cut
 cut_before cs [] fs cut = tt
 cut_before [] (e ∷ es) fs cut = absurd cut
 cut_before (c ∷ cs) (Done x ∷ es) fs cut = (cut.0, cut_before cs es fs cut.1)
-cut_before (c ∷ cs) (Failed x ∷ es) fs cut = (cut.0, none_before es fs cut.1)
+cut_before (c ∷ cs) (Failed x steps ∷ es) fs cut = (cut.0, none_before es fs cut.1)
 
 module _ (s : Setting) (began : List Status) (state : Option MapState) (g : Gain) (made : Made s began state g) where
   abbrev load : List Call

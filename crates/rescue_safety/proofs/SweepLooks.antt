@@ -22,7 +22,7 @@ use Rattle.sweep_rules.specs.Sweep.{Sweep, Swept, generator, after_piece, after_
 use Rattle.sweep_rules.specs.SweepLaws.{AreGiven}
 use Rattle.sweep_rules.specs.SweepWork.{SweepEnds, IsSaved, IsUnsaved, IsCut, IsBroken, sweep_calls, sweep_opening, lost_call}
 use Rattle.rescue_safety.specs.Safe.{Target}
-use Rattle.rescue_safety.specs.Owed.{looked_at}
+use Rattle.rescue_safety.specs.MixedRuns.{looked_at}
 use Rattle.rescue_safety.proofs.LookedLemmas.{pieces_given, StartFrom}
 
 -- where calls read the output, and how many bytes each of them got
@@ -54,7 +54,7 @@ looks_step (Done draft_sync) es = refl
 looks_step (Done (draft_publish name)) es = refl
 looks_step (Done (map_settle name)) es = refl
 looks_step (Done (map_remove name)) es = refl
-looks_step (Failed call) es = refl
+looks_step (Failed call steps) es = refl
 
 looked_step : (t : Target) (image : List ℕ) (e : Entry) (es : List Entry)
     → looked_at t image (e ∷ es) ≡ look_pairs t image (look_of e) ++ looked_at t image es
@@ -71,7 +71,7 @@ looked_step t image (Done draft_sync) es = refl
 looked_step t image (Done (draft_publish name)) es = refl
 looked_step t image (Done (map_settle name)) es = refl
 looked_step t image (Done (map_remove name)) es = refl
-looked_step t image (Failed call) es = refl
+looked_step t image (Failed call steps) es = refl
 
 pairs_both : (t : Target) (image : List ℕ) (cs bs : List (ℕ × ℕ))
     → look_pairs t image (cs ++ bs) ≡ look_pairs t image cs ++ look_pairs t image bs
@@ -110,7 +110,7 @@ cut_looks (c ∷ cs) (Done x ∷ es) blind cut =
     ∙ ap (λ (l : List (ℕ × ℕ)). l ++ looks_in es)
     (ap (λ (z : Call). look_of (Done z)) cut.0 ∙ All-head IsBlind c cs blind)
     ∙ cut_looks cs es (All-tail IsBlind c cs blind) cut.1
-cut_looks (c ∷ cs) (Failed x ∷ es) blind cut = ap looks_in cut.1
+cut_looks (c ∷ cs) (Failed x steps ∷ es) blind cut = ap looks_in cut.1
 
 blind_looks : (cs : List Call) → All IsBlind cs → looks_in (map Done cs) ≡ []
 blind_looks [] blind = refl
@@ -132,8 +132,8 @@ blind_before cs es blind =
 lost_looks : (c : Call) (old new : List Entry) → Lost c old new → looks_in new ≡ looks_in old
 lost_looks c old new h =
     ⊎_elim
-    (λ (is : new ≡ old ++ Failed c ∷ []).
-    ap looks_in is ∙ looks_both old (Failed c ∷ []) ∙ append-nil (looks_in old))
+    (λ (is : (steps : ℕ) × (new ≡ old ++ Failed c steps ∷ [])).
+    ap looks_in is.1 ∙ looks_both old (Failed c is.0 ∷ []) ∙ append-nil (looks_in old))
     (λ (is : new ≡ old). ap looks_in is) h
 
 broke_looks : (at : SiteCall) (cs : List Call) (old new : List Entry) → All IsBlind cs → BrokeAt at cs old new

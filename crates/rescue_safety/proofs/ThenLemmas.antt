@@ -30,9 +30,8 @@ use Rattle.rescue_rules.proofs.MapfileLemmas.{opening_by}
 use Rattle.rescue_rules.proofs.OthersLemmas.{reads_of as load_of}
 use Rattle.rescue_rules.proofs.PreparationLemmas.{prepares_no_finished}
 use Rattle.rescue_rules.proofs.ReadyLemmas.{order_over}
-use Rattle.rescue_safety.specs.Saves.{texts_in}
 use Rattle.rescue_safety.specs.Safe.{reads_until}
-use Rattle.rescue_safety.proofs.Texts.{Publish, IsStill, cut_take, still_publish, texts_published}
+use Rattle.rescue_safety.proofs.Texts.{texts_in, Publish, IsStill, cut_take, still_publish, texts_published}
 use Rattle.rescue_safety.proofs.SaveLemmas.{Made, calls_of_run, course_made, goes_made, reads_still, opening_still, load_still}
 use Rattle.rescue_safety.proofs.SpareLemmas.{Spares, cut_unwritten, reads_spare, opening_spares, load_spares, Ungiven}
 use Rattle.rescue_safety.proofs.ClaimLemmas.{Ran, goes_ran}
@@ -179,9 +178,10 @@ module _ (s : Setting) (began : List Status) (state : Option MapState) (g : Gain
 
 -- ---- of a rescue
 
-pub kept_given : (b : Before) (s : Setting) (g : Gain) (began : List Status) (state : Option MapState) (ok : IsSensible s)
+pub kept_given : {old : List ℕ} (b : Before) (s : Setting) (g : Gain) (began : List Status) (state : Option MapState)
+    (ok : IsSensible s)
     → s.has_mapfile ≡ true → Goes s (files_before b) g → Stands (files_before b s.names.map) s.end began state
-    → (k : ℕ) (files : List ℕ → Option File) (kept : IsKept b s g began state k files) (x : ℕ)
+    → (k : ℕ) (files : List ℕ → Option File) (kept : IsKept b s g old began state k files) (x : ℕ)
     → Has kept.statuses Finished x
     → given s.sector (reads_until s.sector (writes_in (take (k + 1) g.calls)) g.reads) x ≡ given s.sector g.reads x
 kept_given b s g began state ok on goes stands k files kept x has =

@@ -55,18 +55,19 @@ done_step (draft_publish name) es = refl
 done_step (map_settle name) es = refl
 done_step (map_remove name) es = refl
 
-failed_step : (c : Call) (es : List Entry) → written_in (Failed c ∷ es) ≡ written_of c ++ written_in es
-failed_step (image_open name make) es = refl
-failed_step (image_read pos asked answer) es = refl
-failed_step (image_write pos piece) es = refl
-failed_step image_sync es = refl
-failed_step (map_read name pos asked answer) es = refl
-failed_step (draft_begin name) es = refl
-failed_step (draft_append piece) es = refl
-failed_step draft_sync es = refl
-failed_step (draft_publish name) es = refl
-failed_step (map_settle name) es = refl
-failed_step (map_remove name) es = refl
+failed_step : (c : Call) (steps : ℕ) (es : List Entry)
+    → written_in (Failed c steps ∷ es) ≡ written_of c ++ written_in es
+failed_step (image_open name make) steps es = refl
+failed_step (image_read pos asked answer) steps es = refl
+failed_step (image_write pos piece) steps es = refl
+failed_step image_sync steps es = refl
+failed_step (map_read name pos asked answer) steps es = refl
+failed_step (draft_begin name) steps es = refl
+failed_step (draft_append piece) steps es = refl
+failed_step draft_sync steps es = refl
+failed_step (draft_publish name) steps es = refl
+failed_step (map_settle name) steps es = refl
+failed_step (map_remove name) steps es = refl
 
 unanswered_written : (c : Call) → written_of (unanswered c) ≡ written_of c
 unanswered_written (image_open name make) = refl
@@ -134,11 +135,12 @@ cut_written (c ∷ cs) (Done x ∷ es) cut =
           ∙ sym (append_assoc (written_of c) (written_in es) f.rest)
           ∙ ap (λ (l : List (ℕ × List ℕ)). l ++ f.rest) (sym own);
     }
-cut_written (c ∷ cs) (Failed x ∷ es) cut =
+cut_written (c ∷ cs) (Failed x steps ∷ es) cut =
     let same : written_of x ≡ written_of c
     = ⊎_elim (λ (is : x ≡ c). ap written_of is) (λ (is : x ≡ unanswered c). ap written_of is ∙ unanswered_written c) cut.0 in
-    let own : written_in (Failed x ∷ es) ≡ written_of c
-    = ap (λ (l : List Entry). written_in (Failed x ∷ l)) cut.1 ∙ failed_step x [] ∙ append-nil (written_of x) ∙ same in
+    let own : written_in (Failed x steps ∷ es) ≡ written_of c
+    = ap (λ (l : List Entry). written_in (Failed x steps ∷ l)) cut.1 ∙ failed_step x steps [] ∙ append-nil
+    (written_of x) ∙ same in
     record { rest = all_written cs; is = ap (λ (l : List (ℕ × List ℕ)). l ++ all_written cs) (sym own) }
 
 -- ---- a save writes nothing

@@ -5,7 +5,8 @@ use Rattle.mapfile_text.specs.declared.state.MapState.{MapState}
 use Rattle.faulty_source.specs.Journal.{Reading}
 use Rattle.crash_site.specs.Files.{File, bytes_of}
 use Rattle.rescue_rules.specs.Start.{Stands}
-use Rattle.rescue_rules.specs.Stops.{has_barrier, LeftBy}
+use Rattle.crash_site.specs.Left.{IsLoose}
+use Rattle.rescue_rules.specs.Stops.{lost_before, has_barrier, LeftBy}
 use Rattle.ddrescue_words.specs.Command.{Command}
 use Rattle.ddrescue_words.specs.Asking.{Asks}
 use Rattle.ddrescue_cli.specs.Told.{Told}
@@ -47,10 +48,11 @@ StaysResumable = (r : Rescue) (k : ℕ) (files : List ℕ → Option File) (end 
     → has_barrier (take k r.did.call.calls) ≡ true → Stands (files_at_first r r.mapfile) end map state
     → (found : List Status) × (shown : Option MapState) × Stands (files r.mapfile) end found shown
 
--- The output's old byte is in a place whose position isn't asked for.
+-- The output's old byte is in a place whose position isn't asked for, unless that place was lost before.
 abbrev pub LeavesTheRest : Type 0
 LeavesTheRest = (r : Rescue) (k : ℕ) (files : List ℕ → Option File) (y : ℕ) → k ≤ length r.did.call.calls
     → LeftBy (run_of r []).past r.did.call.calls k files → has_barrier (take k r.did.call.calls) ≡ true
     → y < length (bytes_at_first (run_of r []))
+    → (IsLoose (lost_before (run_of r []).past r.command.outfile) y → ⊥)
     → ((x : ℕ) → HasPlace (target_of r.command r.mapfile) x y → IsAskedFor r x → ⊥)
     → slice_get (bytes_of (files r.command.outfile)) y ≡ slice_get (bytes_at_first (run_of r [])) y

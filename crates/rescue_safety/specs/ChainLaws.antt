@@ -7,25 +7,28 @@ use Rattle.mapfile_text.specs.declared.state.MapState.{MapState}
 use Rattle.faulty_source.specs.Journal.{Reading}
 use Rattle.crash_site.specs.Files.{File}
 use Rattle.crash_site.specs.Folder.{Folder}
+use Rattle.crash_site.specs.Left.{NothingLost}
 use Rattle.rescue_rules.specs.Given.{given}
 use Rattle.rescue_rules.specs.Start.{Stands}
-use Rattle.rescue_rules.specs.Stops.{Before, files_before, has_barrier}
+use Rattle.rescue_rules.specs.Stops.{Before, files_before, lost_before, has_barrier}
 use Rattle.rescue_safety.specs.Saves.{CallsFinished}
 use Rattle.rescue_safety.specs.Safe.{Target}
 use Rattle.rescue_safety.specs.Owed.{last_given, pairs_of}
 use Rattle.rescue_safety.specs.OwedFiles.{IsOwedIn, IsOwedAt}
-use Rattle.rescue_safety.specs.Runs.{Link, IsRescue, IsChain, all_given}
-use Rattle.rescue_safety.specs.Early.{IsTooEarly, IsUnwrittenMap}
+use Rattle.rescue_safety.specs.MixedRuns.{MixedLink, IsRescue, IsMixedChain, all_given}
+use Rattle.rescue_safety.specs.Early.{IsTooEarly, IsRetried, IsUnwrittenMap}
 
--- If all is owed at each stop before a chain of runs, it is after them, with what they gave.
+-- If all is owed at each stop before a mixed chain, it is after it, with what its runs gave.
 abbrev pub ChainOwes : Type 0
-ChainOwes = (t : Target) (from to : Before) (links : List Link) (gave : List (ℕ × ℕ)) (old : ℕ → Bool)
-    → IsChain t from links to → IsOwedAt t gave old from → IsOwedAt t (gave ++ all_given links) old to
+ChainOwes = (t : Target) (from to : Before) (links : List MixedLink) (gave : List (ℕ × ℕ)) (old : ℕ → Bool)
+    → IsMixedChain t from links to → IsOwedAt t gave old from → IsOwedAt t (gave ++ all_given links) old to
 
--- If all is owed as the files read, a rescue whose barrier has returned makes it owed at each stop.
+-- If all is owed as the files read, and nothing of the output is lost, a rescue whose barrier has returned makes it owed
+-- at each stop.
 abbrev pub BarrierMakesSure : Type 0
-BarrierMakesSure = (t : Target) (l : Link) (gave : List (ℕ × ℕ)) (old : ℕ → Bool) (r : IsRescue t l)
-    → IsChain t l.before (l ∷ []) l.next → has_barrier (take r.step.moment r.rescue.did.call.calls) ≡ true
+BarrierMakesSure = (t : Target) (l : MixedLink) (gave : List (ℕ × ℕ)) (old : ℕ → Bool) (r : IsRescue t l)
+    → IsMixedChain t l.before (l ∷ []) l.next → has_barrier (take r.step.moment r.rescue.did.call.calls) ≡ true
+    → NothingLost (files_before l.before t.outfile) (lost_before l.before t.outfile)
     → IsOwedIn t gave old (files_before l.before) → IsOwedAt t (gave ++ l.gave) old l.next
 
 -- What reads gave a position is what the last of their pairs gives it.
@@ -43,6 +46,10 @@ FinishesAlike = (mapfile : Option File) (end : ℕ) (map : List Status) (state :
 -- A map that is published before the image is synced isn't owed.
 abbrev pub EarlyMapIsNotOwed : Type 0
 EarlyMapIsNotOwed = (t : Target) × (start : Folder) × (r : Reading) × IsTooEarly t start r
+
+-- A map that is published after a sync that failed and was tried again isn't owed.
+abbrev pub RetriedSyncIsNotOwed : Type 0
+RetriedSyncIsNotOwed = (t : Target) × (start : Folder) × (r : Reading) × IsRetried t start r
 
 -- A map that claims a place that was never written isn't owed.
 abbrev pub UnwrittenMapIsNotOwed : Type 0

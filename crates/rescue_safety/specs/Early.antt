@@ -6,6 +6,7 @@ use Rattle.crash_site.specs.Calls.{Entry, Done, image_open, image_sync, draft_be
 use Rattle.crash_site.specs.Folder.{Folder}
 use Rattle.crash_site.specs.Left.{MayBeLeft}
 use Rattle.crash_site.specs.Laws.{early, settles}
+use Rattle.crash_site.specs.LostLaws.{retried}
 use Rattle.rescue_safety.specs.Safe.{Target, HasPlace}
 use Rattle.rescue_safety.specs.Owed.{pairs_of}
 use Rattle.rescue_safety.specs.OwedFiles.{IsOwedIn, IsOwedAt}
@@ -26,6 +27,16 @@ pub record IsTooEarly (t : Target) (start : Folder) (r : Reading) : Type 0 where
   pub draft : List ℕ
   pub text : List ℕ
   pub breaks : Breaks t start (early t.outfile draft t.mapfile place r.given text) (pairs_of 1 (r ∷ []))
+
+-- A run that writes all that a read gave at its place, whose sync fails and is tried again, and that publishes its map
+-- then.
+pub record IsRetried (t : Target) (start : Folder) (r : Reading) : Type 0 where
+  pub whole : is_whole r ≡ true
+  pub place : ℕ
+  pub at : HasPlace t r.pos place
+  pub draft : List ℕ
+  pub text : List ℕ
+  pub breaks : Breaks t start (retried t.outfile draft t.mapfile place r.given text) (pairs_of 1 (r ∷ []))
 
 -- an image is opened and synced, and a map saved, with no write
 abbrev pub unwritten : (image draft name text : List ℕ) → List Entry

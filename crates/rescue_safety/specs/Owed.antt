@@ -1,8 +1,7 @@
 -- What an output owes to its mapfile, by all that was given to its positions.
-use Rattle.std.specs.Prelude.{◌≡◌, ℕ, ◌+◌, ◌-◌, nat_eq, List, [], ◌∷◌, ◌++◌, take, drop, slice_get, Option, Some, None, if◌then◌else◌}
+use Rattle.std.specs.Prelude.{◌≡◌, ℕ, nat_eq, List, [], ◌∷◌, take, slice_get, Option, Some, None, if◌then◌else◌}
 use Rattle.std.specs.List.{flat_map, enumerate_from}
 use Rattle.faulty_source.specs.Journal.{Reading, kept}
-use Rattle.crash_site.specs.Calls.{Entry, Done, image_read}
 use Rattle.rescue_rules.specs.Given.{last_of_both}
 use Rattle.rescue_safety.specs.Safe.{Target, HasPlace}
 
@@ -15,17 +14,10 @@ last_given (g ∷ gs) x = last_of_both (last_given gs x) (if nat_eq g.0 x then S
 abbrev pub pairs_of : (sector : ℕ) → List Reading → List (ℕ × ℕ)
 pairs_of sector reads = flat_map (λ r. enumerate_from r.pos (take (kept sector r) r.given)) reads
 
--- what these calls read of an output with these bytes, as pairs of a position and its byte
-abbrev pub looked_at : Target → (image : List ℕ) → List Entry → List (ℕ × ℕ)
-looked_at t image [] = []
-looked_at t image (Done (image_read place asked (Some n)) ∷ es) =
-    enumerate_from (place + t.from - t.to) (take n (drop place image)) ++ looked_at t image es
-looked_at t image (e ∷ es) = looked_at t image es
-
--- The place of a position in the output holds the byte that the position was given last.
-pub record HoldsLast (t : Target) (gave : List (ℕ × ℕ)) (image : List ℕ) (x : ℕ) : Type 0 where
+-- The place of the position x in the output holds the byte that x was given last.
+pub record HoldsLast (t : Target) (last : ℕ → Option ℕ) (image : List ℕ) (x : ℕ) : Type 0 where
   pub byte : ℕ
-  pub given : last_given gave x ≡ Some byte
+  pub given : last x ≡ Some byte
   pub place : ℕ
   pub at : HasPlace t x place
   pub holds : slice_get image place ≡ Some byte

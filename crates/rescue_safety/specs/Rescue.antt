@@ -37,7 +37,7 @@ pub record Rescue : Type 0 where
   pub mapfile : List ℕ
   pub named : command.mapfile ≡ Some mapfile
 
--- The target of a command with a mapfile of this name; where no option gives the output position, it is the input's.
+-- The target of a command with a mapfile of this name; if no option gives the output position, it is the input's.
 abbrev pub target_of : Command → (mapfile : List ℕ) → Target
 target_of c mapfile = record {
   outfile = c.outfile;

@@ -1,11 +1,11 @@
 -- What any stop of a rescue leaves, by what its input and its files tell.
-use Rattle.std.specs.Prelude.{◌≡◌, ◌≢◌, ◌⊎◌, ℕ, zero, suc, ◌+◌, ◌<◌, ◌≤◌, nat_eq, true, false, List, [], ◌∷◌, ◌++◌, length, take, count_by, All, slice_get, Option, Some, None, codes, if◌then◌else◌}
+use Rattle.std.specs.Prelude.{◌≡◌, ◌≢◌, ◌⊎◌, ℕ, zero, suc, ◌+◌, ◌<◌, ◌≤◌, nat_eq, true, false, List, [], ◌∷◌, length, take, count_by, All, slice_get, Option, Some, None, if◌then◌else◌}
 use Rattle.faulty_source.specs.Journal.{Reading, kept}
-use Rattle.crash_site.specs.Files.{File, bytes_of}
+use Rattle.crash_site.specs.Files.{File, bytes_of, draft_of}
 use Rattle.crash_site.specs.Calls.{Entry}
-use Rattle.crash_site.specs.Left.{MayBeLeft}
+use Rattle.crash_site.specs.Left.{IsLoose, MayBeLeft}
 use Rattle.rescue_rules.specs.Given.{given}
-use Rattle.rescue_rules.specs.Stops.{Before, files_before, has_barrier, is_write, CouldBefore, LeftBy}
+use Rattle.rescue_rules.specs.Stops.{Before, files_before, lost_before, has_barrier, is_write, CouldBefore, LeftBy}
 use Rattle.rescue_safety.specs.Saves.{CallsFinished, IsOneSaved}
 
 -- The names of an output and of its mapfile; and the place `to` that the position `from` has in the output.
@@ -59,19 +59,21 @@ pub record IsHeld (r : Run) (k : ℕ) (files : List ℕ → Option File) : Type 
   -- A position that the mapfile found calls finished, if a read gave it a byte, has a place that holds the last one.
   pub rescued : (x b : ℕ) → CallsFinished (files r.target.mapfile) x → gives r x ≡ Some b
       → (y : ℕ) × HasPlace r.target x y × (slice_get (bytes_of (files r.target.outfile)) y ≡ Some b)
-  -- The output has its old byte in each place whose position no read gave one.
-  pub stood : (y : ℕ) → y < length (bytes_at_first r) → ((x : ℕ) → HasPlace r.target x y → gives r x ≡ None)
+  -- The output has its old byte in each place whose position no read gave one, unless that place was lost before.
+  pub stood : (y : ℕ) → y < length (bytes_at_first r) → (IsLoose (lost_before r.past r.target.outfile) y → ⊥)
+      → ((x : ℕ) → HasPlace r.target x y → gives r x ≡ None)
       → slice_get (bytes_of (files r.target.outfile)) y ≡ slice_get (bytes_at_first r) y
 
 -- What a stop leaves is safe, when the first k calls have returned and the next is in progress:
 pub record IsSafe (r : Run) (k : ℕ) (files : List ℕ → Option File) : Type 0 where
-  -- Until the barrier has returned, all files are as they could be found before, or an absent output is there, empty.
-  pub until_barrier : has_barrier (take k r.calls) ≡ false → CouldBefore r.past r.target.outfile files
+  -- Until the barrier has returned, all files are as they could be before, or an absent output or draft is made, empty.
+  pub until_barrier : has_barrier (take k r.calls) ≡ false
+      → CouldBefore r.past r.target.outfile (draft_of r.target.mapfile) files
   -- Once the barrier has returned, the mapfile claims only what the output holds.
   pub past_barrier : has_barrier (take k r.calls) ≡ true → IsHeld r k files
   -- Any file except the output, the mapfile and its draft is as it could be found before.
   pub others : (name : List ℕ) → name ≢ r.target.outfile → name ≢ r.target.mapfile
-      → name ≢ r.target.mapfile ++ codes ".tmp" → (before : List ℕ → Option File)
+      → name ≢ draft_of r.target.mapfile → (before : List ℕ → Option File)
       × MayBeLeft r.past.start r.past.earlier (length r.past.earlier) before × (files name ≡ before name)
 
 -- the read gave the input's own bytes

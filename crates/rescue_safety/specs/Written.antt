@@ -8,7 +8,7 @@ use Rattle.rescue_safety.specs.Safe.{Target}
 abbrev pub written_in : List Entry → List (ℕ × List ℕ)
 written_in [] = []
 written_in (Done (image_write pos piece) ∷ es) = (pos, piece) ∷ written_in es
-written_in (Failed (image_write pos piece) ∷ es) = (pos, piece) ∷ written_in es
+written_in (Failed (image_write pos piece) steps ∷ es) = (pos, piece) ∷ written_in es
 written_in (e ∷ es) = written_in es
 
 -- what these reads kept, each its place and its bytes; a read of which nothing is kept is left out
