@@ -11,7 +11,7 @@ use Rattle.crash_site.specs.Folder.{Folder, opened, with_piece, if_any, after_do
 use Rattle.crash_site.specs.Disk.{Version, Showing, Disk, loosen, lose, lose_all, in_each, loosened, newest, lost_in, synced, only, at_rest, or_this, with_range, with_opened, under, under_some, lost_by, after_part, after_return, entered, disk_after}
 use Rattle.crash_site.specs.Left.{IsLoose, Matches, MatchesFile, MatchesOne, MayShow, Leaves}
 use Rattle.crash_site.specs.Changes.{Changes, call_in}
-use Rattle.crash_site.specs.LostLaws.{LosesPiece, SparesPlace, SparePlace, with_byte, WholeImageIsFound, LostStays, RewrittenIsFound, IsCallOn, RunsOn}
+use Rattle.crash_site.specs.LostLaws.{NoneSyncs, LosesPiece, SparesPlace, SparePlace, with_byte, WholeImageIsFound, LostStays, RewrittenIsFound, IsCallOn, RunsOn}
 use Rattle.crash_site.proofs.Touches.{Wrote, Synced, Image, touched, touched_by}
 use Rattle.crash_site.proofs.DiskLemmas.{run-append, run_reads, step_reads, same_name, reads_rest}
 use Rattle.crash_site.proofs.LawLemmas.{at_other, part_other, part_reads, done_other, failed_other, until_all, whole_held, synced_is_found}
@@ -28,10 +28,14 @@ abbrev LooseIn : ℕ → List Version → Type 0
 LooseIn x [] = ⊤
 LooseIn x (v ∷ vs) = IsLoose v.loose x × LooseIn x vs
 
+-- a place is loose in each version that may be shown
+abbrev Loose : ℕ → Showing → Type 0
+Loose x s = LooseIn x (s.durable ∷ s.since)
+
 -- a place is lost, and any byte may be there in each version
 record Gone (x : ℕ) (s : Showing) : Type 0 where
   pub top : IsLoose (lost_in s) x
-  pub each : LooseIn x (s.durable ∷ s.since)
+  pub each : Loose x s
 
 loose_more : (x pos len : ℕ) (vs : List Version) → LooseIn x vs → LooseIn x (map (loosen pos len) vs)
 loose_more x pos len [] h = tt
@@ -67,7 +71,7 @@ gone_losing x pos len s h = record {
   each = loose_lost x pos len (s.durable ∷ s.since) h.each;
 }
 
-all_gone : (x : ℕ) (s : Showing) → LooseIn x (s.durable ∷ s.since) → Gone x (in_each lose_all s)
+all_gone : (x : ℕ) (s : Showing) → Loose x s → Gone x (in_each lose_all s)
 all_gone x s each = record {
   top = subst (λ (v : Version). IsLoose v.lost x) (sym (newest_of lose_all s.durable s.since))
       (loose_newest x s.durable s.since each);
@@ -87,7 +91,7 @@ gone_now x pos len s le lt = record {
 }
 
 wrote_each : (x pos len : ℕ) (file : Option File) (s : Showing) → pos ≤ x → x < pos + len
-    → LooseIn x ((with_range pos len file s).durable ∷ (with_range pos len file s).since)
+    → Loose x (with_range pos len file s)
 wrote_each x pos len None s le lt = loose_wrote x pos len (s.durable ∷ (or_this (Some empty_file) s).since) le lt
 wrote_each x pos len (Some f) s le lt = loose_wrote x pos len (s.durable ∷ s.since) le lt
 
@@ -98,98 +102,127 @@ unwrote_gone x pos len (Some f) s le lt = gone_now x pos len s le lt
 
 -- ---- along calls that spare it
 
--- a place is lost that lies in the file as it reads
-record GoneAt (image : List ℕ) (x : ℕ) (d : Disk) : Type 0 where
-  pub gone : Gone x (d.shows image)
+abbrev SyncKeeps : (Showing → Type 0) → Type 0
+SyncKeeps P = (file : Option File) (s : Showing) → P s → P (synced file s)
+
+-- a property that calls keep which spare a place, except perhaps a sync that returns
+record Keeps (x : ℕ) (P : Showing → Type 0) : Type 0 where
+  pub wrote : (pos len : ℕ) (s : Showing) → (x < pos) ⊎ (pos + len ≤ x) → P s → P (loosened pos len s)
+  pub unwrote : (pos len : ℕ) (s : Showing) → P s → P (in_each (lose pos len) s)
+  pub unsynced : (s : Showing) → P s → P (in_each lose_all s)
+
+gone_keeps : (x : ℕ) → Keeps x (Gone x)
+gone_keeps x = record {
+  wrote = gone_loosened x;
+  unwrote = gone_losing x;
+  unsynced = λ s h. all_gone x s h.each;
+}
+
+loose_keeps : (x : ℕ) → Keeps x (Loose x)
+loose_keeps x = record {
+  wrote = λ pos len s out h. loose_more x pos len (s.durable ∷ s.since) h;
+  unwrote = λ pos len s h. loose_lost x pos len (s.durable ∷ s.since) h;
+  unsynced = λ s h. loose_all x (s.durable ∷ s.since) h;
+}
+
+-- what the image shows has a property, and the place lies in the file as it reads
+record KeptAt (P : Showing → Type 0) (image : List ℕ) (x : ℕ) (d : Disk) : Type 0 where
+  pub kept : P (d.shows image)
   pub within : x < length (bytes_of (d.reads.files image))
 
-pick_gone : (x : ℕ) (b : Bool) (s t : Showing) → (b ≡ true → Gone x s) → Gone x t → Gone x (cond b s t)
-pick_gone x true s t h g = h refl
-pick_gone x false s t h g = g
+pick_kept : (P : Showing → Type 0) (b : Bool) (s t : Showing) → (b ≡ true → P s) → P t → P (cond b s t)
+pick_kept P true s t h g = h refl
+pick_kept P false s t h g = g
 
-under_gone : (x : ℕ) (d : Disk) (name image : List ℕ) (change : Option File → Showing → Showing)
-    → (image ≡ name → Gone x (change (d.reads.files image) (d.shows image))) → Gone x (d.shows image)
-    → Gone x ((under name change d).shows image)
-under_gone x d name image change h g =
-    pick_gone x (bytes_eq image name) (change (d.reads.files image) (d.shows image)) (d.shows image)
+under_kept : (P : Showing → Type 0) (d : Disk) (name image : List ℕ) (change : Option File → Showing → Showing)
+    → (image ≡ name → P (change (d.reads.files image) (d.shows image))) → P (d.shows image)
+    → P ((under name change d).shows image)
+under_kept P d name image change h g =
+    pick_kept P (bytes_eq image name) (change (d.reads.files image) (d.shows image)) (d.shows image)
     (λ is. h (same_name image name is)) g
 
-some_gone : (x : ℕ) (d : Disk) (o : Option (List ℕ)) (image : List ℕ) (change : Option File → Showing → Showing)
-    → (o ≡ Some image → Gone x (change (d.reads.files image) (d.shows image))) → Gone x (d.shows image)
-    → Gone x ((under_some o change d).shows image)
-some_gone x d None image change h g = g
-some_gone x d (Some name) image change h g =
-    under_gone x d name image change (λ is. h (ap (λ (n : List ℕ). Some n) (sym is))) g
+some_kept : (P : Showing → Type 0) (d : Disk) (o : Option (List ℕ)) (image : List ℕ)
+    (change : Option File → Showing → Showing)
+    → (o ≡ Some image → P (change (d.reads.files image) (d.shows image))) → P (d.shows image)
+    → P ((under_some o change d).shows image)
+some_kept P d None image change h g = g
+some_kept P d (Some name) image change h g =
+    under_kept P d name image change (λ is. h (ap (λ (n : List ℕ). Some n) (sym is))) g
 
 -- an open changes nothing of a file that is there
-opened_gone : (x : ℕ) (make : Bool) (file : Option File) (s : Showing) → x < length (bytes_of file) → Gone x s
-    → Gone x (with_opened make file s)
-opened_gone x make None s lt h = absurd (let no : x < 0 = lt in omega arith)
-opened_gone x true (Some f) s lt h = h
-opened_gone x false (Some f) s lt h = h
+opened_kept : (P : Showing → Type 0) (x : ℕ) (make : Bool) (file : Option File) (s : Showing)
+    → x < length (bytes_of file) → P s → P (with_opened make file s)
+opened_kept P x make None s lt h = absurd (let no : x < 0 = lt in omega arith)
+opened_kept P x true (Some f) s lt h = h
+opened_kept P x false (Some f) s lt h = h
 
-ranged_gone : (x pos len : ℕ) (file : Option File) (s : Showing) → x < length (bytes_of file)
-    → (x < pos) ⊎ (pos + len ≤ x) → Gone x s → Gone x (with_range pos len file s)
-ranged_gone x pos len None s lt out h = absurd (let no : x < 0 = lt in omega arith)
-ranged_gone x pos len (Some f) s lt out h = gone_loosened x pos len s out h
+ranged_kept : (P : Showing → Type 0) (x : ℕ) → Keeps x P → (pos len : ℕ) (file : Option File) (s : Showing)
+    → x < length (bytes_of file) → (x < pos) ⊎ (pos + len ≤ x) → P s → P (with_range pos len file s)
+ranged_kept P x keeps pos len None s lt out h = absurd (let no : x < 0 = lt in omega arith)
+ranged_kept P x keeps pos len (Some f) s lt out h = keeps.wrote pos len s out h
 
 -- also where nothing but the name of the open image is asked of it
-spared : (image : List ℕ) (x : ℕ) (d : Disk) (call : Call) → (Changes d.reads call image → ⊥) → GoneAt image x d
-    → Gone x ((after_part call d).shows image)
-spared image x d call apart h = subst (λ (s : Showing). Gone x s) (sym (part_other d call image apart)) h.gone
+spared : (P : Showing → Type 0) (image : List ℕ) (d : Disk) (call : Call) → (Changes d.reads call image → ⊥)
+    → P (d.shows image) → P ((after_part call d).shows image)
+spared P image d call apart h = subst (λ (s : Showing). P s) (sym (part_other d call image apart)) h
 
-part_gone : (image : List ℕ) (x : ℕ) (d : Disk) (call : Call) → SparesPlace image x d.reads call → GoneAt image x d
-    → Gone x ((after_part call d).shows image)
-part_gone image x d (image_open name make) sp h =
-    under_gone x d name image (with_opened make)
-    (λ is. opened_gone x make (d.reads.files image) (d.shows image) h.within h.gone) h.gone
-part_gone image x d (image_read pos asked answer) sp h = h.gone
-part_gone image x d (image_write pos piece) sp h =
-    some_gone x d d.reads.image image (with_range pos (length piece))
-    (λ is. ranged_gone x pos (length piece) (d.reads.files image) (d.shows image) h.within (sp is) h.gone) h.gone
-part_gone image x d image_sync sp h = h.gone
-part_gone image x d (map_read name pos asked answer) sp h = h.gone
-part_gone image x d (draft_begin name) sp h = spared image x d (draft_begin name) sp h
-part_gone image x d (draft_append piece) sp h = spared image x d (draft_append piece) sp h
-part_gone image x d draft_sync sp h = h.gone
-part_gone image x d (draft_publish name) sp h = spared image x d (draft_publish name) sp h
-part_gone image x d (map_settle name) sp h = spared image x d (map_settle name) sp.1 h
-part_gone image x d (map_remove name) sp h = spared image x d (map_remove name) sp h
+part_kept : (P : Showing → Type 0) (image : List ℕ) (x : ℕ) (d : Disk) (call : Call) → Keeps x P
+    → SparesPlace image x d.reads call → KeptAt P image x d → P ((after_part call d).shows image)
+part_kept P image x d (image_open name make) keeps sp h =
+    under_kept P d name image (with_opened make)
+    (λ is. opened_kept P x make (d.reads.files image) (d.shows image) h.within h.kept) h.kept
+part_kept P image x d (image_read pos asked answer) keeps sp h = h.kept
+part_kept P image x d (image_write pos piece) keeps sp h =
+    some_kept P d d.reads.image image (with_range pos (length piece))
+    (λ is. ranged_kept P x keeps pos (length piece) (d.reads.files image) (d.shows image) h.within (sp is) h.kept)
+    h.kept
+part_kept P image x d image_sync keeps sp h = h.kept
+part_kept P image x d (map_read name pos asked answer) keeps sp h = h.kept
+part_kept P image x d (draft_begin name) keeps sp h = spared P image d (draft_begin name) sp h.kept
+part_kept P image x d (draft_append piece) keeps sp h = spared P image d (draft_append piece) sp h.kept
+part_kept P image x d draft_sync keeps sp h = h.kept
+part_kept P image x d (draft_publish name) keeps sp h = spared P image d (draft_publish name) sp h.kept
+part_kept P image x d (map_settle name) keeps sp h = spared P image d (map_settle name) sp.1 h.kept
+part_kept P image x d (map_remove name) keeps sp h = spared P image d (map_remove name) sp h.kept
 
-done_gone : (image : List ℕ) (x : ℕ) (d : Disk) (call : Call) → SparesPlace image x d.reads call → GoneAt image x d
-    → Gone x ((after_return call d).shows image)
-done_gone image x d (image_open name make) sp h = part_gone image x d (image_open name make) sp h
-done_gone image x d (image_read pos asked answer) sp h = h.gone
-done_gone image x d (image_write pos piece) sp h = part_gone image x d (image_write pos piece) sp h
-done_gone image x d image_sync sp h =
-    some_gone x d d.reads.image image synced (λ is. gone_synced x (d.reads.files image) (d.shows image) h.gone) h.gone
-done_gone image x d (map_read name pos asked answer) sp h = h.gone
-done_gone image x d (draft_begin name) sp h = part_gone image x d (draft_begin name) sp h
-done_gone image x d (draft_append piece) sp h = part_gone image x d (draft_append piece) sp h
-done_gone image x d draft_sync sp h = h.gone
-done_gone image x d (draft_publish name) sp h = part_gone image x d (draft_publish name) sp h
-done_gone image x d (map_settle name) sp h =
-    subst (λ (s : Showing). Gone x s)
+done_kept : (P : Showing → Type 0) (image : List ℕ) (x : ℕ) (d : Disk) (call : Call) → Keeps x P
+    → (Done call ≡ Done image_sync → d.reads.image ≡ Some image → SyncKeeps P)
+    → SparesPlace image x d.reads call → KeptAt P image x d → P ((after_return call d).shows image)
+done_kept P image x d (image_open name make) keeps syncs sp h =
+    part_kept P image x d (image_open name make) keeps sp h
+done_kept P image x d (image_read pos asked answer) keeps syncs sp h = h.kept
+done_kept P image x d (image_write pos piece) keeps syncs sp h =
+    part_kept P image x d (image_write pos piece) keeps sp h
+done_kept P image x d image_sync keeps syncs sp h =
+    some_kept P d d.reads.image image synced
+    (λ is. syncs refl is (d.reads.files image) (d.shows image) h.kept) h.kept
+done_kept P image x d (map_read name pos asked answer) keeps syncs sp h = h.kept
+done_kept P image x d (draft_begin name) keeps syncs sp h = part_kept P image x d (draft_begin name) keeps sp h
+done_kept P image x d (draft_append piece) keeps syncs sp h = part_kept P image x d (draft_append piece) keeps sp h
+done_kept P image x d draft_sync keeps syncs sp h = h.kept
+done_kept P image x d (draft_publish name) keeps syncs sp h = part_kept P image x d (draft_publish name) keeps sp h
+done_kept P image x d (map_settle name) keeps syncs sp h =
+    subst (λ (s : Showing). P s)
     (sym (at_other (after_part (map_settle name) d) name image (λ file s. only file) sp.0))
-    (part_gone image x d (map_settle name) sp h)
-done_gone image x d (map_remove name) sp h = part_gone image x d (map_remove name) sp h
+    (part_kept P image x d (map_settle name) keeps sp h)
+done_kept P image x d (map_remove name) keeps syncs sp h = part_kept P image x d (map_remove name) keeps sp h
 
-lost_gone : (image : List ℕ) (x : ℕ) (d : Disk) (call : Call) → Gone x (d.shows image)
-    → Gone x ((lost_by call d).shows image)
-lost_gone image x d (image_open name make) h = h
-lost_gone image x d (image_read pos asked answer) h = h
-lost_gone image x d (image_write pos piece) h =
-    some_gone x d d.reads.image image (λ file s. in_each (lose pos (length piece)) s)
-    (λ is. gone_losing x pos (length piece) (d.shows image) h) h
-lost_gone image x d image_sync h =
-    some_gone x d d.reads.image image (λ file s. in_each lose_all s) (λ is. all_gone x (d.shows image) h.each) h
-lost_gone image x d (map_read name pos asked answer) h = h
-lost_gone image x d (draft_begin name) h = h
-lost_gone image x d (draft_append piece) h = h
-lost_gone image x d draft_sync h = h
-lost_gone image x d (draft_publish name) h = h
-lost_gone image x d (map_settle name) h = h
-lost_gone image x d (map_remove name) h = h
+lost_kept : (P : Showing → Type 0) (image : List ℕ) (x : ℕ) (d : Disk) (call : Call) → Keeps x P → P (d.shows image)
+    → P ((lost_by call d).shows image)
+lost_kept P image x d (image_open name make) keeps h = h
+lost_kept P image x d (image_read pos asked answer) keeps h = h
+lost_kept P image x d (image_write pos piece) keeps h =
+    some_kept P d d.reads.image image (λ file s. in_each (lose pos (length piece)) s)
+    (λ is. keeps.unwrote pos (length piece) (d.shows image) h) h
+lost_kept P image x d image_sync keeps h =
+    some_kept P d d.reads.image image (λ file s. in_each lose_all s) (λ is. keeps.unsynced (d.shows image) h) h
+lost_kept P image x d (map_read name pos asked answer) keeps h = h
+lost_kept P image x d (draft_begin name) keeps h = h
+lost_kept P image x d (draft_append piece) keeps h = h
+lost_kept P image x d draft_sync keeps h = h
+lost_kept P image x d (draft_publish name) keeps h = h
+lost_kept P image x d (map_settle name) keeps h = h
+lost_kept P image x d (map_remove name) keeps h = h
 
 -- ---- the file as it reads keeps the place
 
@@ -268,21 +301,32 @@ failed_in image x d (map_settle name) steps sp h =
     same_in x _ (d.files image) (failed_other d (map_settle name) steps image sp.1) h
 failed_in image x d (map_remove name) steps sp h = h
 
-gone_step : (image : List ℕ) (x : ℕ) (d : Disk) (e : Entry) → SparesPlace image x d.reads (call_in e)
-    → GoneAt image x d → GoneAt image x (entered d e)
-gone_step image x d (Done call) sp h =
-    record { gone = done_gone image x d call sp h; within = done_in image x d.reads call sp h.within }
-gone_step image x d (Failed call steps) sp h = record {
-  gone = lost_gone image x (after_part call d) call (part_gone image x d call sp h);
+kept_step : (P : Showing → Type 0) (image : List ℕ) (x : ℕ) (d : Disk) (e : Entry) → Keeps x P
+    → (e ≡ Done image_sync → d.reads.image ≡ Some image → SyncKeeps P) → SparesPlace image x d.reads (call_in e)
+    → KeptAt P image x d → KeptAt P image x (entered d e)
+kept_step P image x d (Done call) keeps syncs sp h = record {
+  kept = done_kept P image x d call keeps syncs sp h;
+  within = done_in image x d.reads call sp h.within;
+}
+kept_step P image x d (Failed call steps) keeps syncs sp h = record {
+  kept = lost_kept P image x (after_part call d) call keeps (part_kept P image x d call keeps sp h);
   within = failed_in image x d.reads call steps sp h.within;
 }
 
 gone_run : (image : List ℕ) (x : ℕ) (d : Disk) (es : List Entry) → SparePlace image x d.reads es
-    → GoneAt image x d → GoneAt image x (disk_after d es)
+    → KeptAt (Gone x) image x d → KeptAt (Gone x) image x (disk_after d es)
 gone_run image x d [] sp h = h
 gone_run image x d (e ∷ es) sp h =
     gone_run image x (entered d e) es (subst (λ (r : Folder). SparePlace image x r es) (sym (step_reads d e)) sp.1)
-    (gone_step image x d e sp.0 h)
+    (kept_step (Gone x) image x d e (gone_keeps x) (λ is own. gone_synced x) sp.0 h)
+
+loose_run : (image : List ℕ) (x : ℕ) (d : Disk) (es : List Entry) → SparePlace image x d.reads es
+    → NoneSyncs image d.reads es → KeptAt (Loose x) image x d → KeptAt (Loose x) image x (disk_after d es)
+loose_run image x d [] sp none h = h
+loose_run image x d (e ∷ es) sp none h =
+    loose_run image x (entered d e) es (subst (λ (r : Folder). SparePlace image x r es) (sym (step_reads d e)) sp.1)
+    (subst (λ (r : Folder). NoneSyncs image r es) (sym (step_reads d e)) none.1)
+    (kept_step (Loose x) image x d e (loose_keeps x) (λ is own. absurd (none.0 is own)) sp.0 h)
 
 -- ---- any byte may be there
 
@@ -313,14 +357,14 @@ byte_one [] g x byte l lt h = absurd h
 byte_one (v ∷ vs) g x byte l lt (inl h) = inl (byte_file v.file g v.loose x byte l.0 lt h)
 byte_one (v ∷ vs) g x byte l lt (inr h) = inr (byte_one vs g x byte l.1 lt h)
 
-byte_shown : (s : Showing) (o : Option File) (x byte : ℕ) → LooseIn x (s.durable ∷ s.since) → x < length (bytes_of o)
+byte_shown : (s : Showing) (o : Option File) (x byte : ℕ) → Loose x s → x < length (bytes_of o)
     → MayShow s o → MayShow s (Some (written_file o x (byte ∷ [])))
 byte_shown s None x byte l lt h = absurd (let no : x < 0 = lt in omega arith)
 byte_shown s (Some g) x byte l lt (inl d) = inl d
 byte_shown s (Some g) x byte l lt (inr (inl w)) = inr (inl w)
 byte_shown s (Some g) x byte l lt (inr (inr h)) = inr (inr (byte_one (s.durable ∷ s.since) g x byte l lt h))
 
-byte_leaves : (image : List ℕ) (x byte : ℕ) (d : Disk) → GoneAt image x d → Leaves d d.reads.files
+byte_leaves : (image : List ℕ) (x byte : ℕ) (d : Disk) → KeptAt (Gone x) image x d → Leaves d d.reads.files
     → Leaves d (with_byte image x byte d.reads.files)
 byte_leaves image x byte d h sound = λ n. elim (cases_Bool (bytes_eq n image)) [
   | inl is ↦ subst (λ (f : Option File). MayShow (d.shows n) f)
@@ -328,7 +372,7 @@ byte_leaves image x byte d h sound = λ n. elim (cases_Bool (bytes_eq n image)) 
       (d.reads.files n) is))
       (subst (λ (m : List ℕ). MayShow (d.shows m) (Some (written_file (d.reads.files image) x (byte ∷ []))))
       (sym (same_name n image is))
-      (byte_shown (d.shows image) (d.reads.files image) x byte h.gone.each h.within (sound image)))
+      (byte_shown (d.shows image) (d.reads.files image) x byte h.kept.each h.within (sound image)))
   | inr is ↦ subst (λ (f : Option File). MayShow (d.shows n) f)
       (sym (cond-false (bytes_eq n image) (Some (written_file (d.reads.files image) x (byte ∷ [])))
       (d.reads.files n) is))
@@ -353,29 +397,43 @@ unwrote_here d image pos piece steps x open_ le lt =
     ∙ ap (in_each (lose pos (length piece))) (wrote_here d image pos piece open_)))
     (unwrote_gone x pos (length piece) (d.reads.files image) (d.shows image) le lt)
 
--- a sync that fails loses what was written before it
-unsynced_here : (d : Disk) (image : List ℕ) (pos : ℕ) (piece : List ℕ) (steps x : ℕ)
-    → d.reads.image ≡ Some image → pos ≤ x
-    → x < pos + length piece
-    → Gone x ((entered (entered d (Done (image_write pos piece))) (Failed image_sync steps)).shows image)
-unsynced_here d image pos piece steps x open_ le lt =
+wrote_long : (o : Option File) (pos : ℕ) (piece : List ℕ) → pos + length piece ≤ length (written_file o pos piece).bytes
+wrote_long None pos piece = omega (arith, length-written [] pos piece)
+wrote_long (Some f) pos piece = omega (arith, length-written f.bytes pos piece)
+
+-- a sync that fails loses what was written since the last one that returned
+unsynced_here : (d : Disk) (image : List ℕ) (pos : ℕ) (piece : List ℕ) (between : List Entry) (steps x : ℕ)
+    → d.reads.image ≡ Some image → pos ≤ x → x < pos + length piece
+    → SparePlace image x (after_done d.reads (image_write pos piece)) between
+    → NoneSyncs image (after_done d.reads (image_write pos piece)) between
+    → (after d.reads (Done (image_write pos piece) ∷ between)).image ≡ Some image
+    → Gone x ((disk_after d (Done (image_write pos piece) ∷ (between ++ Failed image_sync steps ∷ []))).shows image)
+unsynced_here d image pos piece between steps x open_ le lt spare none last =
     let done : Disk = entered d (Done (image_write pos piece)) in
-    let done_open : done.reads.image ≡ Some image = piece_image d.reads d.reads.image pos piece ∙ open_ in
-    subst (λ (s : Showing). Gone x s)
-    (sym (some_own done done.reads.image image (λ file s. in_each lose_all s) done_open
-    ∙ ap (in_each lose_all) (wrote_here d image pos piece open_)))
-    (all_gone x (with_range pos (length piece) (d.reads.files image) (d.shows image))
-    (wrote_each x pos (length piece) (d.reads.files image) (d.shows image) le lt))
+    let end : Disk = disk_after done between in
+    let at : KeptAt (Loose x) image x done = record {
+      kept = subst (λ (s : Showing). Loose x s) (sym (wrote_here d image pos piece open_))
+          (wrote_each x pos (length piece) (d.reads.files image) (d.shows image) le lt);
+      within = same_in x (done.reads.files image) (Some (written_file (d.reads.files image) pos piece))
+          (piece_own d.reads d.reads.image image pos piece open_)
+          (omega (arith, lt, wrote_long (d.reads.files image) pos piece));
+    } in
+    let loose : KeptAt (Loose x) image x end = loose_run image x done between spare none at in
+    let end_open : end.reads.image ≡ Some image = ap (λ (r : Folder). r.image) (run_reads done between) ∙ last in
+    subst (λ (z : Disk). Gone x (z.shows image)) (sym (run-append done between (Failed image_sync steps ∷ [])))
+    (subst (λ (s : Showing). Gone x s)
+    (sym (some_own end end.reads.image image (λ file s. in_each lose_all s) end_open))
+    (all_gone x (end.shows image) loose.kept))
 
 -- the calls that lose a piece
 piece_gone : (d : Disk) (image : List ℕ) (pos : ℕ) (piece : List ℕ) (x : ℕ) (lost : List Entry)
-    → d.reads.image ≡ Some image → LosesPiece pos piece lost → pos ≤ x → x < pos + length piece
+    → d.reads.image ≡ Some image → LosesPiece image pos piece x d.reads lost → pos ≤ x → x < pos + length piece
     → Gone x ((disk_after d lost).shows image)
 piece_gone d image pos piece x lost open_ loses le lt = ⊎_elim
     (λ is. subst (λ (l : List Entry). Gone x ((disk_after d l).shows image)) (sym is)
     (unwrote_here d image pos piece loses.0 x open_ le lt))
-    (λ is. subst (λ (l : List Entry). Gone x ((disk_after d l).shows image)) (sym is)
-    (unsynced_here d image pos piece loses.0 x open_ le lt)) loses.1
+    (λ h. subst (λ (l : List Entry). Gone x ((disk_after d l).shows image)) (sym h.4)
+    (unsynced_here d image pos piece h.0 loses.0 x open_ le lt h.1 h.2 h.3)) loses.1
 
 pub lost_stays : LostStays
 lost_stays start before lost since image pos piece x byte open_ loses le lt within spare =
@@ -386,14 +444,16 @@ lost_stays start before lost since image pos piece x byte open_ loses le lt with
     let there : disk_after (at_rest start) all ≡ disk_after d1 since = run-append (at_rest start)
     (before ++ lost) since in
     let reads : d1.reads ≡ after start (before ++ lost) = run_reads (at_rest start) (before ++ lost) in
+    let reads0 : d0.reads ≡ after start before = run_reads (at_rest start) before in
     let gone : Gone x (d1.shows image) = subst (λ (d : Disk). Gone x (d.shows image)) (sym here)
-    (piece_gone d0 image pos piece x lost (ap (λ (r : Folder). r.image) (run_reads (at_rest start) before) ∙ open_)
-    loses le lt) in
-    let at : GoneAt image x d1 = record {
-      gone = gone;
+    (piece_gone d0 image pos piece x lost (ap (λ (r : Folder). r.image) reads0 ∙ open_)
+    (subst (λ (r : Folder). LosesPiece image pos piece x r lost) (sym reads0) loses) le lt) in
+    let at : KeptAt (Gone x) image x d1 = record {
+      kept = gone;
       within = subst (λ (r : Folder). x < length (bytes_of (r.files image))) (sym reads) within;
     } in
-    let last : GoneAt image x (disk_after (at_rest start) all) = subst (λ (d : Disk). GoneAt image x d) (sym there)
+    let last : KeptAt (Gone x) image x (disk_after (at_rest start) all) =
+    subst (λ (d : Disk). KeptAt (Gone x) image x d) (sym there)
     (gone_run image x d1 since (subst (λ (r : Folder). SparePlace image x r since) (sym reads) spare) at) in
     let end : (disk_after (at_rest start) all).reads ≡ after start all = run_reads (at_rest start) all in
     let sound : Leaves (disk_after (at_rest start) all) (disk_after (at_rest start) all).reads.files
@@ -456,10 +516,6 @@ found_free : (o found : Option File) (lost : List (ℕ × ℕ)) (x : ℕ) → (I
 found_free None found lost x free lt h = absurd (let no : x < 0 = lt in omega arith)
 found_free (Some f) None lost x free lt h = absurd h
 found_free (Some f) (Some g) lost x free lt h = ⊎_elim (λ l. absurd (free l)) (λ e. e) (h.stands x lt)
-
-wrote_long : (o : Option File) (pos : ℕ) (piece : List ℕ) → pos + length piece ≤ length (written_file o pos piece).bytes
-wrote_long None pos piece = omega (arith, length-written [] pos piece)
-wrote_long (Some f) pos piece = omega (arith, length-written f.bytes pos piece)
 
 run_in : (image : List ℕ) (x : ℕ) (d : Folder) (call : Call) → IsCallOn image d call
     → x < length (bytes_of (d.files image)) → x < length (bytes_of ((after_done d call).files image))

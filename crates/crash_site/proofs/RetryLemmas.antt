@@ -62,6 +62,27 @@ under_named : (d : Disk) (o : Option (List ℕ)) (name : List ℕ) (f : List ℕ
     → Leaves (under name synced d) f → Leaves (under_some o synced d) f
 under_named d o name f is h = subst (λ (p : Option (List ℕ)). Leaves (under_some p synced d) f) (sym is) h
 
+-- after a sync that returned, another piece may be found in place of one that was lost
+left_other : (d : Disk) (files : List ℕ → Option File) (o : Option File) (image : List ℕ) (pos : ℕ)
+    (piece other : List ℕ)
+    → d.reads.image ≡ Some image
+    → d.reads.files image ≡ Some (written_file (Some (opened_file o)) pos piece)
+    → lost_in (d.shows image) ≡ (pos, length piece) ∷ [] → length other ≡ length piece → Leaves d files
+    → Leaves (under_some d.reads.image synced d) (put files image (Some (written_file o pos other)))
+left_other d files o image pos piece other open_ reads lost same h =
+    let old : File = written_file (Some (opened_file o)) pos piece in
+    let new : Option File = Some (written_file o pos other) in
+    let may : MayShow (synced (d.reads.files image) (d.shows image)) new =
+    inr (inr (inl
+    (subst (λ (r : List (ℕ × ℕ)). MatchesFile (d.reads.files image) r new) (sym lost)
+    (subst (λ (f : Option File). MatchesFile f ((pos, length piece) ∷ []) new) (sym reads)
+    (subst (λ (g : File). MatchesFile (Some old) ((pos, length piece) ∷ []) (Some g))
+    (written_opened o pos other) (other_piece (opened_file o) pos piece other same)))))) in
+    under_named d d.reads.image image (put files image new) open_
+    (leaves_put d image synced files new h
+    (λ n is. subst (λ (m : List ℕ). MayShow (synced (d.reads.files m) (d.shows m)) new)
+    (sym (same_name n image is)) may))
+
 pub retried_loses : RetriedSyncMayLose
 retried_loses start image draft name pos piece other text apart same =
     let o : Option File = start.files image in
@@ -95,17 +116,8 @@ retried_loses start image draft name pos piece other text apart same =
     let h1 : Leaves d1 start.files = leaves_part d0 (image_open image true) start.files (rest_sound start) in
     let h2 : Leaves d2 start.files = leaves_part d1 (image_write pos piece) start.files h1 in
     let h3 : Leaves d3 start.files = leaves_failed d2 image_sync start.files h2 in
-    let may : MayShow (synced (d3.reads.files image) (d3.shows image)) new =
-    inr (inr (inl
-    (subst (λ (r : List (ℕ × ℕ)). MatchesFile (d3.reads.files image) r new) (sym lost)
-    (subst (λ (f : Option File). MatchesFile f ((pos, len) ∷ []) new) (sym reads3)
-    (subst (λ (g : File). MatchesFile (Some (written_file (Some (opened_file o)) pos piece)) ((pos, len) ∷ []) (Some g))
-    (written_opened o pos other) (other_piece (opened_file o) pos piece other same)))))) in
     let f4 : List ℕ → Option File = put start.files image new in
-    let h4 : Leaves d4 f4 = under_named d3 d3.reads.image image f4 im2
-    (leaves_put d3 image synced start.files new h3
-    (λ n is. subst (λ (m : List ℕ). MayShow (synced (d3.reads.files m) (d3.shows m)) new)
-    (sym (same_name n image is)) may)) in
+    let h4 : Leaves d4 f4 = left_other d3 start.files o image pos piece other im2 reads3 lost same h3 in
     let h5 : Leaves d5 f4 = leaves_part d4 (draft_begin draft) f4 h4 in
     let h6 : Leaves d6 f4 = leaves_part d5 (draft_append text) f4 h5 in
     let h8 : Leaves d8 f4 = leaves_part d7 (draft_publish name) f4 h6 in
@@ -148,6 +160,7 @@ silent_loses start image pos piece =
     let im3 : d3.reads.image ≡ Some image = opened_there d2.reads image written reads2 in
     let reads3 : d3.reads.files image ≡ Some written = opened_reads d2.reads image written reads2 in
     let im5 : d5.reads.image ≡ Some image = opened_there d4.reads image written reads3 in
+    let reads5 : d5.reads.files image ≡ Some written = opened_reads d4.reads image written reads3 in
     let shows1 : d1.shows image ≡ with_opened true o (only o) =
     cond-true (bytes_eq image image) (with_opened true o (only o)) (only o) (own_name image) in
     let shows2 : d2.shows image ≡ with_range pos len (Some (opened_file o)) (with_opened true o (only o)) =
@@ -158,7 +171,14 @@ silent_loses start image pos piece =
     (with_opened true o (only o))) =
     some_own d3 d3.reads.image image (λ f s. in_each lose_all s) im3
     ∙ ap (in_each lose_all) (open_same d2 image ∙ shows2) in
-    ap lost_in (some_own d5 d5.reads.image image synced im5)
-    ∙ ap lost_in (open_same d4 image)
-    ∙ ap lost_in shows4
-    ∙ lost_then o pos len
+    let lost : lost_in (d5.shows image) ≡ (pos, len) ∷ [] =
+    ap lost_in (open_same d4 image) ∙ ap lost_in shows4 ∙ lost_then o pos len in
+    let h1 : Leaves d1 start.files =
+    leaves_part (at_rest start) (image_open image true) start.files (rest_sound start) in
+    let h2 : Leaves d2 start.files = leaves_part d1 (image_write pos piece) start.files h1 in
+    let h3 : Leaves d3 start.files = leaves_part d2 (image_open image false) start.files h2 in
+    let h4 : Leaves d4 start.files = leaves_failed d3 image_sync start.files h3 in
+    let h5 : Leaves d5 start.files = leaves_part d4 (image_open image false) start.files h4 in (
+      ap lost_in (some_own d5 d5.reads.image image synced im5) ∙ lost,
+      λ other same. left_other d5 start.files o image pos piece other im5 reads5 lost same h5,
+    )

@@ -70,11 +70,6 @@ WholeImageIsFound =
     → MayBeLeft start (before ++ Done image_sync ∷ since) k found
     → found image ≡ (after start before).files image
 
--- these calls lose a piece of the image: its write fails, or its write returns and a sync fails
-abbrev pub LosesPiece : ℕ → List ℕ → List Entry → Type 0
-LosesPiece pos piece calls = (steps : ℕ) × ((calls ≡ Failed (image_write pos piece) steps ∷ [])
-    ⊎ (calls ≡ Done (image_write pos piece) ∷ Failed image_sync steps ∷ []))
-
 -- a call that leaves a place of an image as it is: it writes elsewhere, opens or syncs an image, or changes and settles
 -- other files
 abbrev pub SparesPlace : List ℕ → ℕ → Folder → Call → Type 0
@@ -88,6 +83,21 @@ abbrev pub SparePlace : List ℕ → ℕ → Folder → List Entry → Type 0
 SparePlace image x d [] = ⊤
 SparePlace image x d (e ∷ es) = SparesPlace image x d (call_in e) × SparePlace image x (after_entry d e) es
 
+-- none of these calls is a sync of the image that returned
+abbrev pub NoneSyncs : List ℕ → Folder → List Entry → Type 0
+NoneSyncs image d [] = ⊤
+NoneSyncs image d (e ∷ es) = (e ≡ Done image_sync → d.image ≡ Some image → ⊥) × NoneSyncs image (after_entry d e) es
+
+-- These calls lose place x of a piece of the image: its write fails, or its write returns and a sync fails before one
+-- returns. Calls between the two leave the place as it is, and may write elsewhere.
+abbrev pub LosesPiece : List ℕ → (pos : ℕ) → (piece : List ℕ) → (x : ℕ) → Folder → List Entry → Type 0
+LosesPiece image pos piece x d calls = (steps : ℕ) × ((calls ≡ Failed (image_write pos piece) steps ∷ [])
+    ⊎ ((between : List Entry)
+    × SparePlace image x (after_done d (image_write pos piece)) between
+    × NoneSyncs image (after_done d (image_write pos piece)) between
+    × ((after d (Done (image_write pos piece) ∷ between)).image ≡ Some image)
+    × (calls ≡ Done (image_write pos piece) ∷ (between ++ Failed image_sync steps ∷ []))))
+
 -- files with another byte at a place of one
 abbrev pub with_byte : List ℕ → (x byte : ℕ) → (List ℕ → Option File) → List ℕ → Option File
 with_byte name x byte files = put files name (Some (written_file (files name) x (byte ∷ [])))
@@ -97,7 +107,7 @@ abbrev pub LostStays : Type 0
 LostStays =
     (start : Folder) (before lost since : List Entry) (image : List ℕ) (pos : ℕ) (piece : List ℕ) (x byte : ℕ)
     → (after start before).image ≡ Some image
-    → LosesPiece pos piece lost
+    → LosesPiece image pos piece x (after start before) lost
     → pos ≤ x → x < pos + length piece
     → x < length (bytes_of ((after start (before ++ lost)).files image))
     → SparePlace image x (after start (before ++ lost)) since
@@ -143,7 +153,10 @@ silent image pos piece =
     Done (image_open image true) ∷ Done (image_write pos piece) ∷ Done (image_open image false) ∷ Failed image_sync 0
     ∷ Done (image_open image false) ∷ Done image_sync ∷ []
 
--- By `silent`, the range that was written is lost.
+-- By `silent`, the range that was written is lost: the image may be found with any other piece in its place.
 abbrev pub SilentErrorLoses : Type 0
 SilentErrorLoses = (start : Folder) (image : List ℕ) (pos : ℕ) (piece : List ℕ)
-    → lost_in ((disk_after (at_rest start) (silent image pos piece)).shows image) ≡ (pos, length piece) ∷ []
+    → (lost_in ((disk_after (at_rest start) (silent image pos piece)).shows image) ≡ (pos, length piece) ∷ [])
+    × ((other : List ℕ) → length other ≡ length piece
+    → MayBeLeft start (silent image pos piece) 6
+    (put start.files image (Some (written_file (start.files image) pos other))))
