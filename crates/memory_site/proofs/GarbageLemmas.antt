@@ -1,16 +1,18 @@
 -- Garbage leaves other bytes in ranges that aren't synced, and elsewhere what Newest leaves.
-use Rattle.std.proofs.Common.{◌≡◌, inl, inr, ℕ, ◌+◌, ◌-◌, ◌≤◌, ◌<◌, min, Bool, true, false, cond, List, [], ◌∷◌, ◌++◌, length, replicate, get_or, Option, Some, None, refl, sym, ◌∙◌, ap, subst, arith}
+use Rattle.std.proofs.Common.{◌≡◌, inl, inr, ℕ, zero, suc, ◌+◌, ◌-◌, ◌≤◌, ◌<◌, min, Bool, true, false, cond, ◌&&◌, ◌||◌, nat_le, nat_lt, if◌then◌else◌, List, [], ◌∷◌, ◌++◌, length, replicate, get_or, Option, Some, None, refl, sym, ◌∙◌, ap, subst, arith}
 use Rattle.std.specs.Str.{bytes_eq}
 use Rattle.std.proofs.lemmas.Bool.{cases_lt}
+use Rattle.std.proofs.lemmas.Bool.Decides.{nat_tests}
+use Rattle.std.proofs.Math.Bool.{or-true}
 use Rattle.std.proofs.lemmas.List.{get_or-replicate, length-replicate}
 use Rattle.memory_site.specs.declared.memory.stop.Left.TheVariants.{Newest, Garbage}
 use Rattle.crash_site.specs.Files.{File, empty_file, bytes_of, put, written}
 use Rattle.crash_site.specs.Calls.{Call, Entry, Done, Failed, image_open, image_read, image_write, image_sync, map_read, draft_begin, draft_append, draft_sync, draft_publish, map_settle, map_remove}
 use Rattle.crash_site.specs.Folder.{Folder}
-use Rattle.crash_site.specs.Disk.{Disk, at_rest, entered}
+use Rattle.crash_site.specs.Disk.{Disk, lost_in, at_rest, entered}
 use Rattle.crash_site.specs.Left.{IsLoose, until}
-use Rattle.memory_site.specs.FilesLeft.{any_byte, begins_at, over, opened_over, written_on, published_as, with_some, moved_to, made_part, sure_name, left_entry, left_along, files_left}
-use Rattle.memory_site.specs.Unsynced.{with_ranges, ranges_at, opened_ranges, written_ranges, text_ranges, ranges_moved, part_unsynced, entry_unsynced, along_unsynced, unsynced_at}
+use Rattle.memory_site.specs.FilesLeft.{any_byte, begins_at, over, opened_over, written_on, published_as, with_some, moved_to, made_part, sure_name, lies_in, spoilt_from, spoilt_at, sure_file, left_entry, left_along, files_left}
+use Rattle.memory_site.specs.Unsynced.{with_ranges, ranges_at, opened_ranges, written_ranges, text_ranges, ranges_moved, part_unsynced, sure_ranges, entry_unsynced, along_unsynced, unsynced_at}
 use Rattle.memory_site.specs.LeftLaws.{HasSpoilt, IsSpoilt}
 use Rattle.crash_site.proofs.Written.{length-written, written_before, written_inside, written_after}
 
@@ -19,6 +21,76 @@ use Rattle.crash_site.proofs.Written.{length-written, written_before, written_in
 same_file : (o : Option File) → IsSpoilt o [] o
 same_file None = tt
 same_file (Some f) = record { size = refl; other = λ x lt h. absurd h; same = λ x lt h. refl; regular = λ h. h }
+
+-- One file, with other bytes in some ranges.
+
+pub within : (pos len x : ℕ) → pos ≤ x → x < pos + len → (nat_le pos x && nat_lt x (pos + len)) ≡ true
+within pos len x from to = grind (arith, nat_tests)
+
+outside : (pos len x : ℕ) (b : Bool) → (nat_le pos x && nat_lt x (pos + len)) ≡ b
+    → ((pos ≤ x) × (x < pos + len) → ⊥) → b ≡ false
+outside pos len x true is apart = absurd (apart (grind (arith, nat_tests), grind (arith, nat_tests)))
+outside pos len x false is apart = refl
+
+pub lies : (ranges : List (ℕ × ℕ)) (x : ℕ) → IsLoose ranges x → lies_in ranges x ≡ true
+lies [] x l = absurd l
+lies (r ∷ rs) x (inl h) = ap (λ (b : Bool). b || lies_in rs x) (within r.0 r.1 x h.0 h.1)
+lies (r ∷ rs) x (inr h) =
+    ap (λ (b : Bool). (nat_le r.0 x && nat_lt x (r.0 + r.1)) || b) (lies rs x h)
+    ∙ or-true (nat_le r.0 x && nat_lt x (r.0 + r.1))
+
+pub lies_not : (ranges : List (ℕ × ℕ)) (x : ℕ) → (IsLoose ranges x → ⊥) → lies_in ranges x ≡ false
+lies_not [] x apart = refl
+lies_not (r ∷ rs) x apart =
+    ap (λ (b : Bool). b || lies_in rs x)
+    (outside r.0 r.1 x (nat_le r.0 x && nat_lt x (r.0 + r.1)) refl (λ h. apart (inl h)))
+    ∙ lies_not rs x (λ h. apart (inr h))
+
+pub spoilt_size : (mark : ℕ → Bool) (x : ℕ) (bytes : List ℕ) → length (spoilt_from mark x bytes) ≡ length bytes
+spoilt_size mark x [] = refl
+spoilt_size mark x (b ∷ bs) = ap suc (spoilt_size mark (suc x) bs)
+
+spoilt_past : (mark : ℕ → Bool) (from : ℕ) (bytes : List ℕ) (i : ℕ) → i < length bytes
+    → get_or (spoilt_from mark from bytes) i 0 ≡ (if mark (from + i) then any_byte else get_or bytes i 0)
+spoilt_past mark from [] i lt = absurd (omega (arith, lt))
+spoilt_past mark from (b ∷ bs) zero lt =
+    ap (λ (x : ℕ). if mark x then any_byte else b) (let e : from ≡ from + 0 = omega arith in e)
+spoilt_past mark from (b ∷ bs) (suc i) lt =
+    spoilt_past mark (suc from) bs i (omega (arith, lt))
+    ∙ ap (λ (x : ℕ). if mark x then any_byte else get_or bs i 0)
+    (let e : suc from + i ≡ from + suc i = omega arith in e)
+
+pub spoilt_there : (mark : ℕ → Bool) (bytes : List ℕ) (i : ℕ) → i < length bytes
+    → get_or (spoilt_from mark 0 bytes) i 0 ≡ (if mark i then any_byte else get_or bytes i 0)
+spoilt_there mark bytes i lt =
+    spoilt_past mark 0 bytes i lt
+    ∙ ap (λ (x : ℕ). if mark x then any_byte else get_or bytes i 0) (let e : 0 + i ≡ i = omega arith in e)
+
+lost_spoilt : (ranges : List (ℕ × ℕ)) (o : Option File) → IsSpoilt o ranges (spoilt_at (lies_in ranges) o)
+lost_spoilt ranges None = tt
+lost_spoilt ranges (Some f) = record {
+  size = spoilt_size (lies_in ranges) 0 f.bytes;
+  other = λ x lt loose. spoilt_there (lies_in ranges) f.bytes x lt
+      ∙ ap (λ (b : Bool). if b then any_byte else get_or f.bytes x 0) (lies ranges x loose);
+  same = λ x lt outside. spoilt_there (lies_in ranges) f.bytes x lt
+      ∙ ap (λ (b : Bool). if b then any_byte else get_or f.bytes x 0) (lies_not ranges x outside);
+  regular = λ h. h;
+}
+
+-- what a call makes sure
+sure_spoilt : (d : Disk) (call : Call) (n : List ℕ)
+    → IsSpoilt (sure_file call Newest d n) (sure_ranges call d n) (sure_file call Garbage d n)
+sure_spoilt d (image_open name make) n = same_file (d.reads.files n)
+sure_spoilt d (image_read pos asked answer) n = same_file (d.reads.files n)
+sure_spoilt d (image_write pos piece) n = same_file (d.reads.files n)
+sure_spoilt d image_sync n = lost_spoilt (lost_in (d.shows n)) (d.reads.files n)
+sure_spoilt d (map_read name pos asked answer) n = same_file (d.reads.files n)
+sure_spoilt d (draft_begin name) n = same_file (d.reads.files n)
+sure_spoilt d (draft_append piece) n = same_file (d.reads.files n)
+sure_spoilt d draft_sync n = same_file (d.reads.files n)
+sure_spoilt d (draft_publish name) n = same_file (d.reads.files n)
+sure_spoilt d (map_settle name) n = same_file (d.reads.files n)
+sure_spoilt d (map_remove name) n = same_file (d.reads.files n)
 
 -- A write of both files, of the piece and of other bytes.
 
@@ -215,9 +287,9 @@ part_spoilt (map_remove name) reads firm f g l h = put_spoilt f g l name None No
 entry_spoilt : (d : Disk) (e : Entry) (f g : List ℕ → Option File) (l : List ℕ → List (ℕ × ℕ)) → AllSpoilt f l g
     → AllSpoilt (left_entry Newest d e f) (entry_unsynced d e f l) (left_entry Garbage d e g)
 entry_spoilt d (Done call) f g l h =
-    some_spoilt (sure_name call d.reads) d.reads.files d.reads.files (λ n. [])
+    some_spoilt (sure_name call d.reads) (sure_file call Newest d) (sure_file call Garbage d) (sure_ranges call d)
     (made_part false call d.reads d.firm f) (made_part true call d.reads d.firm g)
-    (part_unsynced call d.reads d.firm f l) (λ n. same_file (d.reads.files n))
+    (part_unsynced call d.reads d.firm f l) (sure_spoilt d call)
     (part_spoilt call d.reads d.firm f g l h)
 entry_spoilt d (Failed call steps) f g l h = part_spoilt call d.reads d.firm f g l h
 

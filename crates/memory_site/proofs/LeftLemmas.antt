@@ -1,15 +1,17 @@
 -- Files that a stop of each kind leaves may be left.
-use Rattle.std.proofs.Common.{◌≡◌, inl, ℕ, ◌+◌, ◌-◌, Bool, true, false, List, [], ◌∷◌, ◌++◌, length, replicate, Option, Some, None, refl, sym, ◌∙◌, ap, subst, arith}
+use Rattle.std.proofs.Common.{◌≡◌, inl, inr, ⊎_elim, ℕ, ◌+◌, ◌-◌, Bool, true, false, if◌then◌else◌, List, [], ◌∷◌, ◌++◌, length, replicate, get_or, Option, Some, None, refl, sym, ◌∙◌, ap, subst, arith}
 use Rattle.std.proofs.lemmas.List.{length-replicate}
 use Rattle.memory_site.specs.declared.memory.stop.Left.{Left}
 use Rattle.memory_site.specs.declared.memory.stop.Left.TheVariants.{Oldest, Newest, Garbage}
 use Rattle.crash_site.specs.Files.{File, empty_file, bytes_of, put, written_file}
 use Rattle.crash_site.specs.Calls.{Call, Entry, Done, Failed, image_open, image_read, image_write, image_sync, map_read, draft_begin, draft_append, draft_sync, draft_publish, map_settle, map_remove}
 use Rattle.crash_site.specs.Folder.{Folder}
-use Rattle.crash_site.specs.Disk.{Showing, Disk, synced, only, at_rest, with_range, under, under_some, with_draft, with_text, publishing, after_part, after_return, entered, disk_after}
-use Rattle.crash_site.specs.Left.{MayShow, Leaves, MayBeLeft, until}
-use Rattle.memory_site.specs.FilesLeft.{any_byte, spoilt, begins_at, over, opened_over, written_on, published_as, with_some, moved_to, made_part, left_part, left_entry, left_along, files_left}
+use Rattle.crash_site.specs.Disk.{Showing, Disk, lost_in, synced, only, at_rest, with_range, under, under_some, with_draft, with_text, publishing, after_part, after_return, entered, disk_after}
+use Rattle.crash_site.specs.Left.{MatchesFile, MayShow, Leaves, MayBeLeft, until}
+use Rattle.memory_site.specs.FilesLeft.{any_byte, spoilt, begins_at, over, opened_over, written_on, published_as, with_some, moved_to, made_part, left_part, lies_in, spoilt_at, sure_file, left_entry, left_along, files_left}
 use Rattle.crash_site.proofs.DiskLemmas.{CoversRange, leaves_at, leaves_put, leaves_part, loosened_widens, leaves_made, leaves_removed, leaves_sure, stands_written, stands_made, stands_published, stands_only, stands_synced, leaves_lost, stands_any, same_name, rest_sound}
+use Rattle.crash_site.proofs.RangeLemmas.{loose_or_not}
+use Rattle.memory_site.proofs.GarbageLemmas.{lies_not, spoilt_size, spoilt_there}
 use Rattle.memory_site.proofs.PlaceLemmas.{put-same}
 
 -- each call, made in any part
@@ -132,6 +134,28 @@ part_stands Garbage d call f h = made_stands true d call f h
 
 -- a call that returned Ok
 
+spoilt_matches : (ranges : List (ℕ × ℕ)) (o : Option File) → MatchesFile o ranges (spoilt_at (lies_in ranges) o)
+spoilt_matches ranges None = tt
+spoilt_matches ranges (Some f) = record {
+  stands = λ x lt. ⊎_elim (λ l. inl l)
+      (λ no. inr (spoilt_there (lies_in ranges) f.bytes x lt
+      ∙ ap (λ (b : Bool). if b then any_byte else get_or f.bytes x 0) (lies_not ranges x no))) (loose_or_not ranges x);
+  no_shorter = omega (arith, spoilt_size (lies_in ranges) 0 f.bytes);
+  no_longer = omega (arith, spoilt_size (lies_in ranges) 0 f.bytes);
+  regular = refl;
+}
+
+synced_stands : (kind : Left) (d : Disk) (o : Option (List ℕ)) (f : List ℕ → Option File) → Leaves d f
+    → Leaves (under_some o synced d) (with_some o (sure_file image_sync kind d) f)
+synced_stands kind d None f h = h
+synced_stands Oldest d (Some name) f h = leaves_sure d name synced f stands_synced h
+synced_stands Newest d (Some name) f h = leaves_sure d name synced f stands_synced h
+synced_stands Garbage d (Some name) f h =
+    leaves_put d name synced f (spoilt_at (lies_in (lost_in (d.shows name))) (d.reads.files name)) h
+    (λ n is. subst (λ (m : List ℕ). MayShow (synced (d.reads.files n) (d.shows n))
+    (spoilt_at (lies_in (lost_in (d.shows m))) (d.reads.files m))) (same_name n name is)
+    (inr (inr (inl (spoilt_matches (lost_in (d.shows n)) (d.reads.files n))))))
+
 sure_stands : (d : Disk) (o : Option (List ℕ)) (change : Option File → Showing → Showing) (f : List ℕ → Option File)
     → ((file : Option File) (s : Showing) → MayShow (change file s) file) → Leaves d f
     → Leaves (under_some o change d) (with_some o d.reads.files f)
@@ -144,8 +168,7 @@ done_stands kind d (image_open name make) f h = part_stands kind d (image_open n
 done_stands kind d (image_read pos asked answer) f h = part_stands kind d (image_read pos asked answer) f h
 done_stands kind d (image_write pos piece) f h = part_stands kind d (image_write pos piece) f h
 done_stands kind d image_sync f h =
-    sure_stands d d.reads.image synced (left_part kind image_sync d.reads d.firm f) stands_synced
-    (part_stands kind d image_sync f h)
+    synced_stands kind d d.reads.image (left_part kind image_sync d.reads d.firm f) (part_stands kind d image_sync f h)
 done_stands kind d (map_read name pos asked answer) f h = part_stands kind d (map_read name pos asked answer) f h
 done_stands kind d (draft_begin name) f h = part_stands kind d (draft_begin name) f h
 done_stands kind d (draft_append piece) f h = part_stands kind d (draft_append piece) f h

@@ -3,6 +3,7 @@ mod FollowLemmas
 mod GarbageLemmas
 mod LeftLemmas
 mod LooseLemmas
+mod MarkLemmas
 mod NewestLemmas
 mod OldestLemmas
 mod PlaceLemmas

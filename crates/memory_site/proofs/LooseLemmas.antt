@@ -1,19 +1,16 @@
 -- The ranges that aren't synced are those of the version that is found.
-use Rattle.std.proofs.Common.{◌≡◌, inl, inr, ⊎_elim, All, take, drop, ℕ, ◌+◌, ◌-◌, ◌≤◌, ◌<◌, min, max, Bool, true, false, cond, List, [], ◌∷◌, ◌++◌, length, map, Option, Some, None, refl, sym, subst, arith}
+use Rattle.std.proofs.Common.{◌≡◌, inl, inr, ⊎_elim, ℕ, ◌+◌, ◌-◌, ◌≤◌, ◌<◌, min, max, Bool, true, false, cond, List, [], ◌∷◌, ◌++◌, length, map, Option, Some, None, refl, sym, subst, arith}
 use Rattle.std.specs.Str.{bytes_eq}
 use Rattle.std.proofs.lemmas.Bool.{cases_lt}
 use Rattle.memory_site.specs.declared.memory.stop.Left.TheVariants.{Newest}
 use Rattle.crash_site.specs.Files.{File, empty_file, draft_of, bytes_of, put, written}
 use Rattle.crash_site.specs.Calls.{Call, Entry, Done, Failed, image_open, image_read, image_write, image_sync, map_read, draft_begin, draft_append, draft_sync, draft_publish, map_settle, map_remove}
 use Rattle.crash_site.specs.Folder.{Folder}
-use Rattle.crash_site.specs.Disk.{Version, Showing, Disk, lose, lose_all, in_each, synced, lost_by, whole, only, at_rest, or_this, loosen, loosened, with_range, with_opened, under, under_some, with_draft, with_text, publishing, after_part, after_return, entered, disk_after}
-use Rattle.crash_site.specs.Left.{IsLoose, MatchesFile, in_progress, until}
+use Rattle.crash_site.specs.Disk.{Version, Showing, Disk, lost_in, lose, lose_all, in_each, synced, lost_by, whole, only, at_rest, or_this, loosen, loosened, with_range, with_opened, under, under_some, with_draft, with_text, publishing, after_part, after_return, entered, disk_after}
+use Rattle.crash_site.specs.Left.{IsLoose, MatchesFile, until}
 use Rattle.memory_site.specs.FilesLeft.{opened_over, written_on, published_as, with_some, moved_to, made_part, left_entry, left_along, files_left}
 use Rattle.memory_site.specs.Unsynced.{with_ranges, ranges_at, opened_ranges, written_ranges, text_ranges, ranges_moved, part_unsynced, entry_unsynced, along_unsynced, unsynced_at}
-use Rattle.crash_site.specs.LostLaws.{LosesNone}
 use Rattle.memory_site.specs.LeftLaws.{IsUnsure, IsUnsyncedOf, IsUnsyncedOfOne, IsWholeUnsynced, MayBeUnsynced}
-use Rattle.crash_site.proofs.NoneLemmas.{NoneLost, none_lost_step}
-use Rattle.std.proofs.lemmas.List.Elements.{All-head, All-tail}
 use Rattle.crash_site.proofs.Written.{length-written}
 use Rattle.crash_site.proofs.DiskLemmas.{holds_self, holds_more, version_written, same_name}
 
@@ -269,15 +266,22 @@ sure_all d (Some name) f l h = put_unsynced d name (λ file s. only file) f l (d
     (λ n same. subst (λ (m : List ℕ). MayBeUnsynced (only (d.reads.files n)) (d.reads.files m) []) same
     (inr (inr (inl (self_unsynced (d.reads.files n)))))) h
 
-sync_all : (d : Disk) (o : Option (List ℕ)) (f : List ℕ → Option File) (l : List ℕ → List (ℕ × ℕ)) → NoneLost d
+-- a version that was synced, of which these ranges are lost
+lost_unsynced : (o : Option File) (lost : List (ℕ × ℕ))
+    → IsUnsyncedOf (record { file = o; loose = lost; lost = lost }) o lost
+lost_unsynced o lost = record {
+  matches = holds_self o lost;
+  all = λ x lt u. ⊎_elim (λ l. l) (λ le. absurd (omega (arith, lt, le))) u;
+  alone = λ x lt l. inl l;
+}
+
+sync_all : (d : Disk) (o : Option (List ℕ)) (f : List ℕ → Option File) (l : List ℕ → List (ℕ × ℕ))
     → AllUnsynced d f l
-    → AllUnsynced (under_some o synced d) (with_some o d.reads.files f) (ranges_at o (λ n. []) l)
-sync_all d None f l none h = h
-sync_all d (Some name) f l none h = put_unsynced d name synced f l (d.reads.files name) []
-    (λ n same. subst (λ (m : List ℕ). MayBeUnsynced (synced (d.reads.files n) (d.shows n)) (d.reads.files m) []) same
-    (subst (λ (r : List (ℕ × ℕ)). MayBeUnsynced (record (only (d.reads.files n))
-    { durable = record { file = d.reads.files n; loose = r; lost = r } }) (d.reads.files n) []) (sym (none n))
-    (inr (inr (inl (self_unsynced (d.reads.files n))))))) h
+    → AllUnsynced (under_some o synced d) (with_some o d.reads.files f) (ranges_at o (λ n. lost_in (d.shows n)) l)
+sync_all d None f l h = h
+sync_all d (Some name) f l h = put_unsynced d name synced f l (d.reads.files name) (lost_in (d.shows name))
+    (λ n same. subst (λ (m : List ℕ). MayBeUnsynced (synced (d.reads.files n) (d.shows n)) (d.reads.files m)
+    (lost_in (d.shows m))) same (inr (inr (inl (lost_unsynced (d.reads.files n) (lost_in (d.shows n))))))) h
 
 -- what is lost by a call that fails shows nothing more
 one_lost : (change : Version → Version) → ((v : Version) → (was : Option File) (ranges : List (ℕ × ℕ))
@@ -334,21 +338,21 @@ lost_all d (draft_publish name) f l h = h
 lost_all d (map_settle name) f l h = h
 lost_all d (map_remove name) f l h = h
 
-done_all : (d : Disk) (call : Call) (f : List ℕ → Option File) (l : List ℕ → List (ℕ × ℕ)) → NoneLost d
+done_all : (d : Disk) (call : Call) (f : List ℕ → Option File) (l : List ℕ → List (ℕ × ℕ))
     → AllUnsynced d f l
     → AllUnsynced (after_return call d) (left_entry Newest d (Done call) f) (entry_unsynced d (Done call) f l)
-done_all d (image_open name make) f l none h = part_unsynced_all d (image_open name make) f l h
-done_all d (image_read pos asked answer) f l none h = h
-done_all d (image_write pos piece) f l none h = part_unsynced_all d (image_write pos piece) f l h
-done_all d image_sync f l none h = sync_all d d.reads.image f l none h
-done_all d (map_read name pos asked answer) f l none h = h
-done_all d (draft_begin name) f l none h = part_unsynced_all d (draft_begin name) f l h
-done_all d (draft_append piece) f l none h = part_unsynced_all d (draft_append piece) f l h
-done_all d draft_sync f l none h = h
-done_all d (draft_publish name) f l none h = part_unsynced_all d (draft_publish name) f l h
-done_all d (map_settle name) f l none h =
+done_all d (image_open name make) f l h = part_unsynced_all d (image_open name make) f l h
+done_all d (image_read pos asked answer) f l h = h
+done_all d (image_write pos piece) f l h = part_unsynced_all d (image_write pos piece) f l h
+done_all d image_sync f l h = sync_all d d.reads.image f l h
+done_all d (map_read name pos asked answer) f l h = h
+done_all d (draft_begin name) f l h = part_unsynced_all d (draft_begin name) f l h
+done_all d (draft_append piece) f l h = part_unsynced_all d (draft_append piece) f l h
+done_all d draft_sync f l h = h
+done_all d (draft_publish name) f l h = part_unsynced_all d (draft_publish name) f l h
+done_all d (map_settle name) f l h =
     sure_all (after_part (map_settle name) d) (Some name) f l (looked_all d (draft_of name) f l h)
-done_all d (map_remove name) f l none h = part_unsynced_all d (map_remove name) f l h
+done_all d (map_remove name) f l h = part_unsynced_all d (map_remove name) f l h
 
 failed_all : (d : Disk) (call : Call) (steps : ℕ) (f : List ℕ → Option File) (l : List ℕ → List (ℕ × ℕ))
     → AllUnsynced d f l
@@ -357,24 +361,17 @@ failed_all : (d : Disk) (call : Call) (steps : ℕ) (f : List ℕ → Option Fil
 failed_all d call steps f l h = lost_all (after_part call d) call (made_part false call d.reads d.firm f)
     (part_unsynced call d.reads d.firm f l) (part_unsynced_all d call f l h)
 
-along_all : (d : Disk) (f : List ℕ → Option File) (l : List ℕ → List (ℕ × ℕ)) (es more : List Entry) → All LosesNone es
-    → NoneLost d → AllUnsynced d f l
-    → AllUnsynced (disk_after d (es ++ in_progress more)) (left_along Newest d f (es ++ in_progress more))
-    (along_unsynced d f l (es ++ in_progress more))
-along_all d f l [] [] ok none h = h
-along_all d f l [] (Done call ∷ more) ok none h = failed_all d call 0 f l h
-along_all d f l [] (Failed call steps ∷ more) ok none h = failed_all d call steps f l h
-along_all d f l (Done call ∷ es) more ok none h = along_all (entered d (Done call)) (left_entry Newest d (Done call) f)
-    (entry_unsynced d (Done call) f l) es more (All-tail LosesNone (Done call) es ok)
-    (none_lost_step d (Done call) (All-head LosesNone (Done call) es ok) none) (done_all d call f l none h)
-along_all d f l (Failed call steps ∷ es) more ok none h = along_all (entered d (Failed call steps))
-    (left_entry Newest d (Failed call steps) f) (entry_unsynced d (Failed call steps) f l) es more
-    (All-tail LosesNone (Failed call steps) es ok)
-    (none_lost_step d (Failed call steps) (All-head LosesNone (Failed call steps) es ok) none)
+along_all : (d : Disk) (f : List ℕ → Option File) (l : List ℕ → List (ℕ × ℕ)) (es : List Entry) → AllUnsynced d f l
+    → AllUnsynced (disk_after d es) (left_along Newest d f es) (along_unsynced d f l es)
+along_all d f l [] h = h
+along_all d f l (Done call ∷ es) h = along_all (entered d (Done call)) (left_entry Newest d (Done call) f)
+    (entry_unsynced d (Done call) f l) es (done_all d call f l h)
+along_all d f l (Failed call steps ∷ es) h = along_all (entered d (Failed call steps))
+    (left_entry Newest d (Failed call steps) f) (entry_unsynced d (Failed call steps) f l) es
     (failed_all d call steps f l h)
 
-pub unsynced_left : (start : Folder) (calls : List Entry) (k : ℕ) (n : List ℕ) → All LosesNone (take k calls)
+pub unsynced_left : (start : Folder) (calls : List Entry) (k : ℕ) (n : List ℕ)
     → MayBeUnsynced ((disk_after (at_rest start) (until k calls)).shows n) (files_left Newest start calls k n)
     (unsynced_at start calls k n)
-unsynced_left start calls k n ok = along_all (at_rest start) start.files (λ n. []) (take k calls) (drop k calls) ok
-    (λ n. refl) (λ n. inr (inr (inl (self_unsynced (start.files n))))) n
+unsynced_left start calls k n = along_all (at_rest start) start.files (λ n. []) (until k calls)
+    (λ n. inr (inr (inl (self_unsynced (start.files n))))) n

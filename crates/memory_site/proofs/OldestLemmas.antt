@@ -8,7 +8,7 @@ use Rattle.crash_site.specs.Calls.{Call, Entry, Done, Failed, image_open, image_
 use Rattle.crash_site.specs.Folder.{Folder}
 use Rattle.crash_site.specs.Disk.{Showing, Disk, lose, lose_all, in_each, synced, lost_by, only, at_rest, or_this, with_range, with_opened, under, under_some, with_draft, with_text, publishing, after_part, after_return, entered, disk_after}
 use Rattle.crash_site.specs.Left.{in_progress}
-use Rattle.memory_site.specs.FilesLeft.{with_some, sure_name, left_entry, left_along, files_left}
+use Rattle.memory_site.specs.FilesLeft.{with_some, sure_name, sure_file, left_entry, left_along, files_left}
 use Rattle.memory_site.specs.LeftLaws.{durable_files}
 use Rattle.crash_site.proofs.DiskLemmas.{same_name}
 use Rattle.memory_site.proofs.StopLemmas.{along-append}
@@ -74,7 +74,7 @@ sure_some d (Some name) change f n same h = elim (cases_Bool (bytes_eq n name)) 
 ]
 
 pub done_durable : (d : Disk) (call : Call) (f : List ℕ → Option File) (n : List ℕ) → f n ≡ durable_files d n
-    → with_some (sure_name call d.reads) d.reads.files f n ≡ durable_files (after_return call d) n
+    → with_some (sure_name call d.reads) (sure_file call Oldest d) f n ≡ durable_files (after_return call d) n
 done_durable d (image_open name make) f n h = h ∙ sym (part_durable d (image_open name make) n)
 done_durable d (image_read pos asked answer) f n h = h
 done_durable d (image_write pos piece) f n h = h ∙ sym (part_durable d (image_write pos piece) n)

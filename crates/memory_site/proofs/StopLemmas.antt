@@ -13,9 +13,11 @@ use Rattle.crash_site.specs.CallsMade.{unanswered}
 use Rattle.crash_site.specs.Folder.{Folder}
 use Rattle.crash_site.specs.Disk.{Disk, at_rest, entered, disk_after}
 use Rattle.crash_site.specs.Left.{in_part, in_progress}
-use Rattle.memory_site.specs.FilesLeft.{with_some, made_part, left_part, sure_name, left_entry, left_along, files_left}
+use Rattle.memory_site.specs.FilesLeft.{with_some, made_part, left_part, sure_name, sure_file, left_entry, left_along, files_left}
+use Rattle.memory_site.specs.Marks.{Marked, FollowDisk, sure_marked}
 use Rattle.memory_site.specs.Stopped.{Replays}
 use Rattle.crash_site.proofs.DiskLemmas.{run-append}
+use Rattle.memory_site.proofs.MarkLemmas.{sure_follows}
 
 pub on_ok : {T E P Q : Type 0} (r : Result T E) → (P → Q) → OnOk r P → OnOk r Q
 on_ok (Ok v) f p = f p
@@ -67,14 +69,17 @@ left_here kind call d reads firm f was now r b w e =
     ∙ ap (λ (x : Folder). left_part kind call x firm f) (sym r)
     ∙ ap (λ (x : Bool). left_part kind call d.reads x f) (sym b)
 
-pub left_done : (kind : Left) (call : Call) (d : Disk) (reads : Folder) (firm : Bool)
-    (f was now left : List ℕ → Option File) → d.reads ≡ reads → d.firm ≡ firm → was ≡ f
-    → now ≡ left_part kind call reads firm was → left ≡ with_some (sure_name call reads) reads.files now
+pub left_done : (kind : Left) (call : Call) (d : Disk) (reads : Folder) (firm : Bool) (m : Marked)
+    (f was now left : List ℕ → Option File) → d.reads ≡ reads → d.firm ≡ firm → FollowDisk d m → was ≡ f
+    → now ≡ left_part kind call reads firm was
+    → left ≡ with_some (sure_name call reads) (sure_marked call kind reads m.lost) now
     → left ≡ left_entry kind d (Done call) f
-left_done kind call d reads firm f was now left r b w e s =
+left_done kind call d reads firm m f was now left r b h w e s =
     s
-    ∙ ap (λ (x : Folder). with_some (sure_name call x) x.files now) (sym r)
-    ∙ ap (with_some (sure_name call d.reads) d.reads.files) (left_here kind call d reads firm f was now r b w e)
+    ∙ ap (λ (x : Folder). with_some (sure_name call x) (sure_marked call kind x m.lost) now) (sym r)
+    ∙ ap (λ (sure : List ℕ → Option File). with_some (sure_name call d.reads) sure now) (sure_follows d m call kind h)
+    ∙ ap (with_some (sure_name call d.reads) (sure_file call kind d))
+    (left_here kind call d reads firm f was now r b w e)
 
 pub fails_again : (r : Replay) (d : Disk) (f : List ℕ → Option File) (kind : Left) (l : LoggedCall) → l.failed ≡ true
     → Replays r (entered d (Failed (call_of l.act) 0)) (left_entry kind d (Failed (call_of l.act) 0) f)

@@ -1,12 +1,12 @@
 -- Which files a stop of each kind leaves, folded over the record of the calls.
 -- For contracts, laws and proofs: no promise uses it.
-use Rattle.std.specs.Prelude.{ℕ, ◌+◌, ◌-◌, min, Bool, true, false, List, [], ◌∷◌, ◌++◌, length, replicate, Option, Some, None}
+use Rattle.std.specs.Prelude.{ℕ, zero, suc, ◌+◌, ◌-◌, min, Bool, true, false, ◌&&◌, ◌||◌, nat_le, nat_lt, if◌then◌else◌, List, [], ◌∷◌, ◌++◌, length, replicate, Option, Some, None}
 use Rattle.memory_site.specs.declared.memory.stop.Left.{Left}
 use Rattle.memory_site.specs.declared.memory.stop.Left.TheVariants.{Oldest, Newest, Garbage}
 use Rattle.crash_site.specs.Files.{File, bytes_of, empty_file, put, written_file}
 use Rattle.crash_site.specs.Calls.{Call, image_open, image_read, image_write, image_sync, map_read, draft_begin, draft_append, draft_sync, draft_publish, map_settle, map_remove, Entry, Done, Failed}
 use Rattle.crash_site.specs.Folder.{Folder}
-use Rattle.crash_site.specs.Disk.{Disk, at_rest, entered}
+use Rattle.crash_site.specs.Disk.{Disk, lost_in, at_rest, entered}
 use Rattle.crash_site.specs.Left.{until}
 
 -- the byte that is found where any may be
@@ -90,10 +90,31 @@ sure_name image_sync d = d.image
 sure_name (map_settle name) d = Some name
 sure_name call d = None
 
+-- a place is in one of these ranges
+abbrev pub lies_in : List (ℕ × ℕ) → ℕ → Bool
+lies_in [] x = false
+lies_in (r ∷ rs) x = (nat_le r.0 x && nat_lt x (r.0 + r.1)) || lies_in rs x
+
+-- bytes, the first of them at a place, with other bytes wherever there is a mark
+abbrev pub spoilt_from : (mark : ℕ → Bool) → ℕ → List ℕ → List ℕ
+spoilt_from mark x [] = []
+spoilt_from mark x (b ∷ bs) = (if mark x then any_byte else b) ∷ spoilt_from mark (suc x) bs
+
+-- a file with other bytes wherever there is a mark, as far as it goes
+abbrev pub spoilt_at : (mark : ℕ → Bool) → Option File → Option File
+spoilt_at mark None = None
+spoilt_at mark (Some f) = Some (record { bytes = spoilt_from mark zero f.bytes; regular = f.regular })
+
+-- What a call that returned Ok makes sure under a name: the file as it reads. If some of an image is lost, its sync
+-- doesn't make that sure, and Garbage puts other bytes there.
+abbrev pub sure_file : Call → Left → Disk → List ℕ → Option File
+sure_file image_sync Garbage d n = spoilt_at (lies_in (lost_in (d.shows n))) (d.reads.files n)
+sure_file call kind d n = d.reads.files n
+
 -- what a call leaves
 abbrev pub left_entry : Left → Disk → Entry → (files : List ℕ → Option File) → List ℕ → Option File
 left_entry kind d (Done call) files =
-    with_some (sure_name call d.reads) d.reads.files (left_part kind call d.reads d.firm files)
+    with_some (sure_name call d.reads) (sure_file call kind d) (left_part kind call d.reads d.firm files)
 left_entry kind d (Failed call steps) files = left_part kind call d.reads d.firm files
 
 -- what the calls of a record leave

@@ -1,12 +1,11 @@
 -- What the files mean that a stop of each kind leaves.
-use Rattle.std.specs.Prelude.{◌≡◌, ◌⊎◌, ⊤, ℕ, ◌<◌, ◌≤◌, IsTrue, List, [], ◌∷◌, ◌++◌, length, take, drop, All, slice_index_or, Option, Some, None}
+use Rattle.std.specs.Prelude.{◌≡◌, ◌⊎◌, ⊤, ℕ, ◌<◌, ◌≤◌, IsTrue, List, [], ◌∷◌, ◌++◌, length, take, drop, slice_index_or, Option, Some, None}
 use Rattle.memory_site.specs.declared.memory.stop.Left.{Left}
 use Rattle.memory_site.specs.declared.memory.stop.Left.TheVariants.{Oldest, Newest, Garbage}
 use Rattle.crash_site.specs.Files.{File, bytes_of}
 use Rattle.crash_site.specs.Calls.{Entry, Done}
 use Rattle.crash_site.specs.CallsMade.{AllDone}
 use Rattle.crash_site.specs.Changes.{call_in}
-use Rattle.crash_site.specs.LostLaws.{LosesNone}
 use Rattle.crash_site.specs.Folder.{Folder, after}
 use Rattle.crash_site.specs.Disk.{Version, Showing, Disk, at_rest, disk_after}
 use Rattle.crash_site.specs.Left.{IsLoose, MatchesFile, MayBeLeft, until}
@@ -82,8 +81,8 @@ abbrev pub MayBeUnsynced : Showing → Option File → List (ℕ × ℕ) → Typ
 MayBeUnsynced s was ranges = IsTrue s.anything
     ⊎ ((IsTrue s.any_text × IsWholeUnsynced was ranges) ⊎ IsUnsyncedOfOne (s.durable ∷ s.since) was ranges)
 
--- The ranges that aren't synced are those that a stop leaves loose, if no write and no sync of an image failed before it.
+-- The ranges that aren't synced are those that a stop leaves loose.
 abbrev pub UnsyncedIsLoose : Type 0
-UnsyncedIsLoose = (start : Folder) (calls : List Entry) (k : ℕ) (n : List ℕ) → All LosesNone (take k calls)
+UnsyncedIsLoose = (start : Folder) (calls : List Entry) (k : ℕ) (n : List ℕ)
     → MayBeUnsynced ((disk_after (at_rest start) (until k calls)).shows n) (files_left Newest start calls k n)
     (unsynced_at start calls k n)

@@ -2,6 +2,7 @@ pub mod CallLog
 pub mod FilesLeft
 pub mod Follows
 pub mod LeftLaws
+pub mod Marks
 pub mod MemoryFolder
 pub mod MemoryState
 pub mod Places

@@ -6,7 +6,7 @@ use Rattle.memory_site.specs.declared.memory.stop.Left.TheVariants.{Newest}
 use Rattle.crash_site.specs.Files.{File, bytes_of}
 use Rattle.crash_site.specs.Calls.{Call, Entry, Done, Failed, image_open, image_read, image_write, image_sync, map_read, draft_begin, draft_append, draft_sync, draft_publish, map_settle, map_remove}
 use Rattle.crash_site.specs.Folder.{Folder}
-use Rattle.crash_site.specs.Disk.{Disk, at_rest, entered}
+use Rattle.crash_site.specs.Disk.{Disk, lost_in, at_rest, entered}
 use Rattle.crash_site.specs.Left.{until}
 use Rattle.memory_site.specs.FilesLeft.{begins_at, sure_name, left_entry}
 
@@ -63,11 +63,16 @@ part_unsynced (draft_publish name) reads firm files unsynced =
 part_unsynced (map_settle name) reads firm files unsynced = unsynced
 part_unsynced (map_remove name) reads firm files unsynced = with_ranges name [] unsynced
 
--- the ranges that aren't synced after a call: a sync or a settle that returned Ok leaves none
+-- the ranges that aren't synced under a name that a call made sure which returned Ok: those of the image that are lost
+abbrev pub sure_ranges : Call → Disk → List ℕ → List (ℕ × ℕ)
+sure_ranges image_sync d n = lost_in (d.shows n)
+sure_ranges call d n = []
+
+-- the ranges that aren't synced after a call
 abbrev pub entry_unsynced : Disk → Entry → (files : List ℕ → Option File) → (List ℕ → List (ℕ × ℕ)) → List ℕ
     → List (ℕ × ℕ)
 entry_unsynced d (Done call) files unsynced =
-    ranges_at (sure_name call d.reads) (λ n. []) (part_unsynced call d.reads d.firm files unsynced)
+    ranges_at (sure_name call d.reads) (sure_ranges call d) (part_unsynced call d.reads d.firm files unsynced)
 entry_unsynced d (Failed call steps) files unsynced = part_unsynced call d.reads d.firm files unsynced
 
 -- the ranges that aren't synced after the calls of a record

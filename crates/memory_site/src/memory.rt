@@ -23,6 +23,7 @@ use std::alloc::{AllocError, Global};
 use stop::{Left, left_at};
 
 mod call_log;
+mod marks;
 mod memory_folder;
 mod places;
 pub mod stop;

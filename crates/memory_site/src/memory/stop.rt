@@ -1,16 +1,18 @@
 //! What a stop of the machine leaves of the files.
-ghost use Rattle.std.specs.Prelude.{◌≡◌, ℕ, ◌+◌, ◌≤◌, ◌++◌, length, List, drop, true, Option, IfOk, OnOk, MatchOption, Some, None, is_some, if◌then◌else◌};
+ghost use Rattle.std.specs.Prelude.{◌≡◌, ℕ, ◌+◌, ◌≤◌, ◌++◌, nat_lt, length, List, slice_index_or, drop, true, Option, IfOk, OnOk, MatchOption, Some, None, is_some, if◌then◌else◌};
 ghost use Rattle.crash_site.specs.Files.{File, bytes_of, empty_file, put};
-ghost use Rattle.crash_site.specs.Calls.{Done, Failed};
+ghost use Rattle.crash_site.specs.Calls.{Done, Failed, image_sync};
 ghost use Rattle.crash_site.specs.Disk.{Disk, at_rest, entered};
 ghost use Rattle.crash_site.specs.Left.{in_progress};
-ghost use Rattle.memory_site.specs.FilesLeft.{opened_over, written_on, published_as, with_some, moved_to, made_part, left_part, sure_name, left_entry, left_along, files_left};
+ghost use Rattle.memory_site.specs.FilesLeft.{spoilt_from, opened_over, written_on, published_as, with_some, moved_to, made_part, left_part, sure_name, left_entry, left_along, files_left};
+ghost use Rattle.memory_site.specs.Marks.{marked_of, sure_marked};
 ghost use Rattle.memory_site.specs.MemoryFolder.{folder_of};
 ghost use Rattle.memory_site.specs.CallLog.{call_of, entry_of, entries_of};
 ghost use Rattle.memory_site.specs.Stopped.{Replays};
 ghost use Rattle.memory_site.specs.Places.{file_of};
 
 use crate::memory::call_log::{Act, CallLog, LoggedCall};
+use crate::memory::marks::Marks;
 use crate::memory::memory_folder::{MemoryFolder, fits};
 use crate::memory::places::MemoryFile;
 use std::alloc::{AllocError, Global};
@@ -261,31 +263,84 @@ fn leave(
     }
 }
 
-/// The name under which a call that returned Ok makes sure what reads.
-fn sure_at<'a>(reads: &'a MemoryFolder, act: &'a Act) -> Option<&'a [u8]>
-    ensures { MatchOption result (sure_name (call_of act.now) (folder_of reads.now) ≡ None)
-        (λ name. sure_name (call_of act.now) (folder_of reads.now) ≡ Some name.now) }
+/// Puts other bytes wherever there is a mark.
+fn spoil(bytes: &mut [u8], marks: &[u8])
+    ensures { bytes.new ≡ spoilt_from (λ x. nat_lt 0 (slice_index_or marks.now x 0)) 0 bytes.old }
 {
-    match act {
-        Act::ImageSync => match &reads.image {
-            None => None,
-            Some(image) => Some(image.as_slice()),
-        },
-        Act::MapSettle(name) => Some(name.as_slice()),
-        _ => None,
+    for i in 0..bytes.len().min(marks.len()) {
+        if marks[i] > 0 {
+            bytes[i] = ANY;
+        }
     }
 }
 
-/// What a call that returned Ok makes sure.
-fn make_sure(left: &mut MemoryFolder, reads: &MemoryFolder, act: &Act) -> Result<(), AllocError>
-    ensures { OnOk result ((folder_of left.new).files ≡ with_some (sure_name (call_of act.now) (folder_of reads.now))
-        (folder_of reads.now).files (folder_of left.old).files) }
+/// An image as it reads, or with other bytes wherever it is lost.
+fn synced(
+    reads: &MemoryFolder,
+    marks: &Marks,
+    image: &[u8],
+    kind: Left,
+) -> Result<Option<MemoryFile>, AllocError>
+    ensures { IfOk result (λ file. file_of file
+        ≡ sure_marked image_sync kind (folder_of reads.now) (marked_of marks.now).lost image.now) }
 {
-    let Some(name) = sure_at(reads, act) else {
+    let file = reads.copy_file(image)?;
+    match kind {
+        Left::Oldest => Ok(file),
+        Left::Newest => Ok(file),
+        Left::Garbage => {
+            let Some(mut read) = file else {
+                return Ok(None);
+            };
+            spoil(&mut read.bytes, marks.lost_of(image));
+            Ok(Some(read))
+        }
+    }
+}
+
+/// The image is synced.
+fn sync(
+    left: &mut MemoryFolder,
+    reads: &MemoryFolder,
+    marks: &Marks,
+    kind: Left,
+) -> Result<(), AllocError>
+    ensures { OnOk result ((folder_of left.new).files ≡ with_some (folder_of reads.now).image
+        (sure_marked image_sync kind (folder_of reads.now) (marked_of marks.now).lost) (folder_of left.old).files) }
+{
+    let Some(image) = &reads.image else {
         return Ok(());
     };
+    let file = synced(reads, marks, image.as_slice(), kind)?;
+    left.put(image.as_slice(), file)
+}
+
+/// A mapfile is settled.
+fn settle(left: &mut MemoryFolder, reads: &MemoryFolder, name: &[u8]) -> Result<(), AllocError>
+    ensures { OnOk result ((folder_of left.new).files
+        ≡ put (folder_of left.old).files name.now ((folder_of reads.now).files name.now)) }
+{
     let file = reads.copy_file(name)?;
     left.put(name, file)
+}
+
+/// What a call that returned Ok makes sure.
+fn make_sure(
+    left: &mut MemoryFolder,
+    reads: &MemoryFolder,
+    marks: &Marks,
+    kind: Left,
+    act: &Act,
+) -> Result<(), AllocError>
+    ensures { OnOk result ((folder_of left.new).files ≡ with_some (sure_name (call_of act.now) (folder_of reads.now))
+        (sure_marked (call_of act.now) kind (folder_of reads.now) (marked_of marks.now).lost)
+        (folder_of left.old).files) }
+{
+    match act {
+        Act::ImageSync => sync(left, reads, marks, kind),
+        Act::MapSettle(name) => settle(left, reads, name.as_slice()),
+        _ => Ok(()),
+    }
 }
 
 /// Whether the draft is synced after a call.
@@ -308,6 +363,7 @@ pub(crate) struct Replay {
     kind: Left,
     reads: MemoryFolder,
     left: MemoryFolder,
+    marks: Marks,
     firm: bool,
 }
 
@@ -322,6 +378,7 @@ impl Replay {
             kind,
             reads: start.copy()?,
             left: start.copy()?,
+            marks: Marks::new(alloc),
             firm: false,
         })
     }
@@ -331,6 +388,7 @@ impl Replay {
         ensures left { OnOk result ((folder_of self.new.left).files ≡ left_part self.old.kind (call_of act.now)
             (folder_of self.old.reads) self.old.firm (folder_of self.old.left).files) }
         ensures reads { self.new.reads ≡ self.old.reads }
+        ensures marks { self.new.marks ≡ self.old.marks }
         ensures firm { self.new.firm ≡ self.old.firm }
         ensures kind { self.new.kind ≡ self.old.kind }
     {
@@ -352,6 +410,8 @@ impl Replay {
         ensures kind { self.new.kind ≡ self.old.kind }
     {
         self.leave(act)?;
+        self.marks.change(&self.reads, act)?;
+        self.marks.fail(&self.reads, act)?;
         self.reads.fail_again(act);
         self.firm = firm_after(self.firm, act, true);
         Ok(())
@@ -365,7 +425,9 @@ impl Replay {
         ensures kind { self.new.kind ≡ self.old.kind }
     {
         self.leave(act)?;
-        make_sure(&mut self.left, &self.reads, act)?;
+        make_sure(&mut self.left, &self.reads, &self.marks, self.kind, act)?;
+        self.marks.change(&self.reads, act)?;
+        self.marks.finish(&self.reads, act)?;
         self.reads.make_again(act)?;
         self.firm = firm_after(self.firm, act, false);
         Ok(())
