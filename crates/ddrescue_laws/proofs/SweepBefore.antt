@@ -27,9 +27,10 @@ use Rattle.task_files.specs.Work.{answer_of, rescue_faults, files_rows}
 use Rattle.task_sweeps.specs.Pattern.{ThenPattern, IsLost, IsShort, IsRead, with_reads}
 use Rattle.task_sweeps.specs.Modes.{Fills, Generates, MaySweep, ThenSweep, fill_rows, generate_rows}
 use Rattle.ddrescue_laws.specs.InputRead.{IsOfOpening}
+use Rattle.ddrescue_laws.specs.LeftAfter.{is_unsettled, has_unsettled}
 use Rattle.ddrescue_laws.specs.ModeLaws.{IsBeforeSweep, RefusedFillLeaves, RefusedGenerateLeaves, promised_fill, promised_generate}
 use Rattle.ddrescue_laws.proofs.SweepFaults.{name_alike}
-use Rattle.ddrescue_laws.proofs.SweepLeaves.{is_unsettled, has_unsettled, fill_leaves, generate_leaves}
+use Rattle.ddrescue_laws.proofs.SweepLeaves.{fill_leaves, generate_leaves}
 
 -- a call of the opening is none of a save's
 in_publish : (call : SiteCall) (n : MapNames) → IsOfOpening call → IsNameIn call (draft_sync ∷ publish_calls n) → ⊥

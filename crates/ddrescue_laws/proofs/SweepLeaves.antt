@@ -26,7 +26,7 @@ use Rattle.ddrescue_words.proofs.CommandLemmas.{reading_asks}
 use Rattle.task_files.specs.Names.{program_name}
 use Rattle.task_files.specs.Maps.{Found}
 use Rattle.task_files.specs.Outside.{Outside}
-use Rattle.ddrescue_laws.specs.LeftAfter.{AllStand, OutputMade, DraftMade, OutputAndDraftMade, draft_asked}
+use Rattle.ddrescue_laws.specs.LeftAfter.{AllStand, OutputMade, DraftMade, OutputAndDraftMade, draft_asked, has_unsettled, is_unsettled}
 use Rattle.ddrescue_cli.specs.Tasks.{with_did}
 use Rattle.ddrescue_cli.specs.Told.{Told}
 use Rattle.ddrescue_cli.specs.ToldParts.{files_of, asked_of}
@@ -65,14 +65,6 @@ reads_cut (c ∷ maps) (Done x ∷ es) d reads cut =
 reads_cut (c ∷ maps) (Failed x steps ∷ es) d reads cut =
     ap (λ (l : List Entry). after (after_failed d x steps) l) cut.1
     ∙ still_failed c x d steps cut.0 (read_still c (All-head (λ c. is_map_read c ≡ true) c maps reads))
-
--- a settle that failed
-abbrev pub is_unsettled : Entry → Bool
-is_unsettled (Failed (map_settle name) steps) = true
-is_unsettled entry = false
-
-abbrev pub has_unsettled : List Entry → Bool
-has_unsettled calls = list_any is_unsettled calls
 
 -- files after calls among which no settle failed are these; or one failed, and an absent draft was made
 abbrev StandsOrDrafted : (draftfile : List ℕ) → List Entry → (files files' : List ℕ → Option File) → Type 0
@@ -258,10 +250,7 @@ fill_leaves t types c d asks tells still =
     (p.agrees.agrees.found tells) p.work)))
 
 pub unbegun_fill_leaves : UnbegunFillLeaves
-unbegun_fill_leaves t types c d asks tells still = elim (fill_leaves t types c d asks tells still) [
-  | inl left ↦ inl left
-  | inr made ↦ inr made.1
-]
+unbegun_fill_leaves = fill_leaves
 
 pub generate_leaves : (t : Told) (c : Command) (d : Ddrescue t) (asks : AskTask t.words (Generate c))
     → IsTrue t.before.site.tells → (promised_generate d asks).did.gain.times ≡ []
@@ -284,7 +273,4 @@ generate_leaves t c d asks tells still =
     p.work)))
 
 pub unbegun_generate_leaves : UnbegunGenerateLeaves
-unbegun_generate_leaves t c d asks tells still = elim (generate_leaves t c d asks tells still) [
-  | inl left ↦ inl left
-  | inr made ↦ inr made.1
-]
+unbegun_generate_leaves = generate_leaves

@@ -1,7 +1,9 @@
 -- What an answer before the first read leaves of the files.
-use Rattle.std.specs.Prelude.{◌≡◌, ◌≢◌, ◌⊎◌, ℕ, ◌||◌, Bool, true, List, Option, Some, None, is_some}
+use Rattle.std.specs.Prelude.{◌≡◌, ◌≢◌, ◌⊎◌, ℕ, ◌||◌, Bool, true, false, List, Option, Some, None, is_some}
+use Rattle.std.specs.List.{list_any}
 use Rattle.mapfile_text.specs.declared.read.MapError.{MapError}
 use Rattle.crash_site.specs.declared.site.SiteCall.TheVariants.{ImageOpen, MapRead}
+use Rattle.crash_site.specs.Calls.{Entry, Failed, map_settle}
 use Rattle.crash_site.specs.Files.{File, empty_file, draft_of}
 use Rattle.rescue_rules.specs.declared.stop.Stop.{Stop}
 use Rattle.rescue_core.specs.RunState.{names_in}
@@ -41,6 +43,14 @@ pub record DraftMade (draftfile : List ℕ) (files files' : List ℕ → Option 
 abbrev pub OutputAndDraftMade : (outfile draftfile : List ℕ) → (files files' : List ℕ → Option File) → Type 0
 OutputAndDraftMade outfile draftfile files files' =
     (between : List ℕ → Option File) × OutputMade outfile files between × DraftMade draftfile between files'
+
+-- a settle that failed
+abbrev pub is_unsettled : Entry → Bool
+is_unsettled (Failed (map_settle name) steps) = true
+is_unsettled entry = false
+
+abbrev pub has_unsettled : List Entry → Bool
+has_unsettled calls = list_any is_unsettled calls
 
 -- the name of the draft of a command's mapfile
 abbrev pub draft_asked : Command → List ℕ

@@ -27,7 +27,7 @@ use Rattle.task_files.specs.Names.{program_name}
 use Rattle.task_files.specs.Maps.{Found}
 use Rattle.task_files.specs.Answers.{IsGenerateCall, IsRescueCall}
 use Rattle.ddrescue_laws.specs.InputRead.{IsOfOpening}
-use Rattle.ddrescue_laws.specs.LeftAfter.{AllStand, OutputMade, DraftMade, OutputAndDraftMade, draft_asked}
+use Rattle.ddrescue_laws.specs.LeftAfter.{AllStand, OutputMade, DraftMade, OutputAndDraftMade, draft_asked, has_unsettled}
 use Rattle.ddrescue_cli.specs.Told.{Told}
 use Rattle.ddrescue_cli.specs.Tasks.{TaskOutside, with_did}
 use Rattle.ddrescue_cli.specs.ToldParts.{asked_of, files_of}
@@ -80,19 +80,22 @@ GenerateFaultsAreOfSteps = (t : Told) (c : Command) (d : Ddrescue t) (call : Sit
     → AskTask t.words (Generate c) → t.answer ≡ SiteFault call earlier → IsGenerateCall call
 
 -- If the files tell, a filling that came to no sweep leaves every file as it was, except that an absent output may be
--- made, empty, and then an absent draft.
+-- made, empty; and then, if a settle failed, an absent draft.
 abbrev pub UnbegunFillLeaves : Type 0
 UnbegunFillLeaves = (t : Told) (types : TypeSet) (c : Command) (d : Ddrescue t) (asks : AskTask t.words (Fill types c))
     → IsTrue t.before.site.tells → (promised_fill d asks).did.gain.times ≡ []
     → (AllStand (files_of t) (files_in t.after.site) ⊎ OutputMade c.outfile (files_of t) (files_in t.after.site))
-    ⊎ OutputAndDraftMade c.outfile (draft_asked c) (files_of t) (files_in t.after.site)
+    ⊎ ((has_unsettled (promised_fill d asks).did.gain.calls ≡ true)
+    × OutputAndDraftMade c.outfile (draft_asked c) (files_of t) (files_in t.after.site))
 
--- If the files tell, a generating that came to no sweep leaves every file as it was, except that an absent draft may be
--- made, empty.
+-- If the files tell, a generating that came to no sweep leaves every file as it was; but if a settle failed, an absent
+-- draft may be made, empty.
 abbrev pub UnbegunGenerateLeaves : Type 0
 UnbegunGenerateLeaves = (t : Told) (c : Command) (d : Ddrescue t) (asks : AskTask t.words (Generate c))
     → IsTrue t.before.site.tells → (promised_generate d asks).did.gain.times ≡ []
-    → AllStand (files_of t) (files_in t.after.site) ⊎ DraftMade (draft_asked c) (files_of t) (files_in t.after.site)
+    → AllStand (files_of t) (files_in t.after.site)
+    ⊎ ((has_unsettled (promised_generate d asks).did.gain.calls ≡ true)
+    × DraftMade (draft_asked c) (files_of t) (files_in t.after.site))
 
 -- an answer that comes before a sweep: a refusal, a pattern that was lost, or a call of the opening that failed
 pub record IsBeforeSweep (e : Ending) : Type 0 where

@@ -17,12 +17,15 @@ use Rattle.ddrescuelog_words.specs.declared.mode.LogMode.{LogMode}
 use Rattle.ddrescuelog_words.specs.declared.mode.LogMode.TheVariants.{Create, Test}
 use Rattle.ddrescuelog_words.specs.Modes.{creates}
 use Rattle.ddrescuelog_words.specs.Command.{Command}
+use Rattle.program_promise.specs.Kinds.{AtCall, Failed as FailedKind}
 use Rattle.ddrescuelog_cli.specs.declared.ending.LogEnding.{LogEnding}
+use Rattle.ddrescuelog_cli.specs.Answers.{row_of}
 use Rattle.work_rules.specs.Parts.{only_calls}
 use Rattle.work_rules.proofs.SpareLemmas.{AllSpare, spared, save_spares}
+use Rattle.ddrescuelog_cli.specs.Modes.{EndsSaved, EndsAs, removal_calls}
 use Rattle.ddrescuelog_cli.specs.Maps.{Found, Maps}
 use Rattle.ddrescuelog_cli.specs.Stops.{IsChanging}
-use Rattle.ddrescuelog_cli.specs.Work.{EndsSaved, EndsAs, removal_calls, LogWorks}
+use Rattle.ddrescuelog_cli.specs.Work.{LogWorks}
 use Rattle.work_rules.proofs.ReadLemmas.{reads_leave}
 use Rattle.ddrescuelog_cli.proofs.AfterReadsLemmas.{AfterReads, IsShort, after_works}
 use Rattle.ddrescuelog_cli.proofs.StopsLemmas.{none_more, reads_run}
@@ -90,29 +93,32 @@ removed name n d (Returned c ∷ Failed s steps ∷ es) other goes =
 
 module _ (c : Command) (line list : List ℕ) (m : Maps) (e : LogEnding) (rest : List Entry) (n : List ℕ)
     (other : n ≢ c.mapfile) where
-  -- the calls of a mode leave this as it reads, but -d may make an empty draft
+  -- the calls of a mode leave this as it reads, but a -d of which one fails may make an empty draft
   abbrev ModeLeaves : LogMode → Type 0
   ModeLeaves mode = (d : Folder)
       → ((after d rest).files n ≡ d.files n)
-      ⊎ (IsChanging mode × (n ≡ (names_of c.mapfile).draft) × (d.files n ≡ None)
+      ⊎ (((row_of e).kind ≡ FailedKind AtCall) × IsChanging mode × (n ≡ (names_of c.mapfile).draft) × (d.files n ≡ None)
       × ((after d rest).files n ≡ Some empty_file))
 
-  removal_goes : WentOn (removal_calls c.mapfile) [] rest → ModeLeaves (Test true)
-  removal_goes went d =
+  removal_breaks : (row_of e).kind ≡ FailedKind AtCall → WentOn (removal_calls c.mapfile) [] rest
+      → ModeLeaves (Test true)
+  removal_breaks broke went d =
       let is : (after d rest).files n ≡ (after d went.since).files n =
       ap (λ (r : List Entry). (after d r).files n) went.is in
       elim (removed c.mapfile n d went.since other went.goes) [
         | inl same ↦ inl (is ∙ same)
-        | inr made ↦ inr (tt, made.0, made.1, is ∙ made.2)
+        | inr made ↦ inr (broke, tt, made.0, made.1, is ∙ made.2)
       ]
 
   removal_leaves : EndsAs (Test true) c line list m e (only_calls rest) → ModeLeaves (Test true)
   removal_leaves (inl (refused, idle)) = λ d. inl (nothing_leaves n rest idle.gain.calls d)
   removal_leaves (inr (passed, inl (call, is, broke, alone))) =
-      removal_goes (broke_goes call (removal_calls c.mapfile) [] rest broke)
+      removal_breaks (ap (λ (x : LogEnding). (row_of x).kind) is)
+      (broke_goes call (removal_calls c.mapfile) [] rest broke)
   removal_leaves (inr (passed, inr (more, made, ends))) =
-      removal_goes (made_goes (removal_calls c.mapfile) [] rest
-      (none_more (map Returned (removal_calls c.mapfile)) rest more made ends.1))
+      λ d. inl (ap (λ (r : List Entry). (after d r).files n)
+      (none_more (map Returned (removal_calls c.mapfile)) rest more made ends.1)
+      ∙ put_other d.files c.mapfile n None other)
 
   save_leaves : (text : List ℕ) → n ≢ (names_of c.mapfile).draft → EndsSaved c text e (only_calls rest)
       → Leaves n rest
@@ -139,13 +145,14 @@ module _ (c : Command) (line list : List ℕ) (m : Maps) (e : LogEnding) (rest :
 
 -- ---- all of it
 
--- a file that isn't the mapfile nor its draft reads as it did; and -d may have made an empty draft
+-- a file that isn't the mapfile nor its draft reads as it did; and a -d that failed may have made an empty draft
 pub others_stand : (c : Command) (line list : List ℕ) (found : Found) (m : Maps) (e : LogEnding)
     (old new : SiteState) (calls : List Entry) → new.start ≡ old.start → new.calls ≡ old.calls ++ calls
     → LogWorks c line list found m e (only_calls calls) → (name : List ℕ) → name ≢ c.mapfile
     → (creates c.mode ≡ true → name ≢ (names_of c.mapfile).draft)
     → (files_in new name ≡ files_in old name)
-    ⊎ (IsChanging c.mode × IsEmptyDraft old (names_of c.mapfile).draft name (files_in new name))
+    ⊎ (((row_of e).kind ≡ FailedKind AtCall) × IsChanging c.mode
+    × IsEmptyDraft old (names_of c.mapfile).draft name (files_in new name))
 others_stand c line list found m e old new calls start grew w name other apart =
     let b : AfterReads IsShort (EndsAs c.mode c line list m) e calls =
     after_works (creates c.mode) c line list found m e calls w in
@@ -165,5 +172,5 @@ others_stand c line list found m e old new calls start grew w name other apart =
     ∙ ap (λ (f : Folder). after f b.rest) (reads_leave was b.front b.reads)) in
     elim (rest was) [
       | inl same ↦ inl (is ∙ same)
-      | inr made ↦ inr (made.0, (made.1, made.2, is ∙ made.3))
+      | inr made ↦ inr (made.0, made.1, (made.2, made.3, is ∙ made.4))
     ]

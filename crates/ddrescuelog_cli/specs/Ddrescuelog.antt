@@ -8,6 +8,7 @@ use Rattle.save_resume.specs.MapNames.{names_of}
 use Rattle.save_resume.specs.SaveStops.{IsEmptyDraft}
 use Rattle.work_rules.specs.Work.{Deeds}
 use Rattle.program_promise.specs.World.{WorldState, no_clock, no_source, Told}
+use Rattle.program_promise.specs.Kinds.{AtCall, Failed}
 use Rattle.program_promise.specs.Program.{Program}
 use Rattle.program_promise.specs.Promise.{IsDone, Promise, Worked}
 use Rattle.ddrescuelog_words.specs.Modes.{creates}
@@ -15,10 +16,9 @@ use Rattle.ddrescuelog_words.specs.Command.{Command, log_grammar}
 use Rattle.ddrescuelog_cli.specs.declared.ending.LogEnding.{LogEnding}
 use Rattle.ddrescuelog_cli.specs.declared.ending.LogEnding.TheVariants.{Usage}
 use Rattle.ddrescuelog_cli.specs.Names.{program_name}
-use Rattle.ddrescuelog_cli.specs.Modes.{prints, puts_pieces}
+use Rattle.ddrescuelog_cli.specs.Modes.{prints, puts_pieces, text_of, log_faults}
 use Rattle.ddrescuelog_cli.specs.Outside.{Agrees, Outside}
-use Rattle.ddrescuelog_cli.specs.Results.{text_of}
-use Rattle.ddrescuelog_cli.specs.Work.{RunsAs, first_rows, log_faults}
+use Rattle.ddrescuelog_cli.specs.Work.{RunsAs, first_rows}
 use Rattle.ddrescuelog_cli.specs.Stops.{IsChanging, StopsSafely, OnlyReads, LeavesFiles, LeavesAll}
 use Rattle.ddrescuelog_cli.specs.Answers.{FitsCommand, IsModeFault, TakesFeed, drafting_left, row_of}
 use Rattle.ddrescuelog_cli.specs.Printing.{PutsAs, PutsInPieces}
@@ -48,12 +48,13 @@ pub record LeavesAs (c : Command) (line : List ℕ) (o : Outside) (e : LogEnding
   -- files failed: the files as they read, and what a stop may find of them.
   pub stands : OnlyReads c.mode ⊎ LeavesFiles e → IsTrue old.site.tells
       → ((name : List ℕ) → files_in new.site name ≡ files_in old.site name) × LeavesAll old.site did.gain.calls
-  -- Always all files read as they did, except the mapfile and the draft of a map that is created; and -d may have left an
-  -- absent draft empty.
+  -- Always all files read as they did, except the mapfile and the draft of a map that is created; and a -d of which a
+  -- call failed may have left an absent draft empty.
   pub others : IsTrue old.site.tells → (name : List ℕ) → name ≢ c.mapfile
       → (creates c.mode ≡ true → name ≢ (names_of c.mapfile).draft)
       → (files_in new.site name ≡ files_in old.site name)
-      ⊎ (IsChanging c.mode × IsEmptyDraft old.site (names_of c.mapfile).draft name (files_in new.site name))
+      ⊎ (((row_of e).kind ≡ Failed AtCall) × IsChanging c.mode
+      × IsEmptyDraft old.site (names_of c.mapfile).draft name (files_in new.site name))
 
 -- What stays of files and feed, also whether an image is open. A draft is left begun exactly if an append to it failed,
 -- or its sync.
