@@ -8,7 +8,7 @@ use Rattle.rescue_console.specs.ConsoleState.{ConsoleState, PutsPart}
 use Rattle.rescue_console.specs.declared.console.Channel.TheVariants.{Out}
 use Rattle.ddrescuelog_words.specs.declared.mode.LogMode.{LogMode}
 use Rattle.ddrescuelog_words.specs.declared.mode.LogMode.TheVariants.{Create, Test, Compare}
-use Rattle.ddrescuelog_words.specs.Modes.{creates}
+use Rattle.ddrescuelog_words.specs.Modes.{creates, removes_map}
 use Rattle.ddrescuelog_words.specs.Command.{Command}
 use Rattle.option_words.specs.declared.fault.UsageFault.{UsageFault}
 use Rattle.option_words.specs.declared.fault.UsageFault.TheVariants.{PlaceTooLarge}
@@ -19,15 +19,14 @@ use Rattle.program_promise.specs.Printing.{PutsByKind}
 use Rattle.program_promise.specs.Rows.{usage_kind}
 use Rattle.ddrescuelog_cli.specs.declared.ending.LogEnding.{LogEnding}
 use Rattle.ddrescuelog_cli.specs.declared.ending.LogEnding.TheVariants.{Done, NotDone, Differ, Usage, FeedFault, ConsoleFault}
-use Rattle.ddrescuelog_cli.specs.Modes.{prints, puts_pieces, removes_map}
+use Rattle.ddrescuelog_cli.specs.Modes.{prints, puts_pieces, EndsPrinted, EndsAs}
 use Rattle.ddrescuelog_cli.specs.Maps.{Maps}
-use Rattle.ddrescuelog_cli.specs.Refusals.{PlacesRefused}
 use Rattle.ddrescuelog_cli.specs.Answers.{FitsCommand, TakesFeed, drafting_left, row_of}
 use Rattle.ddrescuelog_cli.specs.After.{SiteLeft, feed_count, site_count}
 use Rattle.ddrescuelog_cli.specs.Printing.{PutsAs, PutsInPieces, PutsWhole}
 use Rattle.ddrescuelog_cli.specs.Ddrescuelog.{handed}
 use Rattle.ddrescuelog_cli.specs.Steps.{ReadCause}
-use Rattle.ddrescuelog_cli.specs.Work.{EndsPrinted, EndsAs, WorksOver}
+use Rattle.ddrescuelog_cli.specs.Work.{PlacesRefused, WorksOver}
 use Rattle.ddrescuelog_cli.specs.Worked.{FeedAfter}
 use Rattle.ddrescuelog_cli.proofs.FoundLemmas.{answers_have}
 use Rattle.ddrescuelog_cli.proofs.PieceLemmas.{pieces_print}

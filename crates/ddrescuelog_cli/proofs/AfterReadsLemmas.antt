@@ -11,15 +11,17 @@ use Rattle.save_resume.specs.Named.{map_mode}
 use Rattle.work_rules.specs.Work.{Deeds, WorkStep, Take, Look, Open, Make, Read, Works}
 use Rattle.work_rules.proofs.FrontLemmas.{IsMapRead, load_reads}
 use Rattle.work_rules.proofs.ReadLemmas.{AreReads, both_are, maps_are, maps_broke, same_reads}
+use Rattle.ddrescuelog_words.specs.Modes.{mapfile_mode}
 use Rattle.ddrescuelog_words.specs.Command.{Command}
 use Rattle.ddrescuelog_cli.specs.declared.ending.Which.{Which}
 use Rattle.ddrescuelog_cli.specs.declared.ending.Which.TheVariants.{DomainMap, RunMap, OtherMap}
 use Rattle.ddrescuelog_cli.specs.declared.ending.LogEnding.{LogEnding}
 use Rattle.ddrescuelog_cli.specs.declared.ending.LogEnding.TheVariants.{Done, SiteFault, NoMemory}
 use Rattle.work_rules.specs.Parts.{only_calls}
-use Rattle.ddrescuelog_cli.specs.Maps.{Found, Maps, mapfile_mode}
-use Rattle.ddrescuelog_cli.specs.Refusals.{IfNamed, MapIsRefused, MapIsThere, PlacesRefused}
-use Rattle.ddrescuelog_cli.specs.Work.{log_faults, named_rows, read_rows, EndsAs, WorksOver, UnlessThere, WorksAs}
+use Rattle.ddrescuelog_cli.specs.Modes.{log_faults, EndsAs}
+use Rattle.ddrescuelog_cli.specs.Maps.{Found, Maps}
+use Rattle.ddrescuelog_cli.specs.Refusals.{IfNamed, MapIsRefused, MapIsThere}
+use Rattle.ddrescuelog_cli.specs.Work.{PlacesRefused, named_rows, read_rows, WorksOver, UnlessThere, WorksAs}
 use Rattle.ddrescuelog_cli.proofs.FoundLemmas.{RowsGive}
 use Rattle.ddrescuelog_cli.proofs.ReadLemmas.{OnlyRead}
 

@@ -13,11 +13,11 @@ use Rattle.ddrescuelog_words.specs.Modes.{creates}
 use Rattle.ddrescuelog_words.specs.Command.{Command}
 use Rattle.ddrescuelog_cli.specs.declared.ending.LogEnding.{LogEnding}
 use Rattle.ddrescuelog_cli.specs.declared.ending.LogEnding.TheVariants.{Done, NotDone, Differ, Usage, NoMemory}
+use Rattle.ddrescuelog_cli.specs.Modes.{Finds, log_faults, EndsPrinted, EndsCreated, EndsAs}
 use Rattle.ddrescuelog_cli.specs.Maps.{Found, Maps}
-use Rattle.ddrescuelog_cli.specs.Refusals.{ListRefused, MapIsThere, PlacesRefused}
-use Rattle.ddrescuelog_cli.specs.Results.{Finds}
+use Rattle.ddrescuelog_cli.specs.Refusals.{ListRefused, MapIsThere}
 use Rattle.ddrescuelog_cli.specs.Answers.{row_of}
-use Rattle.ddrescuelog_cli.specs.Work.{log_faults, named_rows, read_rows, EndsPrinted, EndsCreated, EndsAs, UnlessThere, WorksOver, WorksAs}
+use Rattle.ddrescuelog_cli.specs.Work.{PlacesRefused, named_rows, read_rows, UnlessThere, WorksOver, WorksAs}
 use Rattle.ddrescuelog_cli.specs.Laws.{IfAsked, IsModeAnswer, IsFoundUnless, IsVerdict, NothingIsRefused, rows_of_maps}
 use Rattle.ddrescuelog_cli.proofs.FoundLemmas.{answers_are_found}
 use Rattle.ddrescuelog_cli.proofs.PromiseLemmas.{log_keeps_promises}

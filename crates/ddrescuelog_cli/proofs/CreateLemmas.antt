@@ -29,11 +29,11 @@ use Rattle.work_rules.proofs.GainLemmas.{GainsBroken, broke_gains, broke_named}
 use Rattle.ddrescuelog_cli.specs.declared.ending.LogEnding.{LogEnding}
 use Rattle.ddrescuelog_cli.specs.declared.ending.LogEnding.TheVariants.{Done, SiteFault, FeedFault, NoMemory}
 use Rattle.ddrescuelog_cli.specs.Maps.{Found, Maps, AreMapsOf, AreAskedFor, found_in, shape_of}
-use Rattle.ddrescuelog_cli.specs.Modes.{looks_at_places}
+use Rattle.ddrescuelog_cli.specs.Modes.{looks_at_places, log_faults, OnlyAnswers, EndsCreated, EndsAs}
 use Rattle.ddrescuelog_cli.specs.Refusals.{ListRefused}
 use Rattle.ddrescuelog_cli.specs.Results.{IsCreated, map_text}
 use Rattle.work_rules.specs.Parts.{only_calls}
-use Rattle.ddrescuelog_cli.specs.Work.{log_faults, OnlyAnswers, EndsCreated, EndsAs, WorksOver}
+use Rattle.ddrescuelog_cli.specs.Work.{WorksOver}
 use Rattle.ddrescuelog_cli.specs.Answers.{TakenBefore, AllTaken}
 use Rattle.ddrescuelog_cli.specs.After.{FeedLeft}
 use Rattle.ddrescuelog_cli.specs.Creating.{Looks, MakesList, AreOfList, SavesText, CreatesMap}

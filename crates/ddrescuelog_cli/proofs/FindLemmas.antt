@@ -28,13 +28,12 @@ use Rattle.ddrescuelog_words.specs.Command.{Command}
 use Rattle.ddrescuelog_cli.specs.declared.load.LoadedMaps.{LoadedMaps}
 use Rattle.ddrescuelog_cli.specs.declared.ending.LogEnding.{LogEnding}
 use Rattle.ddrescuelog_cli.specs.declared.ending.LogEnding.TheVariants.{Done, Usage, ConsoleFault, NoMemory}
-use Rattle.ddrescuelog_cli.specs.Modes.{looks_at_places, prints, puts_pieces}
+use Rattle.ddrescuelog_cli.specs.Modes.{looks_at_places, prints, puts_pieces, text_of, EndsPrinted, EndsAs}
 use Rattle.ddrescuelog_cli.specs.Maps.{Maps, shape_of, domain_of}
-use Rattle.ddrescuelog_cli.specs.Results.{map_text, number_line, summary_text, text_of}
-use Rattle.ddrescuelog_cli.specs.Refusals.{PlacesRefused}
+use Rattle.ddrescuelog_cli.specs.Results.{map_text, number_line, summary_text}
 use Rattle.work_rules.specs.Parts.{only_calls}
 use Rattle.work_rules.proofs.PartLemmas.{idle}
-use Rattle.ddrescuelog_cli.specs.Work.{EndsPrinted, EndsAs, WorksOver}
+use Rattle.ddrescuelog_cli.specs.Work.{PlacesRefused, WorksOver}
 use Rattle.ddrescuelog_cli.specs.Printing.{PutsAs, PutsInPieces, PutsPieces}
 use Rattle.ddrescuelog_cli.specs.Steps.{IsLoadedAs, HasFound, printed_as}
 use Rattle.ddrescuelog_cli.proofs.PieceLemmas.{pieces_as, printed_pieces}

@@ -17,17 +17,17 @@ use Rattle.save_resume.specs.Saving.{fill_calls, save_calls}
 use Rattle.work_rules.specs.Work.{Deeds, with_calls, Take, Look, Make, Works}
 use Rattle.ddrescuelog_words.specs.declared.mode.LogMode.{LogMode}
 use Rattle.ddrescuelog_words.specs.declared.mode.LogMode.TheVariants.{Create, Test, Compare}
-use Rattle.ddrescuelog_words.specs.Modes.{creates}
+use Rattle.ddrescuelog_words.specs.Modes.{creates, removes_map, mapfile_mode}
 use Rattle.ddrescuelog_words.specs.Command.{Command}
 use Rattle.ddrescuelog_cli.specs.declared.ending.Which.{Which}
 use Rattle.ddrescuelog_cli.specs.declared.ending.Which.TheVariants.{DomainMap, RunMap, OtherMap}
 use Rattle.ddrescuelog_cli.specs.declared.ending.LogEnding.{LogEnding}
 use Rattle.ddrescuelog_cli.specs.declared.ending.LogEnding.TheVariants.{Done, NotDone, Differ, Usage, Exists, NoMap, MapRefused, BadNumber, ListTooLong, SiteFault, FeedFault, ConsoleFault}
-use Rattle.ddrescuelog_cli.specs.Modes.{compares, prints, removes_map, tests}
-use Rattle.ddrescuelog_cli.specs.Maps.{Found, Maps, mapfile_mode}
-use Rattle.ddrescuelog_cli.specs.Refusals.{MapIsRefused, PlacesRefused, ListRefused}
+use Rattle.ddrescuelog_cli.specs.Modes.{compares, prints, tests, log_faults, OnlyAnswers, EndsPrinted, EndsCreated, EndsAs, removal_calls}
+use Rattle.ddrescuelog_cli.specs.Maps.{Found, Maps}
+use Rattle.ddrescuelog_cli.specs.Refusals.{MapIsRefused, ListRefused}
 use Rattle.ddrescuelog_cli.specs.Answers.{IsNamedMap, MayCall, FitsCommand}
-use Rattle.ddrescuelog_cli.specs.Work.{log_faults, named_rows, read_rows, OnlyAnswers, EndsPrinted, EndsCreated, EndsAs, removal_calls, WorksOver, UnlessThere, WorksAs}
+use Rattle.ddrescuelog_cli.specs.Work.{PlacesRefused, named_rows, read_rows, WorksOver, UnlessThere, WorksAs}
 use Rattle.ddrescuelog_cli.specs.Laws.{AnswersFit}
 use Rattle.ddrescuelog_cli.proofs.FoundLemmas.{RowsGive, answers_have}
 use Rattle.ddrescuelog_cli.proofs.VerdictLemmas.{Saves}

@@ -9,6 +9,7 @@ use Rattle.crash_site.specs.Files.{File}
 use Rattle.crash_site.specs.Calls.{Entry}
 use Rattle.crash_site.specs.CallsMade.{BrokeAt}
 use Rattle.work_rules.specs.Work.{Deeds, WorkStep, Take, Look, Open, Make, Read, Works}
+use Rattle.program_promise.specs.Kinds.{Kind, Asked}
 use Rattle.ddrescuelog_words.specs.declared.mode.LogMode.{LogMode}
 use Rattle.ddrescuelog_words.specs.declared.mode.LogMode.TheVariants.{Create, Test, Compare}
 use Rattle.ddrescuelog_words.specs.Modes.{creates}
@@ -16,16 +17,16 @@ use Rattle.ddrescuelog_words.specs.Command.{Command}
 use Rattle.ddrescuelog_cli.specs.declared.ending.Which.{Which}
 use Rattle.ddrescuelog_cli.specs.declared.ending.LogEnding.{LogEnding}
 use Rattle.ddrescuelog_cli.specs.declared.ending.LogEnding.TheVariants.{Done, NotDone, SiteFault, NoMemory}
-use Rattle.ddrescuelog_cli.specs.Maps.{Found, Maps}
+use Rattle.ddrescuelog_cli.specs.Modes.{Finds, log_faults, OnlyAnswers, EndsPrinted, EndsCreated, EndsAs, IsNotDone}
+use Rattle.ddrescuelog_cli.specs.Maps.{Found, Maps, domain_of}
 use Rattle.rescue_domain.specs.Finished.{is_finished_at}
 use Rattle.map_algebra.specs.Compare.{IsDoneIn}
 use Rattle.save_resume.specs.MapNames.{names_of}
 use Rattle.save_resume.specs.Saving.{save_calls}
-use Rattle.ddrescuelog_cli.specs.Maps.{domain_of}
-use Rattle.ddrescuelog_cli.specs.Refusals.{IfNamed, MapIsRefused, PlacesRefused, ListRefused}
-use Rattle.ddrescuelog_cli.specs.Results.{Finds}
-use Rattle.ddrescuelog_cli.specs.Work.{log_faults, named_rows, read_rows, OnlyAnswers, EndsPrinted, EndsCreated, EndsAs, IsNotDone, WorksOver, UnlessThere, WorksAs}
-use Rattle.ddrescuelog_cli.specs.Laws.{IsModeAnswer, AnswersAreFound}
+use Rattle.ddrescuelog_cli.specs.Refusals.{IfNamed, MapIsRefused, ListRefused}
+use Rattle.ddrescuelog_cli.specs.Work.{PlacesRefused, named_rows, read_rows, WorksOver, UnlessThere, WorksAs}
+use Rattle.ddrescuelog_cli.specs.Answers.{row_of}
+use Rattle.ddrescuelog_cli.specs.Laws.{IfAsked, IsModeAnswer, AnswersAreFound}
 use Rattle.ddrescuelog_cli.proofs.VerdictLemmas.{Saves}
 
 -- each answer of some rows has a property
@@ -102,6 +103,10 @@ done_of c m passed = record {
       (λ open_. passed NotDone (record { position = x; inside = inside; unfinished = open_ }, refl));
 }
 
+if_asked : (k : Kind) (found : Type 0) → found → IfAsked k found
+if_asked Asked found is = is
+if_asked _ found is = tt
+
 ends_found : (mode : LogMode) (c : Command) (line list : List ℕ) (m : Maps) (e : LogEnding) (d : Deeds)
     → EndsAs mode c line list m e d → IsModeAnswer e (Finds mode c m)
 ends_found (Create listed rest) c line list m e d w =
@@ -112,18 +117,8 @@ ends_found (Test true) c line list m e d (inr (passed, inl b)) =
     subst (λ x. IsModeAnswer x (Finds (Test true) c m)) (sym b.1) tt
 ends_found (Test true) c line list m e d (inr (passed, inr w)) =
     subst (λ x. IsModeAnswer x (Finds (Test true) c m)) (sym w.2.0) (inl (refl, done_of c m passed))
-ends_found (Test false) c line list m e d (inl a, idle) =
-    subst (λ x. IsModeAnswer x (Finds (Test false) c m)) (sym a.0) (inl (refl, a.1))
-ends_found (Test false) c line list m e d (inr a, idle) =
-    subst (λ x. IsModeAnswer x (Finds (Test false) c m)) (sym a.0) (inr (refl, a.1))
-ends_found (Compare false) c line list m e d (inl a, idle) =
-    subst (λ x. IsModeAnswer x (Finds (Compare false) c m)) (sym a.0) (inl (refl, a.1))
-ends_found (Compare false) c line list m e d (inr a, idle) =
-    subst (λ x. IsModeAnswer x (Finds (Compare false) c m)) (sym a.0) (inr (refl, a.1))
-ends_found (Compare true) c line list m e d (inl a, idle) =
-    subst (λ x. IsModeAnswer x (Finds (Compare true) c m)) (sym a.0) (inl (refl, a.1))
-ends_found (Compare true) c line list m e d (inr a, idle) =
-    subst (λ x. IsModeAnswer x (Finds (Compare true) c m)) (sym a.0) (inr (refl, a.1))
+ends_found (Test false) c line list m e d w = if_asked (row_of e).kind (Finds (Test false) c m e) w.0
+ends_found (Compare finished) c line list m e d w = if_asked (row_of e).kind (Finds (Compare finished) c m e) w.0
 ends_found x c line list m e d w = printed_found (Finds x c m) e d refl w
 
 over_found : (c : Command) (line list : List ℕ) (m : Maps) (e : LogEnding) (d : Deeds) → WorksOver c line list m e d

@@ -10,7 +10,7 @@ use Rattle.crash_site.proofs.DiskLemmas.{reads_rest}
 use Rattle.crash_site.proofs.LawLemmas.{until_all}
 use Rattle.save_resume.specs.SaveStops.{LeftAt}
 use Rattle.program_promise.specs.Program.{line_by}
-use Rattle.ddrescuelog_cli.specs.Stops.{Replaces}
+use Rattle.ddrescuelog_cli.specs.Modes.{Replaces}
 use Rattle.ddrescuelog_cli.specs.Ddrescuelog.{log_program}
 use Rattle.ddrescuelog_cli.specs.Laws.{MapfileIsLeft}
 use Rattle.ddrescuelog_cli.proofs.PromiseLemmas.{files_beside}

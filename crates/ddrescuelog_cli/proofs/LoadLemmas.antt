@@ -9,8 +9,8 @@ use Rattle.work_rules.proofs.LoadedLemmas.{LoadPart, reads_alone, read_passes, r
 use Rattle.ddrescuelog_cli.specs.declared.ending.Which.{Which}
 use Rattle.ddrescuelog_cli.specs.declared.ending.LogEnding.{LogEnding}
 use Rattle.ddrescuelog_cli.specs.declared.ending.LogEnding.TheVariants.{NoMap, MapRefused, SiteFault, NoMemory}
+use Rattle.ddrescuelog_cli.specs.Modes.{log_faults}
 use Rattle.ddrescuelog_cli.specs.Refusals.{IfNamed, MapIsRefused}
-use Rattle.ddrescuelog_cli.specs.Work.{log_faults}
 use Rattle.ddrescuelog_cli.specs.Steps.{ReadsMap, ReadsNamed}
 
 -- ---- the read

@@ -13,16 +13,17 @@ use Rattle.crash_site.specs.SiteChanges.{Stays}
 use Rattle.save_resume.specs.Named.{map_mode, HasStatuses}
 use Rattle.save_resume.specs.Resuming.{IsReadAs}
 use Rattle.work_rules.specs.Work.{WorkStep}
-use Rattle.ddrescuelog_words.specs.Modes.{creates}
+use Rattle.ddrescuelog_words.specs.Modes.{creates, mapfile_mode}
 use Rattle.ddrescuelog_words.specs.Command.{Command}
 use Rattle.ddrescuelog_cli.specs.declared.ending.Which.{Which}
 use Rattle.ddrescuelog_cli.specs.declared.ending.Which.TheVariants.{DomainMap, RunMap, OtherMap}
 use Rattle.ddrescuelog_cli.specs.declared.load.LoadedMaps.{LoadedMaps}
 use Rattle.ddrescuelog_cli.specs.declared.ending.LogEnding.{LogEnding}
 use Rattle.ddrescuelog_cli.specs.declared.ending.LogEnding.TheVariants.{NoMemory}
-use Rattle.ddrescuelog_cli.specs.Maps.{Found, found_in, mapfile_mode, AreMapsOf, AreAskedFor}
+use Rattle.ddrescuelog_cli.specs.Modes.{log_faults}
+use Rattle.ddrescuelog_cli.specs.Maps.{Found, found_in, AreMapsOf, AreAskedFor}
 use Rattle.work_rules.specs.Parts.{Did, only_calls, WentThrough, StoppedIn}
-use Rattle.ddrescuelog_cli.specs.Work.{log_faults, map_rows, named_rows}
+use Rattle.ddrescuelog_cli.specs.Work.{map_rows, named_rows}
 use Rattle.ddrescuelog_cli.specs.Steps.{ReadsMap, statuses_or_none, ReadsNamed, maps_read, IsLoadedAs, LoadsMaps, ReadCause}
 use Rattle.work_rules.proofs.PartLemmas.{stopped_more, through_then, through_both}
 use Rattle.work_rules.proofs.ReadLemmas.{AreReads}

@@ -23,10 +23,11 @@ use Rattle.ddrescuelog_cli.specs.declared.ending.Which.{Which}
 use Rattle.ddrescuelog_cli.specs.declared.ending.Which.TheVariants.{DomainMap, OtherMap}
 use Rattle.ddrescuelog_cli.specs.declared.ending.LogEnding.{LogEnding}
 use Rattle.ddrescuelog_cli.specs.declared.ending.LogEnding.TheVariants.{Exists, SiteFault}
+use Rattle.ddrescuelog_cli.specs.Modes.{log_faults}
 use Rattle.ddrescuelog_cli.specs.Maps.{Found, found_in}
 use Rattle.ddrescuelog_cli.specs.Refusals.{MapIsThere}
 use Rattle.work_rules.specs.Parts.{only_calls, WentThrough, StoppedIn}
-use Rattle.ddrescuelog_cli.specs.Work.{log_faults, map_rows, named_rows, SaysIfThere, UnlessThere, WorksOver, WorksAs}
+use Rattle.ddrescuelog_cli.specs.Work.{map_rows, named_rows, SaysIfThere, UnlessThere, WorksOver, WorksAs}
 use Rattle.ddrescuelog_cli.specs.Steps.{ReadsNamed}
 use Rattle.ddrescuelog_cli.specs.Creating.{IsFree, AsksIfThere, Looks}
 use Rattle.work_rules.proofs.PartLemmas.{stopped_more, through_then}

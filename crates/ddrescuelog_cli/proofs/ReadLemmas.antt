@@ -12,7 +12,7 @@ use Rattle.work_rules.proofs.FrontLemmas.{load_reads}
 use Rattle.work_rules.proofs.ReadLemmas.{AreReads, same_reads, maps_are, maps_then, maps_broke, reads_leave}
 use Rattle.ddrescuelog_cli.specs.declared.ending.LogEnding.{LogEnding}
 use Rattle.work_rules.specs.Parts.{only_calls, WentThrough, StoppedIn}
-use Rattle.ddrescuelog_cli.specs.Work.{log_faults}
+use Rattle.ddrescuelog_cli.specs.Modes.{log_faults}
 
 -- ---- rows
 

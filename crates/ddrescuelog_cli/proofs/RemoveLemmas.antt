@@ -19,9 +19,9 @@ use Rattle.ddrescuelog_cli.specs.declared.ending.LogEnding.{LogEnding}
 use Rattle.ddrescuelog_cli.specs.declared.ending.LogEnding.TheVariants.{Done, SiteFault}
 use Rattle.ddrescuelog_cli.specs.declared.load.LoadedMaps.{LoadedMaps}
 use Rattle.ddrescuelog_cli.specs.Maps.{Maps, domain_of}
-use Rattle.ddrescuelog_cli.specs.Modes.{looks_at_places}
+use Rattle.ddrescuelog_cli.specs.Modes.{looks_at_places, EndsAs, IsNotDone, removal_calls}
 use Rattle.work_rules.specs.Parts.{only_calls}
-use Rattle.ddrescuelog_cli.specs.Work.{EndsAs, IsNotDone, WorksOver, removal_calls}
+use Rattle.ddrescuelog_cli.specs.Work.{WorksOver}
 use Rattle.ddrescuelog_cli.specs.Steps.{IsLoadedAs}
 use Rattle.ddrescuelog_cli.specs.Removing.{RemovesDone}
 use Rattle.work_rules.proofs.GainLemmas.{GainsBroken, broke_gains}

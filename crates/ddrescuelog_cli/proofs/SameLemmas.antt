@@ -15,16 +15,16 @@ use Rattle.work_rules.specs.Verdicts.{RefuseNothing}
 use Rattle.work_rules.proofs.VerdictLemmas.{one_verdict}
 use Rattle.ddrescuelog_words.specs.declared.mode.LogMode.{LogMode}
 use Rattle.ddrescuelog_words.specs.declared.mode.LogMode.TheVariants.{Create}
-use Rattle.ddrescuelog_words.specs.Modes.{creates}
+use Rattle.ddrescuelog_words.specs.Modes.{creates, mapfile_mode}
 use Rattle.ddrescuelog_words.specs.Command.{Command}
 use Rattle.ddrescuelog_cli.specs.declared.ending.Which.{Which}
 use Rattle.ddrescuelog_cli.specs.declared.ending.Which.TheVariants.{DomainMap, RunMap, OtherMap}
 use Rattle.ddrescuelog_cli.specs.declared.ending.LogEnding.{LogEnding}
 use Rattle.ddrescuelog_cli.specs.declared.ending.LogEnding.TheVariants.{Done, NoMap, MapRefused}
-use Rattle.ddrescuelog_cli.specs.Modes.{looks_at_places}
-use Rattle.ddrescuelog_cli.specs.Maps.{Found, Maps, IsShownBy, AreMapsOf, AreAskedFor, mapfile_mode}
+use Rattle.ddrescuelog_cli.specs.Modes.{looks_at_places, log_faults, EndsCreated, EndsAs}
+use Rattle.ddrescuelog_cli.specs.Maps.{Found, Maps, IsShownBy, AreMapsOf, AreAskedFor}
 use Rattle.ddrescuelog_cli.specs.Refusals.{IfNamed, MapIsRefused, ListRefused}
-use Rattle.ddrescuelog_cli.specs.Work.{log_faults, named_rows, read_rows, EndsCreated, EndsAs, UnlessThere, WorksOver, WorksAs}
+use Rattle.ddrescuelog_cli.specs.Work.{named_rows, read_rows, UnlessThere, WorksOver, WorksAs}
 use Rattle.ddrescuelog_cli.specs.Laws.{FilesHaveOneVerdict, IsVerdict}
 use Rattle.ddrescuelog_cli.proofs.VerdictLemmas.{Once, named_once, one_list, over_once, read_once, saved_done, there_once, verdicts}
 

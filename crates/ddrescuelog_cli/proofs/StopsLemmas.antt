@@ -20,7 +20,7 @@ use Rattle.save_resume.specs.SaveStops.{disk_of, text_file, Old, New, IsSaved, I
 use Rattle.rescue_rules.proofs.BeforeLemmas.{or_found, look_shown}
 use Rattle.work_rules.specs.Work.{IsIdle}
 use Rattle.ddrescuelog_words.specs.declared.mode.LogMode.{LogMode}
-use Rattle.ddrescuelog_words.specs.declared.mode.LogMode.TheVariants.{Change, Combine, Complete, ListBlocks, Create, Test, Compare, Summarize}
+use Rattle.ddrescuelog_words.specs.declared.mode.LogMode.TheVariants.{Create, Test, Compare}
 use Rattle.ddrescuelog_words.specs.Modes.{creates}
 use Rattle.ddrescuelog_words.specs.Command.{Command}
 use Rattle.map_algebra.specs.Compare.{IsDoneIn}
@@ -31,12 +31,13 @@ use Rattle.work_rules.proofs.SavedLemmas.{HasSaved, stops_by_save, saved_by, sav
 use Rattle.ddrescuelog_cli.specs.declared.ending.LogEnding.{LogEnding}
 use Rattle.ddrescuelog_cli.specs.declared.ending.LogEnding.TheVariants.{Done, NotDone, ListTooLong}
 use Rattle.work_rules.specs.Parts.{only_calls}
+use Rattle.ddrescuelog_cli.specs.Modes.{EndsPrinted, EndsSaved, EndsCreated, EndsAs, removal_calls, Replaces}
 use Rattle.ddrescuelog_cli.specs.Maps.{Found, Maps, domain_of, shape_of}
 use Rattle.ddrescuelog_cli.specs.Refusals.{ListRefused}
 use Rattle.ddrescuelog_cli.specs.Results.{IsCreated}
 use Rattle.ddrescuelog_cli.specs.Answers.{row_of}
-use Rattle.ddrescuelog_cli.specs.Work.{EndsSaved, EndsCreated, EndsAs, removal_calls, LogWorks}
-use Rattle.ddrescuelog_cli.specs.Stops.{Replaces, IsChanging, StopsSafely, OnlyReads, LeavesFiles}
+use Rattle.ddrescuelog_cli.specs.Work.{LogWorks}
+use Rattle.ddrescuelog_cli.specs.Stops.{IsChanging, StopsSafely, OnlyReads, LeavesFiles}
 use Rattle.ddrescuelog_cli.proofs.FoundLemmas.{done_of}
 use Rattle.ddrescuelog_cli.proofs.StandLemmas.{leave_all}
 use Rattle.ddrescuelog_cli.proofs.AfterReadsLemmas.{AfterReads, IsShort, after_works}
@@ -300,23 +301,18 @@ module _ (listed other : Status) (c : Command) (line list : List ℕ) (m : Maps)
 
 -- ---- by the mode
 
+printed_calls : (e : LogEnding) (rest : List Entry) → EndsPrinted e (only_calls rest) → rest ≡ []
+printed_calls e rest (inl w) = w.1.gain.calls
+printed_calls e rest (inr w) = w.1.gain.calls
+
 -- a mode that only reads calls nothing after its maps
 pub reads_run : (mode : LogMode) (c : Command) (line list : List ℕ) (m : Maps) (e : LogEnding) (rest : List Entry)
     → OnlyReads mode → EndsAs mode c line list m e (only_calls rest) → rest ≡ []
-reads_run (Change change) c line list m e rest only (inl w) = w.1.gain.calls
-reads_run (Change change) c line list m e rest only (inr w) = w.1.gain.calls
-reads_run (Combine op) c line list m e rest only (inl w) = w.1.gain.calls
-reads_run (Combine op) c line list m e rest only (inr w) = w.1.gain.calls
-reads_run (Complete status) c line list m e rest only (inl w) = w.1.gain.calls
-reads_run (Complete status) c line list m e rest only (inr w) = w.1.gain.calls
-reads_run (ListBlocks types) c line list m e rest only (inl w) = w.1.gain.calls
-reads_run (ListBlocks types) c line list m e rest only (inr w) = w.1.gain.calls
 reads_run (Create listed other) c line list m e rest only w = absurd (only tt)
 reads_run (Test true) c line list m e rest only w = absurd (only tt)
 reads_run (Test false) c line list m e rest only w = w.1.gain.calls
 reads_run (Compare finished) c line list m e rest only w = w.1.gain.calls
-reads_run Summarize c line list m e rest only (inl w) = w.1.gain.calls
-reads_run Summarize c line list m e rest only (inr w) = w.1.gain.calls
+reads_run _ c line list m e rest only w = printed_calls e rest w
 
 -- nor does any mode after an answer that leaves the files
 reads_early : (mode : LogMode) (c : Command) (line list : List ℕ) (m : Maps) (e : LogEnding) (rest : List Entry)

@@ -14,16 +14,17 @@ use Rattle.ddrescuelog_words.specs.declared.mode.LogMode.{LogMode}
 use Rattle.ddrescuelog_words.specs.declared.mode.LogMode.TheVariants.{Create, Test, Compare}
 use Rattle.map_algebra.specs.Numbers.{numbers_in}
 use Rattle.ddrescuelog_words.specs.declared.options.LogOptions.{LogOptions}
-use Rattle.ddrescuelog_words.specs.Modes.{creates}
+use Rattle.ddrescuelog_words.specs.Modes.{creates, mapfile_mode}
 use Rattle.ddrescuelog_words.specs.Command.{Command}
 use Rattle.ddrescuelog_cli.specs.declared.ending.Which.{Which}
 use Rattle.ddrescuelog_cli.specs.declared.ending.Which.TheVariants.{DomainMap, RunMap, OtherMap}
 use Rattle.ddrescuelog_cli.specs.declared.ending.LogEnding.{LogEnding}
 use Rattle.ddrescuelog_cli.specs.declared.ending.LogEnding.TheVariants.{Done, MapRefused, BadNumber}
-use Rattle.ddrescuelog_cli.specs.Maps.{Found, Maps, mapfile_mode, shape_of}
-use Rattle.ddrescuelog_cli.specs.Refusals.{IfNamed, MapIsRefused, PlacesRefused, ListRefused}
-use Rattle.ddrescuelog_cli.specs.Results.{Finds, IsCreated}
-use Rattle.ddrescuelog_cli.specs.Work.{log_faults, named_rows, read_rows, OnlyAnswers, EndsPrinted, EndsSaved, EndsCreated, EndsAs, IsNotDone, removal_calls, WorksOver, UnlessThere, WorksAs}
+use Rattle.ddrescuelog_cli.specs.Modes.{Finds, log_faults, OnlyAnswers, EndsPrinted, EndsSaved, EndsCreated, EndsAs, IsNotDone, removal_calls}
+use Rattle.ddrescuelog_cli.specs.Maps.{Found, Maps, shape_of}
+use Rattle.ddrescuelog_cli.specs.Refusals.{IfNamed, MapIsRefused, ListRefused}
+use Rattle.ddrescuelog_cli.specs.Results.{IsCreated}
+use Rattle.ddrescuelog_cli.specs.Work.{PlacesRefused, named_rows, read_rows, WorksOver, UnlessThere, WorksAs}
 use Rattle.ddrescuelog_cli.specs.Laws.{IsVerdict, HasOneVerdict}
 
 -- some work has one verdict

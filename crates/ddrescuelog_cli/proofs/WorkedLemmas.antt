@@ -10,18 +10,17 @@ use Rattle.work_rules.specs.Work.{IsOnlyCalls, Take}
 use Rattle.program_promise.specs.World.{WorldState}
 use Rattle.program_promise.specs.Program.{line_by}
 use Rattle.program_promise.specs.Promise.{DoneFor}
-use Rattle.ddrescuelog_words.specs.Modes.{creates}
+use Rattle.ddrescuelog_words.specs.Modes.{creates, removes_map}
 use Rattle.ddrescuelog_words.specs.Command.{Command}
 use Rattle.save_resume.proofs.FillLemmas.{keeps_self}
 use Rattle.ddrescuelog_cli.specs.declared.load.LoadedMaps.{LoadedMaps}
 use Rattle.ddrescuelog_cli.specs.declared.ending.LogEnding.{LogEnding}
 use Rattle.ddrescuelog_cli.specs.declared.ending.LogEnding.TheVariants.{NoMemory}
-use Rattle.ddrescuelog_cli.specs.Modes.{prints, puts_pieces, removes_map}
+use Rattle.ddrescuelog_cli.specs.Modes.{prints, puts_pieces, text_of, log_faults}
 use Rattle.ddrescuelog_cli.specs.Maps.{Found, Maps, found_in, AreMapsOf, AreAskedFor}
-use Rattle.ddrescuelog_cli.specs.Results.{text_of}
 use Rattle.ddrescuelog_cli.specs.Outside.{Outside}
 use Rattle.work_rules.specs.Parts.{only_calls}
-use Rattle.ddrescuelog_cli.specs.Work.{log_faults, read_rows, WorksOver, LogWorks, WorksAs}
+use Rattle.ddrescuelog_cli.specs.Work.{read_rows, WorksOver, LogWorks, WorksAs}
 use Rattle.ddrescuelog_cli.specs.Answers.{TakesFeed}
 use Rattle.ddrescuelog_cli.specs.After.{FeedLeft, SiteLeft}
 use Rattle.ddrescuelog_cli.specs.Creating.{CreatesMap}

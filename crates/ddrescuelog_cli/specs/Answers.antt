@@ -13,14 +13,14 @@ use Rattle.option_words.specs.declared.fault.UsageFault.TheVariants.{Word, BadVa
 use Rattle.console_texts.specs.Texts.{error_text, fault_text, at_line, message_of}
 use Rattle.program_promise.specs.Kinds.{AtCall, AtTake, AtPut, is_silent_kind}
 use Rattle.program_promise.specs.Rows.{AnswerRow, asked_row, brought_row, failed_row, only_where, starved_row, usage_row}
-use Rattle.ddrescuelog_words.specs.Modes.{creates}
+use Rattle.ddrescuelog_words.specs.Modes.{creates, removes_map}
 use Rattle.ddrescuelog_words.specs.Command.{Command}
 use Rattle.ddrescuelog_cli.specs.declared.ending.Which.{Which}
 use Rattle.ddrescuelog_cli.specs.declared.ending.Which.TheVariants.{DomainMap, RunMap, OtherMap}
 use Rattle.ddrescuelog_cli.specs.declared.ending.LogEnding.{LogEnding}
 use Rattle.ddrescuelog_cli.specs.declared.ending.LogEnding.TheVariants.{Done, NotDone, Differ, Usage, Exists, NoMap, MapRefused, BadNumber, ListTooLong, SiteFault, FeedFault, ConsoleFault, NoMemory}
 use Rattle.ddrescuelog_cli.specs.Names.{program_name}
-use Rattle.ddrescuelog_cli.specs.Modes.{compares, looks_at_places, prints, removes_map, tests}
+use Rattle.ddrescuelog_cli.specs.Modes.{compares, looks_at_places, prints, tests}
 
 -- ---- the row
 

@@ -20,11 +20,12 @@ use Rattle.ddrescuelog_words.specs.declared.options.LogOptions.{LogOptions}
 use Rattle.ddrescuelog_words.specs.Command.{Command}
 use Rattle.ddrescuelog_cli.specs.declared.ending.LogEnding.{LogEnding}
 use Rattle.ddrescuelog_cli.specs.declared.ending.LogEnding.TheVariants.{Done, Exists, ListTooLong, FeedFault, NoMemory}
+use Rattle.ddrescuelog_cli.specs.Modes.{log_faults, OnlyAnswers}
 use Rattle.ddrescuelog_cli.specs.Maps.{Found, Maps, found_in, AreMapsOf, AreAskedFor, shape_of}
 use Rattle.ddrescuelog_cli.specs.Refusals.{MapIsThere, ListRefused}
 use Rattle.ddrescuelog_cli.specs.Results.{ListEndsAt}
 use Rattle.work_rules.specs.Parts.{only_calls}
-use Rattle.ddrescuelog_cli.specs.Work.{log_faults, OnlyAnswers, SaysIfThere, UnlessThere, WorksOver, WorksAs}
+use Rattle.ddrescuelog_cli.specs.Work.{SaysIfThere, UnlessThere, WorksOver, WorksAs}
 use Rattle.ddrescuelog_cli.specs.Steps.{ReadCause}
 use Rattle.ddrescuelog_cli.specs.After.{FeedLeft}
 

@@ -18,12 +18,13 @@ use Rattle.ddrescuelog_words.specs.Modes.{creates}
 use Rattle.ddrescuelog_words.specs.Command.{Command, Asks}
 use Rattle.ddrescuelog_cli.specs.declared.ending.LogEnding.{LogEnding}
 use Rattle.ddrescuelog_cli.specs.declared.ending.LogEnding.TheVariants.{Done, NoMemory}
+use Rattle.ddrescuelog_cli.specs.Modes.{Finds, Replaces}
 use Rattle.ddrescuelog_cli.specs.Maps.{Found, Maps, AreMapsOf, AreAskedFor, IsShownBy, shape_of, domain_below}
-use Rattle.ddrescuelog_cli.specs.Refusals.{ListRefused, MapIsThere, PlacesRefused}
-use Rattle.ddrescuelog_cli.specs.Results.{Finds, IsCreated}
+use Rattle.ddrescuelog_cli.specs.Refusals.{ListRefused, MapIsThere}
+use Rattle.ddrescuelog_cli.specs.Results.{IsCreated}
 use Rattle.ddrescuelog_cli.specs.Answers.{FitsCommand, row_of}
-use Rattle.ddrescuelog_cli.specs.Stops.{IsChanging, OnlyReads, Replaces}
-use Rattle.ddrescuelog_cli.specs.Work.{LogWorks, named_rows, read_rows}
+use Rattle.ddrescuelog_cli.specs.Stops.{IsChanging, OnlyReads}
+use Rattle.ddrescuelog_cli.specs.Work.{PlacesRefused, LogWorks, named_rows, read_rows}
 use Rattle.ddrescuelog_cli.specs.Ddrescuelog.{Ddrescuelog, log_program}
 
 -- an answer that words, files and a list lead to, whatever calls, streams and memory do

@@ -1,8 +1,8 @@
 pub mod Names
-pub mod Modes
 pub mod Maps
 pub mod Refusals
 pub mod Results
+pub mod Modes
 pub mod Work
 pub mod Outside
 pub mod Answers

@@ -3,16 +3,14 @@ use Rattle.std.specs.Prelude.{◌≡◌, ℕ, ◌≤◌, max, Bool, true, false,
 use Rattle.block_list.specs.declared.status.Status.{Status}
 use Rattle.mapfile_text.specs.declared.state.MapState.{MapState}
 use Rattle.mapfile_text.specs.declared.read.Mode.{Mode}
-use Rattle.mapfile_text.specs.declared.read.Mode.TheVariants.{Tight, Loose}
+use Rattle.mapfile_text.specs.declared.read.Mode.TheVariants.{Tight}
 use Rattle.mapfile_text.specs.MapText.{text_limit, IsMapText}
 use Rattle.crash_site.specs.Files.{File, file_named}
 use Rattle.save_resume.specs.Named.{IsMapOf, map_mode}
 use Rattle.rescue_domain.specs.Domain.{whole_domain, in_map}
 use Rattle.map_algebra.specs.declared.shape.Shape.{Shape}
-use Rattle.ddrescuelog_words.specs.declared.mode.LogMode.{LogMode}
-use Rattle.ddrescuelog_words.specs.declared.mode.LogMode.TheVariants.{Change, Combine, Complete, ListBlocks, Create, Test, Compare, Summarize}
 use Rattle.ddrescuelog_words.specs.declared.options.LogOptions.{LogOptions}
-use Rattle.ddrescuelog_words.specs.Modes.{creates}
+use Rattle.ddrescuelog_words.specs.Modes.{creates, mapfile_mode}
 use Rattle.ddrescuelog_words.specs.Command.{Command}
 
 -- The files that steps of the work found, each by its own name; none if no name is given.
@@ -45,17 +43,6 @@ pub record IsShownBy (file : Option File) (mode : Mode) (shown : MapState) (stat
   pub first : ℕ
   pub listed : Bool
   pub reads : IsMapText there.bytes mode shown first listed statuses
-
--- The mapfile is read as a tight map. That of -C is read as a loose one, whose gaps get its type.
-abbrev pub mapfile_mode : LogMode → Mode
-mapfile_mode (Change change) = Tight
-mapfile_mode (Combine op) = Tight
-mapfile_mode (Complete status) = Loose status
-mapfile_mode (ListBlocks types) = Tight
-mapfile_mode (Create listed rest) = Tight
-mapfile_mode (Test removes) = Tight
-mapfile_mode (Compare finished) = Tight
-mapfile_mode Summarize = Tight
 
 -- The maps are what the files are. If a file isn't there or is no map, the maps may be any: then the words are answered
 -- by a refusal.

@@ -1,5 +1,5 @@
--- What each mode finds in the maps, and what it prints of them.
-use Rattle.std.specs.Prelude.{◌≡◌, ◌⊎◌, ℕ, ◌+◌, true, false, List, [], ◌∷◌, ◌++◌, flat_map, slice_index_or, Option, Some, None, codes}
+-- What is printed of maps, and what a map that is created has.
+use Rattle.std.specs.Prelude.{◌≡◌, ℕ, ◌+◌, List, [], ◌∷◌, ◌++◌, slice_index_or, Option, Some, None, codes}
 use Rattle.std.specs.Fmt.{decimal}
 use Rattle.block_list.specs.declared.status.Status.{Status}
 use Rattle.block_list.specs.declared.status.Status.TheVariants.{NonTried, NonTrimmed, NonScraped, BadSector, Finished}
@@ -10,39 +10,12 @@ use Rattle.mapfile_text.specs.declared.state.Current.TheVariants.{Copying}
 use Rattle.mapfile_text.specs.Printed.{with_newline, printed, current_symbol}
 use Rattle.block_list.specs.declared.areas.Count.{Count}
 use Rattle.map_algebra.specs.declared.summary.Summary.{Summary}
-use Rattle.map_algebra.specs.Change.{changed_map}
-use Rattle.map_algebra.specs.Combine.{combined_map}
-use Rattle.map_algebra.specs.Compare.{IsDoneIn, IsOpenIn, AgreeIn, DifferIn, FinishAlikeIn, FinishUnlikeIn}
-use Rattle.map_algebra.specs.Listing.{Wanted, listed}
+use Rattle.map_algebra.specs.Listing.{Wanted}
 use Rattle.map_algebra.specs.Blocks.{IsEndOfBlocks}
 use Rattle.map_algebra.specs.Create.{created_map}
-use Rattle.map_algebra.specs.Summary.{summary_of}
-use Rattle.ddrescuelog_words.specs.declared.mode.LogMode.{LogMode}
-use Rattle.ddrescuelog_words.specs.declared.mode.LogMode.TheVariants.{Change, Combine, Complete, ListBlocks, Create, Test, Compare, Summarize}
 use Rattle.ddrescuelog_words.specs.declared.options.LogOptions.{LogOptions}
 use Rattle.ddrescuelog_words.specs.Command.{Command}
-use Rattle.ddrescuelog_cli.specs.declared.ending.LogEnding.{LogEnding}
-use Rattle.ddrescuelog_cli.specs.declared.ending.LogEnding.TheVariants.{Done, NotDone, Differ}
 use Rattle.ddrescuelog_cli.specs.Maps.{Maps, shape_of, domain_below, domain_of}
-
--- ---- what is found
-
--- the answer, by what a mode finds
-abbrev pub Finds : LogMode → Command → Maps → LogEnding → Type 0
-Finds (Change change) c m e = e ≡ Done
-Finds (Combine op) c m e = e ≡ Done
-Finds (Complete status) c m e = e ≡ Done
-Finds (ListBlocks types) c m e = e ≡ Done
-Finds (Create listed rest) c m e = e ≡ Done
-Finds (Test removes) c m e =
-    ((e ≡ Done) × IsDoneIn (domain_of c m) m.statuses) ⊎ ((e ≡ NotDone) × IsOpenIn (domain_of c m) m.statuses)
-Finds (Compare false) c m e =
-    ((e ≡ Done) × AgreeIn (domain_of c m) m.statuses m.other)
-    ⊎ ((e ≡ Differ) × DifferIn (domain_of c m) m.statuses m.other)
-Finds (Compare true) c m e =
-    ((e ≡ Done) × FinishAlikeIn (domain_of c m) m.statuses m.other)
-    ⊎ ((e ≡ Differ) × FinishUnlikeIn (domain_of c m) m.statuses m.other)
-Finds Summarize c m e = e ≡ Done
 
 -- ---- what is printed
 
@@ -97,17 +70,6 @@ wanted_by c types m = record {
   shape = shape_of c.options;
   statuses = m.statuses;
 }
-
--- What a mode prints on standard output, by the command line and the maps; some print nothing.
-abbrev pub text_of : LogMode → Command → (line : List ℕ) → Maps → List ℕ
-text_of (Change change) c line m = map_text line m.shown (changed_map (domain_of c m) change m.statuses)
-text_of (Combine op) c line m = map_text line m.shown (combined_map op (domain_of c m) m.statuses m.other)
-text_of (Complete status) c line m = map_text line m.shown m.statuses
-text_of (ListBlocks types) c line m = flat_map number_line (listed (wanted_by c types m))
-text_of (Create listed rest) c line m = []
-text_of (Test removes) c line m = []
-text_of (Compare finished) c line m = []
-text_of Summarize c line m = summary_text m.shown (summary_of (domain_of c m) m.statuses)
 
 -- ---- what is saved
 

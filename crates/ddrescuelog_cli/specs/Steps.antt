@@ -24,11 +24,10 @@ use Rattle.ddrescuelog_cli.specs.declared.load.LoadedMaps.{LoadedMaps}
 use Rattle.ddrescuelog_cli.specs.declared.ending.LogEnding.{LogEnding}
 use Rattle.ddrescuelog_cli.specs.declared.ending.LogEnding.TheVariants.{Done, NoMap, MapRefused, SiteFault, ConsoleFault, NoMemory}
 use Rattle.ddrescuelog_cli.specs.Maps.{Found, Maps, found_in, AreMapsOf, AreAskedFor, domain_of}
-use Rattle.ddrescuelog_cli.specs.Results.{text_of}
-use Rattle.ddrescuelog_cli.specs.Modes.{prints, puts_pieces}
+use Rattle.ddrescuelog_cli.specs.Modes.{text_of, prints, puts_pieces, log_faults}
 use Rattle.ddrescuelog_cli.specs.Printing.{PutsAs, PutsInPieces}
 use Rattle.work_rules.specs.Parts.{DidPart, only_calls, StoppedIn, WentThrough}
-use Rattle.ddrescuelog_cli.specs.Work.{log_faults, map_rows, read_rows, WorksOver}
+use Rattle.ddrescuelog_cli.specs.Work.{map_rows, read_rows, WorksOver}
 
 -- what the read of a map that is named did
 abbrev pub ReadsMap : Which → Mode → (name : List ℕ) → Result ReadMap LogEnding → (old new : SiteState) → Type 0

@@ -1,49 +1,23 @@
 -- What may be found at whatever moment `ddrescuelog` is stopped.
-use Rattle.std.specs.Prelude.{◌≡◌, ◌≢◌, ◌⊎◌, ℕ, ◌≤◌, true, false, List, length, Option, Some, None, Ok}
+use Rattle.std.specs.Prelude.{◌≡◌, ◌≢◌, ◌⊎◌, ℕ, ◌≤◌, true, ◌||◌, T, List, length, Option}
 use Rattle.crash_site.specs.Files.{File}
 use Rattle.crash_site.specs.Calls.{Entry}
 use Rattle.crash_site.specs.SiteState.{SiteState}
 use Rattle.save_resume.specs.MapNames.{names_of}
-use Rattle.save_resume.specs.SaveStops.{text_file, IsEmptyDraft, LeftAt, CouldBefore}
-use Rattle.map_algebra.specs.Compare.{IsDoneIn}
-use Rattle.map_algebra.specs.Numbers.{numbers_in}
+use Rattle.save_resume.specs.SaveStops.{IsEmptyDraft, LeftAt, CouldBefore}
 use Rattle.program_promise.specs.Kinds.{AtCall, Failed}
 use Rattle.ddrescuelog_words.specs.declared.mode.LogMode.{LogMode}
-use Rattle.ddrescuelog_words.specs.declared.mode.LogMode.TheVariants.{Change, Combine, Complete, ListBlocks, Create, Test, Compare, Summarize}
-use Rattle.ddrescuelog_words.specs.Modes.{creates}
+use Rattle.ddrescuelog_words.specs.Modes.{creates, removes_map}
 use Rattle.ddrescuelog_words.specs.Command.{Command}
 use Rattle.ddrescuelog_cli.specs.declared.ending.LogEnding.{LogEnding}
 use Rattle.ddrescuelog_cli.specs.declared.ending.LogEnding.TheVariants.{Done}
-use Rattle.ddrescuelog_cli.specs.Maps.{Maps, shape_of, domain_of}
-use Rattle.ddrescuelog_cli.specs.Results.{IsCreated}
+use Rattle.ddrescuelog_cli.specs.Maps.{Maps}
+use Rattle.ddrescuelog_cli.specs.Modes.{Replaces}
 use Rattle.ddrescuelog_cli.specs.Answers.{row_of}
 
--- What a mode leaves in the place of the mapfile: -c the map that it creates, whole; -d nothing, if the mapfile is
--- done; no other mode anything.
-abbrev pub Replaces : LogMode → Command → (line : List ℕ) → (list : List ℕ) → Maps → (found : Option File) → Type 0
-Replaces (Change change) c line list m found = ⊥
-Replaces (Combine op) c line list m found = ⊥
-Replaces (Complete status) c line list m found = ⊥
-Replaces (ListBlocks types) c line list m found = ⊥
-Replaces (Create listed rest) c line list m found =
-    (numbers text : List ℕ) × (numbers_in (shape_of c.options) list ≡ Ok numbers)
-    × IsCreated c listed rest line m numbers text × (found ≡ Some (text_file text))
-Replaces (Test true) c line list m found = IsDoneIn (domain_of c m) m.statuses × (found ≡ None)
-Replaces (Test false) c line list m found = ⊥
-Replaces (Compare finished) c line list m found = ⊥
-Replaces Summarize c line list m found = ⊥
-
--- a mode that changes what is in the place of the mapfile
+-- a mode that changes what is in the place of the mapfile: it makes a mapfile, or removes one
 abbrev pub IsChanging : LogMode → Type 0
-IsChanging (Change change) = ⊥
-IsChanging (Combine op) = ⊥
-IsChanging (Complete status) = ⊥
-IsChanging (ListBlocks types) = ⊥
-IsChanging (Create listed rest) = Unit {0}
-IsChanging (Test true) = Unit {0}
-IsChanging (Test false) = ⊥
-IsChanging (Compare finished) = ⊥
-IsChanging Summarize = ⊥
+IsChanging mode = T (creates mode || removes_map mode)
 
 -- a stop of a call, after its first k calls on the files or within the next one, and the files that are found then
 pub record StopAt (site : SiteState) (calls : List Entry) (k : ℕ) (files : List ℕ → Option File) : Type 0 where

@@ -1,38 +1,30 @@
 -- The work of `ddrescuelog`, as rows of the fold that the programs share: the maps that its words name, each read and
 -- maybe refused, and then what its mode does with them. It says which answers may be given, and which calls were made
 -- by then.
-use Rattle.std.specs.Prelude.{◌≡◌, ◌⊎◌, ⊤, ℕ, Bool, true, false, List, [], ◌∷◌, ◌++◌, Option, Some, None, Ok}
-use Rattle.block_list.specs.declared.status.Status.{Status}
+use Rattle.std.specs.Prelude.{◌≡◌, ◌⊎◌, ⊤, ℕ, Bool, true, false, List, [], ◌∷◌, ◌++◌, length, Option, Some, None, unwrap_or}
 use Rattle.mapfile_text.specs.declared.read.Mode.{Mode}
 use Rattle.mapfile_text.specs.declared.read.Mode.TheVariants.{Tight}
 use Rattle.crash_site.specs.declared.site.SiteCall.TheVariants.{MapRead as MapReadCall}
 use Rattle.crash_site.specs.declared.site.MapRead.{MapRead}
 use Rattle.crash_site.specs.declared.site.MapRead.TheVariants.{Bytes, Absent}
 use Rattle.crash_site.specs.Files.{File}
-use Rattle.crash_site.specs.Calls.{Call, Entry, Done as Returned, map_read, map_remove, map_settle}
+use Rattle.crash_site.specs.Calls.{Entry, Done as Returned, map_read}
 use Rattle.crash_site.specs.CallsMade.{Lost}
-use Rattle.save_resume.specs.MapNames.{names_of}
 use Rattle.save_resume.specs.Loading.{piece_size}
 use Rattle.save_resume.specs.Named.{map_mode}
-use Rattle.save_resume.specs.Saving.{save_calls}
-use Rattle.map_algebra.specs.Compare.{IsOpenIn}
-use Rattle.map_algebra.specs.Numbers.{numbers_in}
-use Rattle.work_rules.specs.Work.{Deeds, IsIdle, IsOnlyCalls, with_calls, Faults, WorkStep, Take, Look, Make, Read, Works}
-use Rattle.ddrescuelog_words.specs.declared.mode.LogMode.{LogMode}
-use Rattle.ddrescuelog_words.specs.declared.mode.LogMode.TheVariants.{Change, Combine, Complete, ListBlocks, Create, Test, Compare, Summarize}
-use Rattle.ddrescuelog_words.specs.Modes.{creates}
+use Rattle.option_words.specs.declared.fault.UsageFault.TheVariants.{PlaceTooLarge}
+use Rattle.rescue_domain.specs.Domain.{whole_domain}
+use Rattle.rescue_domain.specs.Places.{IsAnyBeyond}
+use Rattle.work_rules.specs.Work.{Deeds, IsOnlyCalls, with_calls, WorkStep, Take, Look, Read, Works}
+use Rattle.ddrescuelog_words.specs.Modes.{creates, mapfile_mode}
 use Rattle.ddrescuelog_words.specs.Command.{Command}
 use Rattle.ddrescuelog_cli.specs.declared.ending.Which.{Which}
 use Rattle.ddrescuelog_cli.specs.declared.ending.Which.TheVariants.{DomainMap, RunMap, OtherMap}
 use Rattle.ddrescuelog_cli.specs.declared.ending.LogEnding.{LogEnding}
-use Rattle.ddrescuelog_cli.specs.declared.ending.LogEnding.TheVariants.{Done, NotDone, SiteFault, FeedFault, ConsoleFault, NoMemory}
-use Rattle.ddrescuelog_cli.specs.Maps.{Found, Maps, mapfile_mode, shape_of, domain_of}
-use Rattle.ddrescuelog_cli.specs.Results.{Finds, IsCreated}
-use Rattle.ddrescuelog_cli.specs.Refusals.{IfNamed, MapIsRefused, MapIsThere, PlacesRefused, ListRefused}
-
--- how a fault is answered; no input is opened
-abbrev pub log_faults : Faults LogEnding
-log_faults = record { call = λ call. SiteFault call; memory = NoMemory; input = NoMemory }
+use Rattle.ddrescuelog_cli.specs.declared.ending.LogEnding.TheVariants.{Usage, SiteFault}
+use Rattle.ddrescuelog_cli.specs.Maps.{Found, Maps}
+use Rattle.ddrescuelog_cli.specs.Refusals.{IfNamed, MapIsRefused, MapIsThere}
+use Rattle.ddrescuelog_cli.specs.Modes.{log_faults, looks_at_places, EndsAs}
 
 -- ---- the maps
 
@@ -50,52 +42,14 @@ named_rows c found =
 abbrev pub read_rows : Command → Found → List (WorkStep LogEnding)
 read_rows c found = map_rows RunMap (mapfile_mode c.mode) (Some c.mapfile) found.mapfile ++ named_rows c found
 
--- ---- what a mode does
+-- ---- over the maps
 
--- nothing more is done than to answer this
-abbrev pub OnlyAnswers : LogEnding → LogEnding → Deeds → Type 0
-OnlyAnswers v e d = (e ≡ v) × IsIdle d
-
--- a text was printed, or the console failed at it
-abbrev pub EndsPrinted : LogEnding → Deeds → Type 0
-EndsPrinted e d = OnlyAnswers ConsoleFault e d ⊎ OnlyAnswers Done e d
-
--- what is found is answered
-abbrev pub EndsFound : LogMode → Command → Maps → LogEnding → Deeds → Type 0
-EndsFound mode c m e d = Finds mode c m e × IsIdle d
-
--- the map is saved
-abbrev pub EndsSaved : Command → (text : List ℕ) → LogEnding → Deeds → Type 0
-EndsSaved c text = Works log_faults (Make (save_calls (names_of c.mapfile) text) ∷ []) (OnlyAnswers Done)
-
--- The list is taken from the feed, which may fail, and may be refused. Then the map of its blocks is saved.
-abbrev pub EndsCreated : (listed rest : Status) → Command → (line list : List ℕ) → Maps → LogEnding → Deeds → Type 0
-EndsCreated listed rest c line list m e d =
-    OnlyAnswers FeedFault e d
-    ⊎ Works log_faults (Look (ListRefused c.options list) ∷ [])
-    (λ e d. (numbers text : List ℕ) × (numbers_in (shape_of c.options) list ≡ Ok numbers)
-    × IsCreated c listed rest line m numbers text × EndsSaved c text e d) e d
-
--- a mapfile is removed, and that is settled
-abbrev pub removal_calls : (name : List ℕ) → List Call
-removal_calls name = map_remove name ∷ map_settle name ∷ []
-
--- a map that isn't done is answered so
-abbrev pub IsNotDone : Command → Maps → LogEnding → Type 0
-IsNotDone c m e = IsOpenIn (domain_of c m) m.statuses × (e ≡ NotDone)
-
--- How each mode ends over its maps: -d removes a mapfile that is done, and -D says so.
-abbrev pub EndsAs : LogMode → Command → (line list : List ℕ) → Maps → LogEnding → Deeds → Type 0
-EndsAs (Change change) c line list m = EndsPrinted
-EndsAs (Combine op) c line list m = EndsPrinted
-EndsAs (Complete status) c line list m = EndsPrinted
-EndsAs (ListBlocks types) c line list m = EndsPrinted
-EndsAs (Create listed rest) c line list m = EndsCreated listed rest c line list m
-EndsAs (Test true) c line list m =
-    Works log_faults (Look (IsNotDone c m) ∷ Make (removal_calls c.mapfile) ∷ []) (OnlyAnswers Done)
-EndsAs (Test false) c line list m = EndsFound (Test false) c m
-EndsAs (Compare finished) c line list m = EndsFound (Compare finished) c m
-EndsAs Summarize c line list m = EndsPrinted
+-- a position of the mapfile would end too far on in the output, whatever the domain map leaves of it
+pub record PlacesRefused (c : Command) (m : Maps) (e : LogEnding) : Type 0 where
+  pub lists : looks_at_places c.mode ≡ true
+  pub beyond : IsAnyBeyond (whole_domain c.options.input_position c.options.size (length m.statuses))
+      c.options.input_position (unwrap_or c.options.output_position c.options.input_position)
+  pub is : e ≡ Usage PlaceTooLarge
 
 -- The work over maps: memory may run out, -l refuses a position without a place in the output, and the mode ends.
 abbrev pub WorksOver : Command → (line list : List ℕ) → Maps → LogEnding → Deeds → Type 0

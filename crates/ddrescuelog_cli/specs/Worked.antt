@@ -5,8 +5,7 @@ use Rattle.rescue_console.specs.FeedState.{FeedState, Keeps as FeedKeeps}
 use Rattle.program_promise.specs.World.{WorldState}
 use Rattle.ddrescuelog_words.specs.Command.{Command}
 use Rattle.ddrescuelog_cli.specs.declared.ending.LogEnding.{LogEnding}
-use Rattle.ddrescuelog_cli.specs.Modes.{prints, puts_pieces}
-use Rattle.ddrescuelog_cli.specs.Results.{text_of}
+use Rattle.ddrescuelog_cli.specs.Modes.{prints, puts_pieces, text_of}
 use Rattle.ddrescuelog_cli.specs.Outside.{Agrees, Outside}
 use Rattle.work_rules.specs.Parts.{only_calls}
 use Rattle.ddrescuelog_cli.specs.Work.{LogWorks}

@@ -3,10 +3,9 @@ ghost use Rattle.std.specs.Prelude.{◌≡◌, ℕ, true, false, length};
 ghost use Rattle.rescue_domain.specs.Parts.{covers};
 ghost use Rattle.rescue_domain.specs.Domain.{whole_domain};
 ghost use Rattle.map_algebra.specs.At.{IsWithinMap};
-ghost use Rattle.ddrescuelog_words.specs.Modes.{creates, has_other};
+ghost use Rattle.ddrescuelog_words.specs.Modes.{creates, has_other, removes_map};
 ghost use Rattle.ddrescuelog_words.specs.Command.{AreInLimits, told_by};
 ghost use Rattle.ddrescuelog_cli.specs.Maps.{Maps};
-ghost use Rattle.ddrescuelog_cli.specs.Modes.{removes_map};
 ghost use Rattle.ddrescuelog_cli.specs.Steps.{IsLoadedAs, HasFound, answer_if};
 
 use crate::ending::LogEnding;

@@ -5,7 +5,6 @@ ghost use Rattle.save_resume.specs.Resuming.{IsWithinLimits};
 ghost use Rattle.ddrescuelog_words.specs.Modes.{creates};
 ghost use Rattle.ddrescuelog_words.specs.Command.{told_by};
 ghost use Rattle.ddrescuelog_cli.specs.declared.ending.LogEnding.TheVariants.{NoMemory as OutOfMemory};
-ghost use Rattle.ddrescuelog_cli.specs.Maps.{mapfile_mode};
 ghost use Rattle.ddrescuelog_cli.specs.Steps.{ReadsMap, ReadsNamed, ReadCause, LoadsMaps, IsLoadedAs, maps_read};
 
 use crate::ending::{LogEnding, Which};
@@ -13,23 +12,12 @@ use block_list::plain_tiles::PlainTiles;
 use block_list::tiles::Tiles;
 use crash_site::site::{Site, SiteCall};
 use ddrescuelog_words::command::Command;
-use ddrescuelog_words::mode::LogMode;
 use mapfile_text::read::{Mode, ReadMap};
 use mapfile_text::state::MapState;
 use rescue_domain::domain::Domain;
 use save_resume::load::{ResumeFault, load_map};
 use save_resume::named::mode_of;
 use std::alloc::Global;
-
-/// How the mapfile is read: one that is completed may have gaps, which get the status.
-fn mode_of_mapfile(mode: LogMode) -> Mode
-    ensures { result ≡ mapfile_mode mode }
-{
-    match mode {
-        LogMode::Complete(status) => Mode::Loose(status),
-        _ => Mode::Tight,
-    }
-}
 
 /// Reads a map, which must be there.
 fn read_map<D: Site>(
@@ -129,7 +117,7 @@ pub(crate) fn load_maps<D: Site>(
     ensures cause { IfErr result (λ e. ReadCause e (D.state site.old).faults (D.state site.new).faults) }
     ensures site { Stays (D.state site.old) (D.state site.new) }
 {
-    let mode = mode_of_mapfile(command.mode);
+    let mode = command.mode.row().mapfile;
     let map = read_map(alloc, site, Which::RunMap, command.mapfile, mode)?;
     let other = read_named(alloc, site, Which::OtherMap, command.other, Mode::Tight)?;
     let mode = mode_of(command.options.loose);

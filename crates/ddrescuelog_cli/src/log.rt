@@ -7,7 +7,6 @@ ghost use Rattle.option_words.specs.Words.{command_line};
 ghost use Rattle.program_promise.specs.World.{told};
 ghost use Rattle.ddrescuelog_words.specs.Modes.{creates};
 ghost use Rattle.ddrescuelog_words.specs.Command.{AreInLimits, AreRefused, told_by};
-ghost use Rattle.ddrescuelog_cli.specs.Modes.{removes_map};
 ghost use Rattle.ddrescuelog_cli.specs.Names.{program_name};
 ghost use Rattle.ddrescuelog_cli.specs.After.{SiteLeft};
 ghost use Rattle.ddrescuelog_cli.specs.Worked.{Ran};
@@ -32,13 +31,6 @@ use rescue_console::console::Console;
 use rescue_console::feed::Feed;
 use std::alloc::Global;
 
-/// Whether a mode removes a mapfile that is done.
-fn removes_map(mode: LogMode) -> bool
-    ensures { result ≡ removes_map mode }
-{
-    matches!(mode, LogMode::Test { removes: true })
-}
-
 /// Does what a mode does that reads its mapfile: reads the maps, and goes by what they say.
 fn run_over_maps<D: Site, P: Console>(
     alloc: Global,
@@ -59,7 +51,7 @@ fn run_over_maps<D: Site, P: Console>(
         Ok(loaded) => loaded,
         Err(refusal) => return refusal,
     };
-    if removes_map(command.mode) {
+    if command.mode.row().removes_map {
         remove_done(command, &loaded, site)
     } else {
         find(alloc, command, heading, &loaded, console)

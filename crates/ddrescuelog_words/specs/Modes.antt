@@ -6,7 +6,10 @@ use Rattle.block_list.specs.Status.{status_of_symbol}
 use Rattle.option_words.specs.Values.{is_name}
 use Rattle.map_algebra.specs.declared.combine.Op.{Op}
 use Rattle.map_algebra.specs.declared.combine.Op.TheVariants.{And, Or, Xor}
+use Rattle.mapfile_text.specs.declared.read.Mode.{Mode}
+use Rattle.mapfile_text.specs.declared.read.Mode.TheVariants.{Tight, Loose}
 use Rattle.ddrescuelog_words.specs.declared.mode.LogMode.{LogMode}
+use Rattle.ddrescuelog_words.specs.declared.mode.ModeRow.{ModeRow}
 use Rattle.ddrescuelog_words.specs.declared.mode.LogMode.TheVariants.{Change, Combine, Complete, ListBlocks, Create, Test, Compare, Summarize}
 
 -- ---- modes
@@ -22,31 +25,38 @@ abbrev pub comparing_letter : (finished : Bool) → ℕ
 comparing_letter true = 80
 comparing_letter false = 112
 
--- the letter of the option by which a mode names another map, if it works on one
+-- a mode that reads one map, a tight one
+abbrev pub plain_row : ModeRow
+plain_row = record { other_letter = None; mapfile = Tight; creates = false; removes_map = false }
+
+-- Each mode's row: the letter of the option by which it names another map, if it works on one, how its mapfile is read,
+-- and whether it makes a mapfile, or removes one that is done. The gaps of a mapfile that -C reads get its type.
+abbrev pub mode_row : LogMode → ModeRow
+mode_row (Change change) = plain_row
+mode_row (Combine op) = record plain_row { other_letter = Some (combining_letter op) }
+mode_row (Complete status) = record plain_row { mapfile = Loose status }
+mode_row (ListBlocks types) = plain_row
+mode_row (Create listed rest) = record plain_row { creates = true }
+mode_row (Test removes) = record plain_row { removes_map = removes }
+mode_row (Compare finished) = record plain_row { other_letter = Some (comparing_letter finished) }
+mode_row Summarize = plain_row
+
+-- what the rows say
 abbrev pub other_letter : LogMode → Option ℕ
-other_letter (Change change) = None
-other_letter (Combine op) = Some (combining_letter op)
-other_letter (Complete status) = None
-other_letter (ListBlocks types) = None
-other_letter (Create listed rest) = None
-other_letter (Test removes) = None
-other_letter (Compare finished) = Some (comparing_letter finished)
-other_letter Summarize = None
+other_letter mode = (mode_row mode).other_letter
+
+abbrev pub mapfile_mode : LogMode → Mode
+mapfile_mode mode = (mode_row mode).mapfile
+
+abbrev pub creates : LogMode → Bool
+creates mode = (mode_row mode).creates
+
+abbrev pub removes_map : LogMode → Bool
+removes_map mode = (mode_row mode).removes_map
 
 -- a mode works on another map too
 abbrev pub has_other : LogMode → Bool
-has_other m = is_some (other_letter m)
-
--- a mode makes a new map
-abbrev pub creates : LogMode → Bool
-creates (Change change) = false
-creates (Combine op) = false
-creates (Complete status) = false
-creates (ListBlocks types) = false
-creates (Create listed rest) = true
-creates (Test removes) = false
-creates (Compare finished) = false
-creates Summarize = false
+has_other mode = is_some (other_letter mode)
 
 -- ---- the values that say them
 

@@ -35,7 +35,7 @@ impl Command<'_> {
     fn is_too_long(&self) -> bool
         ensures { result ≡ is_too_long (told_by self.now) }
     {
-        self.mode.creates() && self.options.ends_beyond()
+        self.mode.row().creates && self.options.ends_beyond()
     }
 }
 
@@ -61,7 +61,7 @@ fn name_other<'a>(
     requires spots { All (HasSpot words.now) items.now }
     ensures { option_map (λ t. t.now) result ≡ other_in words.now items.now mode }
 {
-    last_value(table, words, mode.other_letter()?, items)
+    last_value(table, words, mode.row().other_letter?, items)
 }
 
 /// The files of one operand, and the maps that options name.

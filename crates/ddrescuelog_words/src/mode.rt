@@ -1,11 +1,12 @@
 //! What is done with a map.
 ghost use Rattle.std.specs.Prelude.{◌≡◌};
-ghost use Rattle.ddrescuelog_words.specs.Modes.{creates, other_letter};
+ghost use Rattle.ddrescuelog_words.specs.Modes.{mode_row};
 
 use block_list::status::Status;
 use block_list::types::TypeSet;
 use map_algebra::change::TypeChange;
 use map_algebra::combine::Op;
+use mapfile_text::read::Mode;
 
 /// What is done with a map. One of these is asked for.
 #[derive(Clone, Copy, Debug, PartialEq, Eq)]
@@ -28,25 +29,41 @@ pub enum LogMode {
     Summarize,
 }
 
-impl LogMode {
+/// Which maps a mode takes, and what becomes of the mapfile.
+#[derive(Clone, Copy, Debug, PartialEq, Eq)]
+pub struct ModeRow {
     /// The letter of the option that names the other map, if there is another.
-    pub(crate) fn other_letter(&self) -> Option<char>
-        ensures { result ≡ other_letter self.now }
-    {
-        match self {
-            LogMode::Combine(Op::And) => Some('y'),
-            LogMode::Combine(Op::Or) => Some('z'),
-            LogMode::Combine(Op::Xor) => Some('x'),
-            LogMode::Compare { finished: false } => Some('p'),
-            LogMode::Compare { finished: true } => Some('P'),
-            _ => None,
-        }
-    }
+    pub other_letter: Option<char>,
+    /// How the mapfile is read.
+    pub mapfile: Mode,
+    /// A mapfile is made, and none is read.
+    pub creates: bool,
+    /// A mapfile that is done is removed.
+    pub removes_map: bool,
+}
 
-    /// Whether a mapfile is made.
-    pub fn creates(&self) -> bool
-        ensures { result ≡ creates self.now }
+impl LogMode {
+    /// The mode's row.
+    pub fn row(&self) -> ModeRow
+        ensures { result ≡ mode_row self.now }
     {
-        matches!(self, LogMode::Create { .. })
+        let mut row = ModeRow {
+            other_letter: None,
+            mapfile: Mode::Tight,
+            creates: false,
+            removes_map: false,
+        };
+        match self {
+            LogMode::Change(_) | LogMode::ListBlocks(_) | LogMode::Summarize => {}
+            LogMode::Combine(Op::And) => row.other_letter = Some('y'),
+            LogMode::Combine(Op::Or) => row.other_letter = Some('z'),
+            LogMode::Combine(Op::Xor) => row.other_letter = Some('x'),
+            LogMode::Complete(status) => row.mapfile = Mode::Loose(*status),
+            LogMode::Create { .. } => row.creates = true,
+            LogMode::Test { removes } => row.removes_map = *removes,
+            LogMode::Compare { finished: false } => row.other_letter = Some('p'),
+            LogMode::Compare { finished: true } => row.other_letter = Some('P'),
+        }
+        row
     }
 }

@@ -10,7 +10,7 @@ returns-in_err-map-clause-maps g c =
     let p = err_from_is_err_and c.from_residual.result c.from_residual.ensures.1 in
     rw (p.1, p.2)
     (mapfile_refused (told_by c.args.command.now) c.in_err-map.field-0.0 (g.D.Site.state c.args.site.now)
-    (g.D.Site.state c.read_map.new.site) (rw c.mode_of_mapfile-mode.ensures at c.in_err-map.ensures.read))
+    (g.D.Site.state c.read_map.new.site) (rw c.row-mode.ensures at c.in_err-map.ensures.read))
 
 pub returns-in_err-other-clause-maps : goal.returns-in_err-other-clause-maps
 returns-in_err-other-clause-maps g c =
@@ -18,7 +18,7 @@ returns-in_err-other-clause-maps g c =
     rw (p.1, p.2)
     (other_refused (told_by c.args.command.now) c.in_ok-map.map c.in_err-other.field-0.0
     (g.D.Site.state c.args.site.now) (g.D.Site.state c.read_map.new.site) (g.D.Site.state c.read_named.new.site)
-    (rw c.mode_of_mapfile-mode.ensures at c.in_ok-map.ensures.read) c.in_ok-map.ensures.site
+    (rw c.row-mode.ensures at c.in_ok-map.ensures.read) c.in_ok-map.ensures.site
     c.in_err-other.ensures.read)
 
 pub returns-in_err-other-clause-cause : goal.returns-in_err-other-clause-cause
@@ -40,7 +40,7 @@ returns-in_err-domain_map-clause-maps g c =
     rw (p.1, p.2)
     (domain_refused (told_by c.args.command.now) c.in_ok-map.map c.in_ok-other.other c.in_err-domain_map.field-0.0
     (g.D.Site.state c.args.site.now) (g.D.Site.state c.read_map.new.site) (g.D.Site.state c.read_named.new.site)
-    (g.D.Site.state c.read_named-2.new.site) (rw c.mode_of_mapfile-mode.ensures at c.in_ok-map.ensures.read)
+    (g.D.Site.state c.read_named-2.new.site) (rw c.row-mode.ensures at c.in_ok-map.ensures.read)
     c.in_ok-map.ensures.site c.in_ok-other.ensures.read c.in_ok-other.ensures.site
     (rw c.mode_of-mode.ensures at c.in_err-domain_map.ensures.read))
 
@@ -49,7 +49,7 @@ returns-clause-maps g c =
     loaded_or_starved (told_by c.args.command.now) c.in_ok-map.map c.in_ok-other.other c.in_ok-domain_map.domain_map
     c.make_loaded.result (g.D.Site.state c.args.site.now) (g.D.Site.state c.read_map.new.site)
     (g.D.Site.state c.read_named.new.site) (g.D.Site.state c.read_named-2.new.site) c.requires
-    (rw c.mode_of_mapfile-mode.ensures at c.in_ok-map.ensures.read) c.in_ok-map.ensures.site
+    (rw c.row-mode.ensures at c.in_ok-map.ensures.read) c.in_ok-map.ensures.site
     c.in_ok-other.ensures.read c.in_ok-other.ensures.site
     (rw c.mode_of-mode.ensures at c.in_ok-domain_map.ensures.read) c.make_loaded.ensures.loaded
     c.make_loaded.ensures.starved
