@@ -11,8 +11,8 @@ use Rattle.rescue_plan.specs.declared.run.PlanEnd.{PlanEnd}
 use Rattle.rescue_plan.specs.declared.run.PlanEnd.TheVariants.{Whole, Lost}
 use Rattle.rescue_plan.specs.Plan.{IsPlan, plan_setting}
 use Rattle.rescue_plan.specs.Running.{PutsPlan, PutsFirst, PutsPlanBroken}
-use Rattle.rescue_plan.specs.Laws.{PlanIsBegun}
-use Rattle.rescue_plan.proofs.PlanLemmas.{begin_with, plan_is_one}
+use Rattle.rescue_plan.specs.Laws.{AreUnlimited, PlanIsBegun}
+use Rattle.rescue_plan.proofs.PlanLemmas.{begin_with, limits_none, plan_is_one}
 
 lines_after : (first more : List PlannedRead) → lines_of (first ++ more) ≡ lines_of first ++ lines_of more
 lines_after first more = flat_map-append line_of first more
@@ -23,9 +23,12 @@ module _ (c : Command) (test : List Status) (old new : ConsoleState) (reads : Li
   abbrev Begun : Type 0
   Begun = TextGoesOn (lines_of reads) old.out.text new.out.text
 
+  unbounded : AreUnlimited c.options.rescue
+  unbounded = limits_none c.options.rescue plain
+
   first_begun : PutsFirst c test old new → Begun
   first_begun p =
-      let b = begin_with c.options.rescue c.length test p.reads reads plain p.first plan in
+      let b = begin_with c.options.rescue c.length test p.reads reads unbounded p.first plan in
       record {
         part = lines_of p.reads;
         left = lines_of b.more;
@@ -35,7 +38,7 @@ module _ (c : Command) (test : List Status) (old new : ConsoleState) (reads : Li
 
   broken_begun : PutsPlanBroken c test old new → Begun
   broken_begun p =
-      let b = begin_with c.options.rescue c.length test (p.reads ++ p.next ∷ []) reads plain p.first plan in
+      let b = begin_with c.options.rescue c.length test (p.reads ++ p.next ∷ []) reads unbounded p.first plan in
       let g = p.puts.part tells in
       let rest : List ℕ = lines_of b.more in
       let next : lines_of (p.reads ++ p.next ∷ []) ≡ lines_of p.reads ++ line_of p.next =
@@ -57,7 +60,7 @@ module _ (c : Command) (test : List Status) (old new : ConsoleState) (reads : Li
     part = lines_of p.reads;
     left = [];
     split = append-nil (lines_of p.reads)
-        ∙ ap lines_of ((plan_is_one c.options.rescue c.length test reads plain plan).alone p.reads p.plan);
+        ∙ ap lines_of ((plan_is_one c.options.rescue c.length test reads unbounded plan).alone p.reads p.plan);
     is = p.puts.whole tells;
   }
   by_end (Lost Memory) p = first_begun p

@@ -2,3 +2,5 @@ mod SimilarLemmas
 mod PlanLemmas
 mod BegunLemmas
 mod RunLemmas
+mod ExistLemmas
+mod NeedLemmas

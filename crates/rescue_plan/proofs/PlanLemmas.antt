@@ -25,7 +25,7 @@ use Rattle.ddrescueplan_words.specs.Command.{ArePlain}
 use Rattle.plan_source.specs.Lines.{PlannedRead, planned}
 use Rattle.plan_source.proofs.AnswerLemmas.{passed_eq}
 use Rattle.rescue_plan.specs.Plan.{IsPlannedIn, BeginsPlan, IsPlan, untried_map, plan_setting, plan_start}
-use Rattle.rescue_plan.specs.Laws.{BeginWith, EndsShort, PlanIsOne, RescuesArePlanned}
+use Rattle.rescue_plan.specs.Laws.{AreUnlimited, BeginWith, EndsShort, PlanIsOne, RescuesArePlanned}
 use Rattle.rescue_plan.proofs.SimilarLemmas.{IsUnlimited, SameShape, SameShapes, plain, quiet, ready_alike, request_alike, after_alike, run_alike, state_alike, ended_alike}
 
 -- an event at the time 0
@@ -133,11 +133,15 @@ module _ (s : Setting) (u : IsUnlimited s) (test : List Status) where
             (planned_same a.pos a.asked (length a.given) b.pos b.asked (length b.given) (sym pos) (sym asked) (sym given));
       }
 
--- what options of a plan ask for has no limit, and no read is slow
-pub unlimited : (o : Options) (n : ℕ) → ArePlain o → IsUnlimited (plan_setting o n)
+-- options of a plan set no limit
+pub limits_none : (o : Options) → ArePlain o → AreUnlimited o
+limits_none o are = record { rate = are.rate; limits = are.limits }
+
+-- what such options ask for has no limit, and no read is slow
+pub unlimited : (o : Options) (n : ℕ) → AreUnlimited o → IsUnlimited (plan_setting o n)
 unlimited o n are = record { rate = are.rate; limits = are.limits }
 
-pub begin_with : (o : Options) (n : ℕ) (test : List Status) (first reads : List PlannedRead) → ArePlain o
+pub begin_with : (o : Options) (n : ℕ) (test : List Status) (first reads : List PlannedRead) → AreUnlimited o
     → BeginsPlan (plan_setting o n) n test first → IsPlan (plan_setting o n) n test reads → BeginWith first reads
 begin_with o n test first reads are b p =
     let s : Setting = plan_setting o n in

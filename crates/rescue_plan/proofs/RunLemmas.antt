@@ -48,7 +48,8 @@ use Rattle.plan_source.specs.Answering.{IsSeenIn, there, given_at, reading_of, p
 use Rattle.rescue_plan.specs.Plan.{IsPlannedIn, BeginsPlan, untried_map, plan_setting, plan_start}
 use Rattle.rescue_plan.specs.Running.{BeginsPlannedRun, PutsPlan, PutsPlanWhole, PutsFirst, PutsPlanBroken, end_by}
 use Rattle.plan_source.proofs.PrintingLemmas.{ends_with, puts_broken}
-use Rattle.rescue_plan.proofs.PlanLemmas.{begins_by, plan_by, unlimited}
+use Rattle.rescue_plan.proofs.SimilarLemmas.{IsUnlimited}
+use Rattle.rescue_plan.proofs.PlanLemmas.{begins_by, limits_none, plan_by, unlimited}
 
 -- the setting of a plan's run is the plan's, but for names
 setting_is : (c : Command) (r : RunState) → BeginsPlannedRun c r → setting_in r ≡ nameless (plan_setting c.options.rescue c.length)
@@ -198,15 +199,18 @@ module _ (c : Command) (limits : AreInLimits c) (r : RunState) (is : BeginsPlann
   lines_same : lines_of_entries entries ≡ lines_of (map planned (reads_of es))
   lines_same = sym (lines_are entries) ∙ ap (λ (rs : List Reading). lines_of (map planned rs)) journal
 
+  unbounded : IsUnlimited s
+  unbounded = unlimited c.options.rescue c.length (limits_none c.options.rescue limits.plain)
+
   reads_begin : BeginsPlan s c.length test (map planned (reads_of es))
-  reads_begin = begins_by s (unlimited c.options.rescue c.length limits.plain) c.length 0 test es (run_is c r es is run)
+  reads_begin = begins_by s unbounded c.length 0 test es (run_is c r es is run)
       planned_all
 
   put_whole : Puts Out (lines_of_entries entries) start now
       → has_ended (setting_in r) (state_after (setting_in r) r.machine es) ≡ true → PutsPlanWhole c test start now
   put_whole puts over = record {
     reads = map planned (reads_of es);
-    plan = plan_by s (unlimited c.options.rescue c.length limits.plain) c.length 0 test es (run_is c r es is run) planned_all
+    plan = plan_by s unbounded c.length 0 test es (run_is c r es is run) planned_all
         (ended_is c r es is over);
     puts = subst (λ (t : List ℕ). Puts Out t start now) lines_same puts;
   }

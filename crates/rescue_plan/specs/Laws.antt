@@ -1,17 +1,20 @@
 -- What the definitions mean.
-use Rattle.std.specs.Prelude.{◌≡◌, ℕ, ◌<◌, true, IsTrue, List, ◌++◌, length, map, All, None}
+use Rattle.std.specs.Prelude.{◌≡◌, ◌↔◌, ℕ, ◌<◌, true, false, IsTrue, List, [], ◌++◌, length, map, All, None}
 use Rattle.run_options.specs.Limits.{no_limits}
 use Rattle.block_list.specs.declared.status.Status.{Status}
 use Rattle.faulty_source.specs.Journal.{Reading, is_whole}
 use Rattle.rescue_domain.specs.Testing.{seen}
 use Rattle.rescue_rules.specs.Setting.{Setting}
+use Rattle.rescue_rules.specs.Nameless.{nameless}
 use Rattle.rescue_rules.specs.Step.{Event}
 use Rattle.rescue_rules.specs.Moves.{state_after, has_ended, IsRun}
 use Rattle.rescue_rules.specs.Beginning.{machine_over}
 use Rattle.rescue_rules.specs.Events.{reads_of}
 use Rattle.rescue_rules.specs.Start.{IsFresh}
 use Rattle.rescue_console.specs.ConsoleState.{ConsoleState, TextGoesOn}
+use Rattle.rescue_core.specs.RunState.{names_in}
 use Rattle.ddrescue_words.specs.declared.options.Options.{Options}
+use Rattle.ddrescue_words.specs.Asking.{AreInLimits as AreRescueLimits}
 use Rattle.ddrescue_words.specs.Command.{Command as RescueCommand}
 use Rattle.task_files.specs.Asked.{setting_of, no_maps}
 use Rattle.ddrescueplan_words.specs.Command.{Command, ArePlain}
@@ -30,10 +33,36 @@ pub record IsOnePlan (s : Setting) (length : ℕ) (test : List Status) (reads : 
   pub begins : (first : List PlannedRead) → BeginsPlan s length test first → BeginWith first reads
   pub alone : (other : List PlannedRead) → IsPlan s length test other → other ≡ reads
 
--- If plain options have a plan, it is the only one, and it begins with any first reads of it.
+-- no option sets a limit, and no read is slow
+pub record AreUnlimited (o : Options) : Type 0 where
+  pub rate : o.min_rate ≡ 0
+  pub limits : o.limits ≡ no_limits
+
+-- If options without a limit have a plan, it is the only one, and it begins with any first reads of it.
 abbrev pub PlanIsOne : Type 0
-PlanIsOne = (o : Options) (length : ℕ) (test : List Status) (reads : List PlannedRead) → ArePlain o
+PlanIsOne = (o : Options) (length : ℕ) (test : List Status) (reads : List PlannedRead) → AreUnlimited o
     → IsPlan (plan_setting o length) length test reads → IsOnePlan (plan_setting o length) length test reads
+
+-- Options that words can ask for have a plan, of an input of any length over any test map, unless they limit what may
+-- fail.
+abbrev pub PlanExists : Type 0
+PlanExists = (o : Options) (length : ℕ) (test : List Status) → AreRescueLimits o → o.limits ≡ no_limits
+    → (reads : List PlannedRead) × IsPlan (plan_setting o length) length test reads
+
+-- What a plan needs of a setting. It needs no file and no name, and neither where a position is in the output nor how a
+-- map is prepared.
+abbrev pub plan_part : Setting → Setting
+plan_part s = record (nameless s) { has_mapfile = false; names = names_in None; line = []; output_position = 0 }
+
+-- Reads are a plan for a setting, or the first ones of a plan, exactly if they are so for what a plan needs of it.
+pub record ArePlannedAlike (s : Setting) (length : ℕ) (test : List Status) (reads : List PlannedRead) : Type 0 where
+  pub begin : BeginsPlan (plan_part s) length test reads ↔ BeginsPlan s length test reads
+  pub are : IsPlan (plan_part s) length test reads ↔ IsPlan s length test reads
+
+-- The plan for a setting is that for what a plan needs of it.
+abbrev pub PlanNeedsNoOutput : Type 0
+PlanNeedsNoOutput = (s : Setting) (length : ℕ) (test : List Status) (reads : List PlannedRead)
+    → ArePlannedAlike s length test reads
 
 -- If there is a plan, what its run put on standard output is a beginning of its lines, however it ended.
 abbrev pub PlanIsBegun : Type 0
@@ -45,11 +74,6 @@ PlanIsBegun = (c : Command) (test : List Status) (end : PlanEnd) (old new : Cons
 -- a read that meets the input's end gives less than it was asked for, as each read of a source does
 abbrev pub EndsShort : Reading → Type 0
 EndsShort r = r.ended ≡ true → length r.given < r.asked
-
--- no option sets a limit, and no read is slow
-pub record AreUnlimited (o : Options) : Type 0 where
-  pub rate : o.min_rate ≡ 0
-  pub limits : o.limits ≡ no_limits
 
 module _ (c : RescueCommand) (line : List ℕ) (length time : ℕ) (test : List Status) where
   -- The reads of a rescue, as they are seen in test mode, if the input gave all that it was asked for: a run over a map
