@@ -1,15 +1,19 @@
 -- What looks make of a map, position by position.
 use Rattle.std.proofs.Common.{◌≡◌, ◌⊎◌, ℕ, zero, suc, ◌+◌, ◌<◌, ◌≤◌, Bool, true, false, ◌&&◌, ◌||◌, nat_le, nat_lt, if◌then◌else◌, List, [], ◌∷◌, length, Some, refl, sym, ◌∙◌, subst, arith}
-use Rattle.std.specs.List.{All}
+use Rattle.std.specs.List.{All, slice_get}
 use Rattle.std.proofs.lemmas.Bool.Decides.{nat_tests}
-use Rattle.std.proofs.lemmas.List.Elements.{All-head, All-tail}
+use Rattle.std.proofs.lemmas.List.Elements.{All-cons, All-head, All-nil, All-tail}
 use Rattle.block_list.specs.declared.status.Status.{Status}
 use Rattle.block_list.specs.declared.status.Status.TheVariants.{NonTried, Finished}
 use Rattle.block_list.specs.Map.{Has, marked}
 use Rattle.block_list.proofs.Places.{length-marked}
 use Rattle.rescue_rules.proofs.MarkLemmas.{marked_inside, marked_outside}
-use Rattle.ddrescueverify_cli.specs.Laws.{AreWithin, JudgedIsByPosition, NothingBecomesFinished}
-use Rattle.rescue_verify.specs.Looks.{Look, differs}
+use Rattle.ddrescueverify_cli.specs.Asked.{domain_asked}
+use Rattle.ddrescueverify_cli.specs.Laws.{AreWithin, JudgedIsByPosition, LooksAreWithin, NothingBecomesFinished}
+use Rattle.rescue_domain.specs.Domain.{IsIn}
+use Rattle.rescue_domain.specs.Finished.{is_finished, is_finished_at}
+use Rattle.rescue_verify.specs.Looks.{Look, differs, reads_of}
+use Rattle.rescue_verify.specs.Pieces.{AskForPieces, IsPiece, compared_in}
 use Rattle.rescue_verify.specs.Verified.{is_doubted, is_of_position, judged, judged_by}
 
 -- a piece of a look ends within a map
@@ -72,6 +76,42 @@ judged_is map (l ∷ looks) within =
           (rest.each x (if (differs l && is_of_position x l) then NonTried else status)
           (judged_has_by (differs l) map l x status first has));
     }
+
+-- ---- the looks of a comparison
+
+-- what is finished is in the map
+finished_within : (map : List Status) (x : ℕ) → is_finished (slice_get map x) ≡ true → x < length map
+finished_within [] x is = absurd (cc is)
+finished_within (s ∷ map) zero is = omega arith
+finished_within (s ∷ map) (suc x) is = let rest = finished_within map x is in omega (arith, rest)
+
+and_right : (a b : Bool) → (a && b) ≡ true → b ≡ true
+and_right true b is = is
+and_right false b is = absurd (cc is)
+
+compared_within : (domain : ℕ → Bool) (map : List Status) (x : ℕ) → IsIn (compared_in domain map) x → x < length map
+compared_within domain map x is = finished_within map x (and_right (domain x) (is_finished_at map x) is)
+
+-- a piece ends after a position that is compared
+piece_within : (domain : ℕ → Bool) (map : List Status) (sector from pos size : ℕ)
+    → IsPiece (compared_in domain map) sector from pos (pos + size) → pos + size ≤ length map
+piece_within domain map sector from pos zero piece =
+    let here : pos < length map = compared_within domain map pos piece.first.holds in omega (arith, here)
+piece_within domain map sector from pos (suc n) piece =
+    let last : pos + n < length map =
+    compared_within domain map (pos + n) (piece.range.within (pos + n) (omega arith) (omega (arith, piece.ends))) in
+    omega (arith, last)
+
+pieces_within : (domain : ℕ → Bool) (map : List Status) (sector from : ℕ) (looks : List Look)
+    → AskForPieces (compared_in domain map) sector from (reads_of looks) → AreWithin map looks
+pieces_within domain map sector from [] asks = All-nil (IsWithin map)
+pieces_within domain map sector from (l ∷ looks) asks =
+    All-cons (IsWithin map) l looks (piece_within domain map sector from l.read.pos l.read.asked asks.0)
+    (pieces_within domain map sector (l.read.pos + l.read.asked) looks asks.1)
+
+pub looks_within : LooksAreWithin
+looks_within c o e d v =
+    pieces_within (domain_asked c.options o.end) v.statuses c.options.sector 0 o.looks v.compares.asks
 
 -- ---- what is finished
 

@@ -75,6 +75,11 @@ NoneIsReadTwice = (c : Command) (o : Outside) (e : VerifyEnding) (d : Deeds) (x 
 abbrev pub AreWithin : List Status → List Look → Type 0
 AreWithin statuses looks = All (λ l. l.read.pos + l.read.asked ≤ length statuses) looks
 
+-- The pieces that a call looks at end within the map that its mapfile stands for.
+abbrev pub LooksAreWithin : Type 0
+LooksAreWithin = (c : Command) (o : Outside) (e : VerifyEnding) (d : Deeds)
+    (v : Verifies c o.line o.found o.end o.looks e d) → AreWithin v.statuses o.looks
+
 -- The map after looks has `?` at each position of a piece that differs, and everywhere else what it had.
 abbrev pub JudgedIsByPosition : Type 0
 JudgedIsByPosition = (statuses : List Status) (looks : List Look) → AreWithin statuses looks

@@ -1,6 +1,6 @@
 //! What the promise means.
-ghost use Rattle.ddrescueverify_cli.specs.Laws.{HasOneVerdict, IsComparedUnless, JudgedIsByPosition, NoneIsReadTwice};
-ghost use Rattle.ddrescueverify_cli.specs.Laws.{NothingBecomesFinished, SavedIsVerified, VerifyKeepsPromises};
+ghost use Rattle.ddrescueverify_cli.specs.Laws.{HasOneVerdict, IsComparedUnless, JudgedIsByPosition, LooksAreWithin};
+ghost use Rattle.ddrescueverify_cli.specs.Laws.{NoneIsReadTwice, NothingBecomesFinished, SavedIsVerified, VerifyKeepsPromises};
 
 /// `ddrescueverify` keeps what every program promises.
 pub fn promises_are_kept()
@@ -25,6 +25,11 @@ pub fn comparisons_have_one_verdict()
 /// A call asks for each position of the input by one read at most.
 pub fn none_is_read_twice()
     ensures { NoneIsReadTwice }
+{}
+
+/// The pieces that a call looks at end within the map that its mapfile stands for, so the two laws below are about it.
+pub fn looks_are_within()
+    ensures { LooksAreWithin }
 {}
 
 /// The map after looks has `?` at each position of a piece that differs, and everywhere else what it had.
