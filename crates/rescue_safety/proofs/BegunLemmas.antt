@@ -141,7 +141,7 @@ module _ (sector : ℕ) (x : ℕ) where
       (λ (off : covers sector r x ≡ false). cond-false (covers sector r x) (slice_get r.given (x - r.pos)) None off)
       (cases_Bool (covers sector r x))
 
-  begun_zero : (rs : List Reading) → begun zero rs ≡ None
+  pub begun_zero : (rs : List Reading) → begun zero rs ≡ None
   begun_zero [] = refl
   begun_zero (r ∷ rs) = refl
 
@@ -180,7 +180,7 @@ module _ (s : Setting) (ok : IsSensible s) (x : ℕ) where
   write_counted true pos piece es = refl
   write_counted false pos piece es = count_step is_write (Done (image_write pos piece)) es ∙ omega arith
 
-  write_unpublished : (none : Bool) (pos : ℕ) (piece : List ℕ)
+  pub write_unpublished : (none : Bool) (pos : ℕ) (piece : List ℕ)
       → published (map Done (if none then [] else image_write pos piece ∷ [])) ≡ 0
   write_unpublished true pos piece = refl
   write_unpublished false pos piece = refl

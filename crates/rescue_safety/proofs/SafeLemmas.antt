@@ -137,7 +137,7 @@ module _ (r : Rescue) where
       sym gained.seen_are ∙ ap (λ (o : Option (List Status)). seen_through o gained.raw) is
       ∙ ap (seen_through test) (sym raw_are)
 
-  untested : c.test_map ≡ None → g.reads ≡ r.did.reads
+  pub untested : c.test_map ≡ None → g.reads ≡ r.did.reads
   untested none = seen_by None (p.agrees.asked_maps.test none)
 
   test_file : (name : List ℕ) → c.test_map ≡ Some name → w.found.test ≡ files_at_first r name
@@ -191,7 +191,7 @@ module _ (r : Rescue) where
     stop = record { k = k; files = files; within = le; left = left }
 
     -- after the barrier it keeps its promise over an output that could be before
-    over : has_barrier (take k g.calls) ≡ true → KeepsOver (λ began state. saves_of s began state g)
+    pub over : has_barrier (take k g.calls) ≡ true → KeepsOver (λ began state. saves_of s began state g)
         (λ old began state number map image. Held s g.reads old map image) true b s g.calls k files
     over is = safe.past stop is
 

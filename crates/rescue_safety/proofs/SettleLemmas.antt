@@ -26,11 +26,11 @@ use Rattle.rescue_safety.proofs.QuietLemmas.{SavesNone}
 use Rattle.rescue_safety.proofs.BegunLemmas.{Past, cut_split, count_both, count_step, cut_published, save_published}
 use Rattle.rescue_safety.proofs.ThenLemmas.{still_published}
 
-abbrev settled : List Entry → ℕ
+abbrev pub settled : List Entry → ℕ
 settled es = count_by is_settle es
 
 -- each part of these calls publishes at most n times more than it settles
-abbrev Exceeds : ℕ → List Call → Type 0
+abbrev pub Exceeds : ℕ → List Call → Type 0
 Exceeds n cs = (es : List Entry) → Cut cs es → published es ≤ n + settled es
 
 none_exceed : (n : ℕ) → Exceeds n []
@@ -53,7 +53,7 @@ still_exceed n more cs ds none few rest es cut =
     ) in le)
     (cut_split cs ds es cut)
 
-save_settled : (names : MapNames) (text : List ℕ) → 1 ≤ settled (map Done (save_calls names text))
+pub save_settled : (names : MapNames) (text : List ℕ) → 1 ≤ settled (map Done (save_calls names text))
 save_settled names text =
     let fill : List Call = fill_calls text in
     let end : List Call = draft_sync ∷ draft_publish names.map ∷ map_settle names.map ∷ [] in
@@ -107,20 +107,20 @@ none_before : (es fs : List Entry) → es ++ fs ≡ [] → es ≡ []
 none_before [] fs is = refl
 none_before (e ∷ es) fs is = absurd (cc)
 
-cut_before : (cs : List Call) (es fs : List Entry) → Cut cs (es ++ fs) → Cut cs es
+pub cut_before : (cs : List Call) (es fs : List Entry) → Cut cs (es ++ fs) → Cut cs es
 cut_before cs [] fs cut = tt
 cut_before [] (e ∷ es) fs cut = absurd cut
 cut_before (c ∷ cs) (Done x ∷ es) fs cut = (cut.0, cut_before cs es fs cut.1)
 cut_before (c ∷ cs) (Failed x steps ∷ es) fs cut = (cut.0, none_before es fs cut.1)
 
 module _ (s : Setting) (began : List Status) (state : Option MapState) (g : Gain) (made : Made s began state g) where
-  abbrev load : List Call
+  abbrev pub load : List Call
   load = reads_of s made.given made.at made.answer
 
-  abbrev all : List Call
+  abbrev pub all : List Call
   all = made.maps ++ (opening_by s true ++ (reads_of s made.given made.at made.answer ++ calls_of_run s began state g))
 
-  all_exceed : Exceeds 0 all
+  pub all_exceed : Exceeds 0 all
   all_exceed =
       still_exceed 0 0 made.maps (opening_by s true ++ (load ++ calls_of_run s began state g))
       (still_published made.maps (reads_still made.maps made.are_reads)) (omega arith)

@@ -43,7 +43,7 @@ use Rattle.rescue_safety.proofs.ByThenLemmas.{unwritten_both, all_unwritten, run
 abbrev pub IsDry : Call → Type 0
 IsDry c = is_write (Done c) ≡ false
 
-dry_count : (cs : List Call) → All IsDry cs → writes_in (map Done cs) ≡ 0
+pub dry_count : (cs : List Call) → All IsDry cs → writes_in (map Done cs) ≡ 0
 dry_count [] dry = refl
 dry_count (c ∷ cs) dry =
     let rest : writes_in (map Done cs) ≡ 0 = dry_count cs (All-tail IsDry c cs dry) in
@@ -103,7 +103,7 @@ module _ (s : Setting) (began : List Status) (state : Option MapState) (g : Gain
   front_dry : writes_in (map Done front) ≡ 0
   front_dry = dry_count front all_dry
 
-  front_still : published (map Done front) ≡ 0
+  pub front_still : published (map Done front) ≡ 0
   front_still =
       still_published front (All-append IsStill made.maps (opening_by s true ++ load) (reads_still made.maps made.are_reads)
       (All-append IsStill (opening_by s true) load (opening_still s true) (load_still s made.given made.at made.answer)))
@@ -114,7 +114,7 @@ module _ (s : Setting) (began : List Status) (state : Option MapState) (g : Gain
       (All-append (Spares y) (opening_by s true) load (opening_spares s y) (load_spares s y made.given made.at made.answer))
 
   -- the first calls are a part of the front, or go past it
-  parts : (k : ℕ) → Cut front (take k g.calls) ⊎ Past front run_calls (take k g.calls)
+  pub parts : (k : ℕ) → Cut front (take k g.calls) ⊎ Past front run_calls (take k g.calls)
   parts k =
       cut_split front run_calls (take k g.calls)
       (subst (λ (l : List Call). Cut l (take k g.calls))
@@ -122,12 +122,12 @@ module _ (s : Setting) (began : List Status) (state : Option MapState) (g : Gain
       ∙ ap (λ (l : List Call). made.maps ++ l) (append_assoc (opening_by s true) load run_calls)))
       (cut_take k (made.maps ++ (opening_by s true ++ (load ++ run_calls))) g.calls made.cut))
 
-  past_writes : (part : List Entry) (c : Past front run_calls part) → writes_in part ≡ writes_in c.rest
+  pub past_writes : (part : List Entry) (c : Past front run_calls part) → writes_in part ≡ writes_in c.rest
   past_writes part c =
       ap writes_in c.is ∙ count_both is_write (map Done front) c.rest
       ∙ ap (λ (n : ℕ). n + writes_in c.rest) front_dry ∙ omega arith
 
-  past_published : (part : List Entry) (c : Past front run_calls part) → published part ≡ published c.rest
+  pub past_published : (part : List Entry) (c : Past front run_calls part) → published part ≡ published c.rest
   past_published part c =
       ap published c.is ∙ count_both is_publish (map Done front) c.rest
       ∙ ap (λ (n : ℕ). n + published c.rest) front_still ∙ omega arith

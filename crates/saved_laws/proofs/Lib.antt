@@ -1,0 +1,16 @@
+mod NothingLost
+mod SavedLemmas
+mod ChainKept
+mod EndedLemmas
+mod EndFinished
+mod FailedLemmas
+mod TriedKept
+mod StaysTried
+mod EndTried
+mod LossLemmas
+mod LossTried
+mod LossBounded
+mod BarrierFirst
+mod CountedKept
+mod GrowLemmas
+mod ExampleLemmas

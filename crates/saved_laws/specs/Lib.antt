@@ -1,0 +1,4 @@
+pub mod Failed
+pub mod Dues
+pub mod Laws
+pub mod Examples

@@ -1,0 +1,64 @@
+//! What the definitions mean.
+ghost use Rattle.saved_laws.specs.Examples.{SavesWhatIsOld};
+ghost use Rattle.saved_laws.specs.Laws.{BadWasAsked, ChainKeepsSaved, FailedIsKept, FailedWasAsked, FinishedAtEnd, LossIsBounded, NothingSavedIsLost, ReturnedSavesKeep, SavesOnlyGrow, TriedAtEnd, TriedIsKept};
+
+/// What reads gave whose bytes had begun to be written before a save that returned, every later stop finds finished.
+pub fn nothing_saved_is_lost()
+    ensures { NothingSavedIsLost }
+{}
+
+/// If its answer names no failed call, each stop after a rescue's end finds finished all that reads gave.
+pub fn finished_at_end()
+    ensures { FinishedAtEnd }
+{}
+
+/// If its answer names no failed call, each stop after a rescue's end finds tried all that reads asked for in vain.
+pub fn tried_at_end()
+    ensures { TriedAtEnd }
+{}
+
+/// By the clock's readings, a stop costs at most what reads gave in half a minute, and the last three reads.
+pub fn loss_is_bounded()
+    ensures { LossIsBounded }
+{}
+
+/// What reads gave, every stop finds finished once more saves have returned than came due in these reads.
+pub fn returned_saves_keep()
+    ensures { ReturnedSavesKeep }
+{}
+
+/// What a mapfile found calls bad, the one from before did, or a read asked for it in vain.
+pub fn bad_was_asked()
+    ensures { BadWasAsked }
+{}
+
+/// What a mapfile found calls failed, the one from before did, or a read asked for it in vain.
+pub fn failed_was_asked()
+    ensures { FailedWasAsked }
+{}
+
+/// What a read asked for in vain, if it or a later one had begun to be written before a save that returned, every later
+/// stop finds tried.
+pub fn failed_is_kept()
+    ensures { FailedIsKept }
+{}
+
+/// What the mapfile from before marks as tried, every stop past the barrier finds tried, if it isn't to be tried again.
+pub fn tried_is_kept()
+    ensures { TriedIsKept }
+{}
+
+/// What a stop finds finished, each stop finds finished once a further save has returned.
+pub fn saves_only_grow()
+    ensures { SavesOnlyGrow }
+{}
+
+/// What one run of a chain gave before a save that returned, each stop after the chain finds finished.
+pub fn a_chain_keeps_what_is_saved()
+    ensures { ChainKeepsSaved }
+{}
+
+/// A run whose clock goes on by 40 seconds saves what is older.
+pub fn it_saves_what_is_old()
+    ensures { SavesWhatIsOld }
+{}
