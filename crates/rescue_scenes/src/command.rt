@@ -58,6 +58,8 @@ pub(crate) enum Command {
     Text(String),
     /// The readings of the clock of each later run, in milliseconds.
     Clock(Vec<u64>),
+    /// The same by the number of reads so far, which each line then begins with.
+    Paced(Vec<u64>),
     /// The numbers of calls that fail.
     Fail(Object, Vec<u64>),
     /// What the next run of ddrescuelog takes from its feed.
@@ -103,6 +105,7 @@ pub(crate) fn read_command(alloc: Global, line: &[u8]) -> Result<Command, Refusa
         "other" => read_file(fields, false),
         "text" => read_text_file(fields),
         "clock" => Ok(Command::Clock(take_numbers(fields)?)),
+        "paced" => Ok(Command::Paced(take_numbers(fields)?)),
         "feed" => Ok(Command::Feed(read_bytes(fields)?)),
         "fail" => read_fail(fields),
         "run" => Ok(Command::Run(take_words(fields)?)),

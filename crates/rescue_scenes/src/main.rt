@@ -8,6 +8,7 @@ mod drawn;
 mod fields;
 mod files;
 mod kinds;
+mod paced;
 mod part;
 mod planned;
 mod player;

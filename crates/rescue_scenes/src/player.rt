@@ -121,7 +121,11 @@ impl Player {
             } => self.scene.put_file(name.as_str(), &bytes, regular),
             Command::Text(name) => self.begin_text(name),
             Command::Clock(readings) => {
-                self.scene.set_clock(readings);
+                self.scene.set_clock(readings, false);
+                Ok(())
+            }
+            Command::Paced(readings) => {
+                self.scene.set_clock(readings, true);
                 Ok(())
             }
             Command::Feed(bytes) => self.scene.set_feed(bytes),

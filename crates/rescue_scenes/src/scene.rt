@@ -6,6 +6,7 @@ use crate::blocks::{append_blocks, append_maps};
 use crate::command::{Object, Stops, View};
 use crate::drawn::draw;
 use crate::kinds::{KINDS, Left};
+use crate::paced::{PacedClock, PacedConsole, PacedSource};
 use crate::part::play_part;
 use crate::planned::plan;
 use crate::refusal::Refusal;
@@ -23,7 +24,9 @@ use memory_site::memory::MemorySite;
 use memory_source::memory::MemorySource;
 use option_words::words::Words;
 use std::alloc::Global;
+use std::cell::Cell;
 use std::io::Write;
+use std::rc::Rc;
 use task_files::ending::Ending;
 
 /// The most files that a scene puts there.
@@ -39,6 +42,8 @@ pub(crate) struct Scene {
     site: MemorySite,
     /// The readings of the clock of each run.
     clock: Vec<u64>,
+    /// Whether these go by the number of reads so far, which each line then begins with.
+    paced: bool,
     /// The calls of the next run's console that fail.
     silent: Vec<u64>,
     /// What the next run of ddrescuelog takes from its feed.
@@ -51,9 +56,8 @@ pub(crate) struct Scene {
     files: usize,
 }
 
-/// Runs a rescue with a clock of these readings.
-/// If it finds no memory there is no answer: a scene can't ask for that.
-fn rescue(
+/// Runs a rescue with a clock that reads by the number of reads so far.
+fn rescue_paced(
     alloc: Global,
     words: &Words,
     source: &mut MemorySource,
@@ -63,9 +67,33 @@ fn rescue(
 ) -> Result<Ending, Refusal>
     requires { (state_of site.old).is_drafting ≡ false }
 {
-    let mut clock = MemoryClock::new(Vec::from_slice(alloc, readings)?);
+    let reads = Rc::new(alloc, Cell::new(0))?;
+    let mut paced = PacedSource::new(source, reads.clone()?);
+    let mut clock = PacedClock::new(readings, reads.clone()?);
+    let mut said = PacedConsole::new(console, reads);
+    Ok(ddrescue(alloc, words, &mut paced, site, &mut clock, &mut said))
+}
+
+/// Runs a rescue with a clock of these readings, which may go by the number of reads.
+/// If it finds no memory there is no answer: a scene can't ask for that.
+fn rescue(
+    alloc: Global,
+    words: &Words,
+    source: &mut MemorySource,
+    site: &mut MemorySite,
+    readings: &[u64],
+    paced: bool,
+    console: &mut MemoryConsole,
+) -> Result<Ending, Refusal>
+    requires { (state_of site.old).is_drafting ≡ false }
+{
     let starved = site.starved();
-    let ending = ddrescue(alloc, words, source, site, &mut clock, console);
+    let ending = if paced {
+        rescue_paced(alloc, words, source, site, readings, console)?
+    } else {
+        let mut clock = MemoryClock::new(Vec::from_slice(alloc, readings)?);
+        ddrescue(alloc, words, source, site, &mut clock, console)
+    };
     if matches!(ending, Ending::NoMemory) || site.starved() > starved || console.starved() > 0 {
         return Err(Refusal::NoMemory);
     }
@@ -99,6 +127,7 @@ impl Scene {
             source: None,
             site: MemorySite::new(alloc),
             clock: Vec::new(alloc),
+            paced: false,
             silent: Vec::new(alloc),
             feed: Vec::new(alloc),
             unread: Vec::new(alloc),
@@ -174,8 +203,9 @@ impl Scene {
     }
 
     /// Sets the readings of the clock of each later run.
-    pub(crate) fn set_clock(&mut self, readings: Vec<u64>) {
+    pub(crate) fn set_clock(&mut self, readings: Vec<u64>, paced: bool) {
         self.clock = readings;
+        self.paced = paced;
     }
 
     fn fail_site_calls(&mut self, numbers: &[u64]) -> Result<(), Refusal> {
@@ -239,6 +269,7 @@ impl Scene {
             &mut source,
             &mut self.site,
             &self.clock,
+            self.paced,
             &mut console,
         )?;
         self.silent.clear();
@@ -390,6 +421,7 @@ impl Scene {
             &mut source,
             &mut site,
             &[],
+            false,
             &mut console,
         )?;
         let reads = source.journal().len();
