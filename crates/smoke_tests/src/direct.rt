@@ -96,18 +96,3 @@ fn a_room_that_is_refused_everywhere_is_shut(rt: HostRuntime) -> Result<(), Fail
     }
     Ok(())
 }
-
-#[test]
-fn no_more_than_the_front_is_the_end(rt: HostRuntime) -> Result<(), Fail> {
-    let mut room = room(&rt)?;
-    let mut disk = Disk {
-        refuses: 0,
-        fails: 0,
-        gives: 100,
-        calls: 0,
-    };
-    let mut buf = [0u8; 50];
-    let given = room.read(&mut disk, 512, 100, &mut buf);
-    assert_eq!(rt; given.ok(), Some(0));
-    Ok(())
-}

@@ -8,23 +8,10 @@ use std::test::Fail;
 use std::{env, fs, io, process};
 
 /// A name in the folder for temporary files that is this process's own.
-fn own_name(rt: &HostRuntime, word: &str) -> io::Result<PathBuf> {
+pub(crate) fn own_name(rt: &HostRuntime, word: &str) -> io::Result<PathBuf> {
     let name = format!(in rt.alloc(); "smoke_{}_{word}", process::id(rt.process()))?;
     let path = env::temp_dir(rt)?.join(rt.alloc(), name.as_str())?;
     Ok(path)
-}
-
-#[test]
-fn a_file_is_read_at_a_place(rt: HostRuntime) -> Result<(), Fail> {
-    let path = own_name(&rt, "source")?;
-    fs::write(&rt, &path, "abcdef")?;
-    let mut source = FileSource::new(rt.clone()?);
-    let mut buf = [0; 8];
-    assert_eq!(rt; source.open_input(path.as_path().as_str())?, 6);
-    assert_eq!(rt; source.read_at(2, &mut buf)?, Got::End(4));
-    assert_eq!(rt; buf, *b"cdef\0\0\0\0");
-    fs::remove_file(&rt, &path)?;
-    Ok(())
 }
 
 #[test]

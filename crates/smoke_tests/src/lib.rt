@@ -1,5 +1,5 @@
-//! One small test for each form of real files, of the standard streams and of the clock, and some of maps of many
-//! blocks. No other crate has tests: the gate proves a crate that has some twice.
+//! A run over real files, small tests of what no program asks of them, two of maps of many blocks, and one of files in
+//! memory. No other crate has tests: the gate proves a crate that has some twice.
 #![tactic(auto)]
 
 #[cfg(test)]
@@ -9,4 +9,6 @@ mod files;
 #[cfg(test)]
 mod maps;
 #[cfg(test)]
-mod system;
+mod runs;
+#[cfg(test)]
+mod stops;

@@ -1,19 +1,15 @@
 //! A map in pages, beside a plain list.
-ghost use Rattle.std.specs.Prelude.{◌≡◌, ◌<◌, ◌^◌};
+ghost use Rattle.std.specs.Prelude.{◌<◌, ◌^◌};
 
 use block_list::block::{Block, Range};
 use block_list::near::Near;
-use block_list::plain_tiles::{PlainTiles, PushError};
+use block_list::plain_tiles::PlainTiles;
 use block_list::status::Status;
 use block_list::tiles::Tiles;
 use paged_blocks::paged_tiles::PagedTiles;
-use paged_blocks::steps::Steps;
 use std::alloc::Global;
-use std::marker::Brand;
 use std::process::Abort;
-use std::sync::ledger::{Blank, Ledger};
 use std::test::Fail;
-use task_files::load::start_fresh;
 
 /// A map of blocks of one sector of 512 bytes, finished ones and bad ones in turn.
 fn in_turn(alloc: Global, blocks: u64) -> Result<PlainTiles, Fail> {
@@ -32,105 +28,6 @@ fn in_turn(alloc: Global, blocks: u64) -> Result<PlainTiles, Fail> {
         })?;
     }
     Ok(tiles)
-}
-
-#[test]
-fn a_mark_joins_its_neighbors(rt: HostRuntime) -> Result<(), Fail> {
-    let mut tiles = PagedTiles::from_plain(rt.alloc(), &in_turn(rt.alloc(), 200)?)?;
-    assert_eq!(rt; tiles.blocks(), 200);
-    let finished = Block {
-        pos: 76_800,
-        size: 512,
-        status: Status::Finished,
-    };
-    assert_eq!(rt; tiles.block(150), finished);
-    assert_eq!(rt; tiles.find_forward(0, Status::NonTried), None);
-    tiles.reserve(2)?;
-    assert!(rt; 52_224 <= tiles.end());
-    tiles.set(51_712, 512, Status::Finished);
-    assert_eq!(rt; tiles.blocks(), 198);
-    let joined = Block {
-        pos: 51_200,
-        size: 1_536,
-        status: Status::Finished,
-    };
-    assert_eq!(rt; tiles.block(100), joined);
-    assert!(rt; 51_712 < tiles.end());
-    assert_eq!(rt; tiles.stretch_at(51_712), joined);
-    Ok(())
-}
-
-/// What is found forwards when the steps are counted.
-fn found_counted<L: Ledger>(
-    tiles: &PagedTiles,
-    from: u64,
-    status: Status,
-    blank: Blank,
-) -> Option<Range>
-    requires name { blank.name ≡ L.name }
-    requires parts { blank.parts ≡ L.parts }
-    requires one { 0 < blank.parts }
-{
-    let mut steps = Steps::<L>::new(blank);
-    tiles.find_forward_counted(from, status, &mut steps)
-}
-
-#[test]
-fn steps_are_counted(rt: HostRuntime) -> Result<(), Fail> {
-    let tiles = PagedTiles::from_plain(rt.alloc(), &in_turn(rt.alloc(), 200)?)?;
-    let none = found_counted::<Brand>(&tiles, 0, Status::NonTried, Blank::new(1));
-    assert_eq!(rt; none, None);
-    Ok(())
-}
-
-// What a rescue begins with is a map in pages: with one of another type this doesn't compile.
-#[test]
-fn a_run_has_pages(rt: HostRuntime) -> Result<(), Fail> {
-    let pages: PagedTiles = start_fresh(rt.alloc(), 1_024)?.tiles;
-    assert_eq!(rt; pages.blocks(), 1);
-    Ok(())
-}
-
-#[test]
-fn a_list_has_no_gap_and_no_overlap(rt: HostRuntime) -> Result<(), Fail> {
-    let mut tiles = PlainTiles::new(rt.alloc());
-    let first = Block {
-        pos: 0,
-        size: 512,
-        status: Status::Finished,
-    };
-    tiles.push(first)?;
-    let status = Status::NonTried;
-    let after = Block {
-        pos: 768,
-        size: 1,
-        status,
-    };
-    assert_eq!(rt; tiles.push(after), Err(PushError::Gap { at: 512 }));
-    let within = Block {
-        pos: 256,
-        size: 1,
-        status,
-    };
-    assert_eq!(rt; tiles.push(within), Err(PushError::Overlap { at: 512 }));
-    let empty = Block {
-        pos: 512,
-        size: 0,
-        status,
-    };
-    assert_eq!(rt; tiles.push(empty), Ok(()));
-    assert_eq!(rt; tiles.blocks(), 1);
-    assert_eq!(rt; tiles.block(0), first);
-    assert_eq!(rt; tiles.end(), 512);
-    Ok(())
-}
-
-#[test]
-fn an_empty_map_has_no_block(rt: HostRuntime) -> Result<(), Fail> {
-    let tiles = PagedTiles::from_plain(rt.alloc(), &PlainTiles::new(rt.alloc()))?;
-    assert_eq!(rt; tiles.blocks(), 0);
-    assert_eq!(rt; tiles.end(), 0);
-    Ok(())
 }
 
 /// Whether a search from a block's ends finds that block, in either direction.

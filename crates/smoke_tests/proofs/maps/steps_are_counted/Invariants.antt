@@ -1,4 +1,0 @@
-use Rattle.smoke_tests.proofs.maps.steps_are_counted.Given as goal
-
-abbrev pub ghosts-found_counted : goal.ghosts-found_counted
-ghosts-found_counted g a = record { name = a.blank.name; parts = a.blank.parts }
