@@ -1,6 +1,6 @@
 # SPDX-License-Identifier: Apache-2.0
 # The usual ways into the repository. `make` proves and builds the programs, and `make bin/ddrescue` one of them, with a
-# proof on each processor (`make -j2` takes two). An interrupted build goes on where it was. `make scenes` builds the
+# proof on each processor (`make -j2` takes two). An interrupted build resumes where it was. `make scenes` builds the
 # player of scenes, and `make check` runs the gate. `make install` puts the programs that are in bin/, their manual pages,
 # completions of bash and zsh, and the documents for users in place, and `make uninstall` takes them away. Neither proves
 # or builds anything. `make dist` and `make deb` pack what `make install` installs, as a tarball and as a package for
@@ -31,7 +31,7 @@ all: $(PROGRAMS:%=bin/%)
 
 scenes: bin/rescue_scenes
 
-# What each crate stands on, as crates.txt has it: libraries of the repository (`own_NAME`) and of the kit (`kit_NAME`).
+# What each crate uses, as crates.txt has it: libraries of the repository (`own_NAME`) and of the kit (`kit_NAME`).
 CRATES := $(shell sed -n 's/^\([a-z0-9_]*\):.*/\1/p' crates.txt)
 $(foreach crate,$(CRATES),$(eval needs_$(crate) := $(shell sed -n 's/^$(crate)://p' crates.txt)) \
     $(eval own_$(crate) := $(filter $(CRATES),$(needs_$(crate)))) \
