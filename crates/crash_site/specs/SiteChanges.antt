@@ -1,10 +1,10 @@
 -- What a call does to the state of a site, and the state in which a site in memory begins.
 use Rattle.std.specs.Prelude.{◌≡◌, ◌⊎◌, ⊤, ℕ, ◌≤◌, Bool, true, false, IsTrue, List, [], ◌∷◌, ◌++◌, Option, None, Result, is_ok, OnOk, OnErr, IsErr}
 use Rattle.fault_count.specs.Counts.{Rose, raised}
-use Rattle.fault_count.specs.Schedule.{no_schedule, with_call, FailsNext}
+use Rattle.fault_count.specs.Schedule.{Schedule, no_schedule, with_call, FailsAfter, FailsNext}
 use Rattle.crash_site.specs.declared.site.SiteCall.{SiteCall}
 use Rattle.crash_site.specs.Files.{File}
-use Rattle.crash_site.specs.Calls.{Call, Done, Failed, image_open, draft_begin, draft_publish}
+use Rattle.crash_site.specs.Calls.{Call, Entry, Done, Failed, image_open, draft_begin, draft_publish}
 use Rattle.crash_site.specs.CallsMade.{Lost, Made, BrokeAt}
 use Rattle.crash_site.specs.SiteState.{SiteState}
 
@@ -56,14 +56,18 @@ abbrev pub KeepsOpen : Call → (before now : Bool) → Type 0
 KeepsOpen (image_open name make) before now = ⊤
 KeepsOpen call before now = now ≡ before
 
--- What a call leaves of a schedule: it fails if its number is one of those that fail, and is listed as failed without any
--- step; or if it finds no memory, which is counted, and isn't listed.
+-- Why a call failed: the schedule has it fail after some steps, and it is listed with these. Or it found no memory, which
+-- is counted, and isn't listed.
+abbrev pub FailsBy : Schedule → (starved starved' : ℕ) → Call → (calls calls' : List Entry) → Type 0
+FailsBy schedule starved starved' call calls calls' =
+    ((steps : ℕ) × FailsAfter schedule steps × (starved' ≡ starved) × (calls' ≡ calls ++ Failed call steps ∷ []))
+    ⊎ ((starved' ≡ raised starved) × (calls' ≡ calls))
+
+-- what a call leaves of a schedule: it fails if its number is one of those that fail
 pub record KeepsSchedule {T E : Type 0} (call : Call) (result : Result T E) (old new : SiteState) : Type 0 where
   pub schedule : new.schedule ≡ with_call old.schedule
   pub fails : FailsNext old.schedule → IsErr result
-  pub why : OnErr result
-      ((FailsNext old.schedule × (new.starved ≡ old.starved) × (new.calls ≡ old.calls ++ Failed call 0 ∷ []))
-      ⊎ ((new.starved ≡ raised old.starved) × (new.calls ≡ old.calls)))
+  pub why : OnErr result (FailsBy old.schedule old.starved new.starved call old.calls new.calls)
   pub fed : OnOk result (new.starved ≡ old.starved)
 
 -- what each call does, by its outcome

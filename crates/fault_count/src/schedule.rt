@@ -1,14 +1,14 @@
 //! Which calls of a form in memory are to fail.
-ghost use Rattle.std.specs.Prelude.{◌≡◌, ◌↔◌, IsTrue, OnOk, OnErr};
-ghost use Rattle.fault_count.specs.Schedule.{no_schedule, with_call, with_failing, FailsNext};
+ghost use Rattle.std.specs.Prelude.{◌≡◌, ◌↔◌, IsTrue, OnOk, OnErr, MatchOption};
+ghost use Rattle.fault_count.specs.Schedule.{no_schedule, with_call, with_failing, with_failing_after, FailsAfter, FailsNext};
 
 use std::alloc::{AllocError, Global};
 use std::marker::Model;
 
-/// Which calls of an object in memory are to fail, and how many were made.
+/// Which calls of an object in memory are to fail, after how many of their steps, and how many calls were made.
 #[derive(Drop)]
 pub struct FaultSchedule {
-    failing: Vec<u64>,
+    failing: Vec<(u64, u64)>,
     made: u64,
 }
 
@@ -36,7 +36,15 @@ impl FaultSchedule {
         ensures added { OnOk result (self.new ≡ with_failing number self.old) }
         ensures kept { OnErr result (self.new ≡ self.old) }
     {
-        self.failing.push(number)?;
+        self.fail_call_after(number, 0)
+    }
+
+    /// Has the call with this number fail after some of its steps, counted from 1 over all calls.
+    pub fn fail_call_after(&mut self, number: u64, steps: u64) -> Result<(), AllocError>
+        ensures added { OnOk result (self.new ≡ with_failing_after number steps self.old) }
+        ensures kept { OnErr result (self.new ≡ self.old) }
+    {
+        self.failing.push((number, steps))?;
         Ok(())
     }
 
@@ -45,7 +53,20 @@ impl FaultSchedule {
         ensures counted { self.new ≡ with_call self.old }
         ensures fails { IsTrue result ↔ FailsNext self.old }
     {
+        self.count_steps().is_some()
+    }
+
+    /// Counts a call, and answers how many steps it makes before it fails, if it is to fail.
+    pub fn count_steps(&mut self) -> Option<u64>
+        ensures counted { self.new ≡ with_call self.old }
+        ensures fails { MatchOption result (FailsNext self.old → ⊥) (λ steps. FailsAfter self.old steps) }
+    {
         self.made = self.made.saturating_add(1);
-        self.failing.contains(&self.made)
+        for (number, steps) in &self.failing {
+            if *number == self.made {
+                return Some(*steps);
+            }
+        }
+        None
     }
 }

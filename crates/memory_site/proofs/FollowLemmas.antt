@@ -1,12 +1,14 @@
 -- Files in memory follow what was told of them, call by call.
-use Rattle.std.proofs.Common.{◌≡◌, inl, inr, ℕ, Bool, true, false, List, [], ◌∷◌, ◌++◌, Option, Some, None, is_some, Result, Ok, Err, IfOk, OnOk, OnErr, IsErr, refl, sym, ◌∙◌, ap, subst}
+use Rattle.std.proofs.Common.{◌≡◌, inl, inr, ℕ, zero, suc, ◌-◌, Bool, true, false, List, [], ◌∷◌, ◌++◌, take, Option, Some, None, is_some, Result, Ok, Err, IfOk, OnOk, OnErr, IsErr, refl, sym, ◌∙◌, ap, subst}
 use Rattle.std.specs.Bool.{⊤}
-use Rattle.crash_site.specs.Files.{File, empty_file, bytes_of, put, written_file}
+use Rattle.memory_site.specs.declared.memory.memory_folder.MemoryFolder.{MemoryFolder}
+use Rattle.crash_site.specs.Files.{File, empty_file, bytes_of, draft_of, put, written_file}
 use Rattle.crash_site.specs.Calls.{Call, Entry, Done, Failed, image_open, image_read, image_write, image_sync, map_read, draft_begin, draft_append, draft_sync, draft_publish, map_settle, map_remove}
 use Rattle.crash_site.specs.CallsMade.{unanswered}
 use Rattle.memory_site.specs.CallLog.{Missed}
-use Rattle.crash_site.specs.Folder.{Folder, opened, with_piece, appended, published, after_done, after_failed, after_entry, after}
+use Rattle.crash_site.specs.Folder.{Folder, opened, with_piece, appended, published, after_done, if_any, with_draft_of, after_failed, after_entry, after}
 use Rattle.memory_site.specs.Follows.{Follows}
+use Rattle.memory_site.specs.MemoryFolder.{folder_of}
 
 after_more : (d : Folder) (es : List Entry) (e : Entry) → after d (es ++ e ∷ []) ≡ after_entry (after d es) e
 after_more d [] e = refl
@@ -102,28 +104,72 @@ follows_no_draft f g a h files image none = record {
   draft = λ n e. absurd (let no : None ≡ Some n = sym none ∙ e in cc);
 }
 
--- no image is open where a failed call closes one, and no draft begun where one ends it
-abbrev pub IsClosed : Folder → Call → Type 0
-IsClosed f (image_open name make) = f.image ≡ None
-IsClosed f (draft_begin name) = f.draft ≡ None
-IsClosed f (draft_publish name) = f.draft ≡ None
-IsClosed f _ = ⊤
+-- A call that failed is followed step by step.
 
-follows_failed : (f a : Folder) (call : Call) → IsClosed f call → Follows f a → Follows f (after_failed a call 0)
-follows_failed f a (image_open name make) none h =
-    record { files = h.files; image = λ n e. absurd (let no : None ≡ Some n = sym none ∙ e in cc); draft = h.draft }
-follows_failed f a (image_read pos asked answer) _ h = h
-follows_failed f a (image_write pos piece) _ h = h
-follows_failed f a image_sync _ h = h
-follows_failed f a (map_read name pos asked answer) _ h = h
-follows_failed f a (draft_begin name) none h =
-    record { files = h.files; image = h.image; draft = λ n e. absurd (let no : None ≡ Some n = sym none ∙ e in cc) }
-follows_failed f a (draft_append piece) _ h = h
-follows_failed f a draft_sync _ h = h
-follows_failed f a (draft_publish name) none h =
-    record { files = h.files; image = h.image; draft = λ n e. absurd (let no : None ≡ Some n = sym none ∙ e in cc) }
-follows_failed f a (map_settle name) _ h = h
-follows_failed f a (map_remove name) _ h = h
+any_as : (steps : ℕ) (made made' before before' : List ℕ → Option File) → made ≡ made' → before ≡ before'
+    → if_any steps made before ≡ if_any steps made' before'
+any_as zero made made' before before' m b = b
+any_as (suc n) made made' before before' m b = m
+
+-- an image is open, or a draft begun, if this call writes to it
+abbrev pub IsOpen : Folder → Call → Type 0
+IsOpen f (image_write pos piece) = is_some f.image ≡ true
+IsOpen f (draft_append piece) = is_some f.draft ≡ true
+IsOpen f call = ⊤
+
+follows_failed : (f a : Folder) (call : Call) (steps : ℕ) → IsOpen f call → Follows f a
+    → Follows (after_failed f call steps) (after_failed a call steps)
+follows_failed f a (image_open name make) steps _ h = record {
+  files = any_as steps (opened f name make (f.files name)).files (opened a name make (a.files name)).files f.files
+      a.files (follows_opened f a name make h).files h.files;
+  image = λ n e. e;
+  draft = h.draft;
+}
+follows_failed f a (image_read pos asked answer) steps _ h = h
+follows_failed f a (image_write pos piece) steps some h = record {
+  files = any_as steps (with_piece f f.image pos (take steps piece)).files
+      (with_piece a a.image pos (take steps piece)).files f.files a.files
+      (follows_written f a pos (take steps piece) some h).files h.files;
+  image = h.image;
+  draft = h.draft;
+}
+follows_failed f a image_sync steps _ h = h
+follows_failed f a (map_read name pos asked answer) steps _ h = h
+follows_failed f a (draft_begin name) steps _ h = record {
+  files = ap (λ (g : List ℕ → Option File).
+      if_any steps (if_any (steps - 1) (put g name (Some empty_file)) (put g name None)) g) h.files;
+  image = h.image;
+  draft = λ n e. e;
+}
+follows_failed f a (draft_append piece) steps some h = record {
+  files = any_as steps (appended f f.draft (take steps piece)).files (appended a a.draft (take steps piece)).files
+      f.files a.files (follows_appended f a (take steps piece) some h).files h.files;
+  image = h.image;
+  draft = h.draft;
+}
+follows_failed f a draft_sync steps _ h = h
+follows_failed f a (draft_publish name) steps _ h = record { files = h.files; image = h.image; draft = λ n e. e }
+follows_failed f a (map_settle name) steps _ h = record {
+  files = any_as steps (with_draft_of name f) (with_draft_of name a) f.files a.files
+      (follows_opened f a (draft_of name) true h).files h.files;
+  image = h.image;
+  draft = h.draft;
+}
+follows_failed f a (map_remove name) steps _ h = h
+
+failed_unanswered : (a : Folder) (call : Call) (steps : ℕ)
+    → after_failed a (unanswered call) steps ≡ after_failed a call steps
+failed_unanswered a (image_open name make) steps = refl
+failed_unanswered a (image_read pos asked answer) steps = refl
+failed_unanswered a (image_write pos piece) steps = refl
+failed_unanswered a image_sync steps = refl
+failed_unanswered a (map_read name pos asked answer) steps = refl
+failed_unanswered a (draft_begin name) steps = refl
+failed_unanswered a (draft_append piece) steps = refl
+failed_unanswered a draft_sync steps = refl
+failed_unanswered a (draft_publish name) steps = refl
+failed_unanswered a (map_settle name) steps = refl
+failed_unanswered a (map_remove name) steps = refl
 
 -- the invariant after a call that was entered and done
 pub follows_done : (s g : Folder) (es new : List Entry) (call : Call) → new ≡ es ++ Done call ∷ []
@@ -132,23 +178,31 @@ follows_done s g es new call e h =
     follows_along g (after_done (after s es) call) (after s new) (sym (ap (after s) e ∙ after_more s es (Done call))) h
 
 -- the invariant after a call that was lost
-pub follows_lost : (s f : Folder) (es new : List Entry) (call : Call) → IsClosed f call → Follows f (after s es)
-    → Missed call es new → Follows f (after s new)
-follows_lost s f es new call closed h (inl e) =
-    follows_along f (after_failed (after s es) call 0) (after s new)
-    (sym (ap (after s) e ∙ after_more s es (Failed call 0))) (follows_failed f (after s es) call closed h)
-follows_lost s f es new call closed h (inr e) = follows_along f (after s es) (after s new) (sym (ap (after s) e)) h
+pub follows_lost : (s f g : Folder) (es new : List Entry) (call : Call) → IsOpen f call → Follows f (after s es)
+    → Missed call es new f g → Follows g (after s new)
+follows_lost s f g es new call some h (inl (steps, e, is)) = subst (λ (k : Folder). Follows k (after s new)) (sym is)
+    (follows_along (after_failed f call steps) (after_failed (after s es) call steps) (after s new)
+    (sym (ap (after s) e
+    ∙ after_more s es (Failed (unanswered call) steps)
+    ∙ failed_unanswered (after s es) call steps)) (follows_failed f (after s es) call steps some h))
+follows_lost s f g es new call some h (inr (e, is)) = subst (λ (k : Folder). Follows k (after s new)) (sym is)
+    (follows_along f (after s es) (after s new) (sym (ap (after s) e)) h)
+
+-- files in memory that stayed as they were follow as before
+pub follows_as : (f g : MemoryFolder) (a : Folder) → g ≡ f → Follows (folder_of f) a → Follows (folder_of g) a
+follows_as f g a same h = subst (λ (k : MemoryFolder). Follows (folder_of k) a) (sym same) h
 
 -- the invariant after a call was entered that leaves every folder as it is
-pub follows_entered : {T E : Type 0} (s f : Folder) (es new : List Entry) (call : Call) (r : Result T E)
-    → ((a : Folder) → after_done a call ≡ a) → IsClosed f (unanswered call)
-    → Follows f (after s es) → OnOk r (new ≡ es ++ Done call ∷ []) → OnErr r (Missed (unanswered call) es new)
-    → Follows f (after s new)
-follows_entered s f es new call (Ok x) stays closed h done lost =
-    follows_done s f es new call done
-    (follows_along f (after s es) (after_done (after s es) call) (sym (stays (after s es))) h)
-follows_entered s f es new call (Err e) stays closed h done lost =
-    follows_lost s f es new (unanswered call) closed h lost
+pub follows_entered : {T E : Type 0} (s : Folder) (f g : MemoryFolder) (es new : List Entry) (call : Call)
+    (r : Result T E) → ((a : Folder) → after_done a call ≡ a) → IsOpen (folder_of f) call
+    → Follows (folder_of f) (after s es) → OnOk r (g ≡ f) → OnOk r (new ≡ es ++ Done call ∷ [])
+    → OnErr r (Missed call es new (folder_of f) (folder_of g)) → Follows (folder_of g) (after s new)
+follows_entered s f g es new call (Ok x) stays some h same done lost =
+    subst (λ (k : MemoryFolder). Follows (folder_of k) (after s new)) (sym same)
+    (follows_done s (folder_of f) es new call done
+    (follows_along (folder_of f) (after s es) (after_done (after s es) call) (sym (stays (after s es))) h))
+follows_entered s f g es new call (Err e) stays some h same done lost =
+    follows_lost s (folder_of f) (folder_of g) es new call some h lost
 
 -- the invariant after a call that was entered, and then done or taken back
 pub follows_settled : {T D E : Type 0} (s g : Folder) (es entered new : List Entry) (call : Call)

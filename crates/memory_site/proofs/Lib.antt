@@ -1,3 +1,4 @@
+mod FailedLemmas
 mod FolderLemmas
 mod FollowLemmas
 mod GarbageLemmas

@@ -1,12 +1,12 @@
 -- What each call made again leaves.
-use Rattle.std.proofs.Common.{◌≡◌, ℕ, suc, ◌+◌, ◌<◌, Bool, true, false, if◌then◌else◌, List, [], ◌∷◌, ◌++◌, length, take, drop, map, get_or, Option, Result, Ok, Err, OnOk, refl, sym, ◌∙◌, ap, subst, arith}
+use Rattle.std.proofs.Common.{◌≡◌, ℕ, suc, ◌+◌, ◌<◌, Bool, true, false, List, [], ◌∷◌, ◌++◌, length, take, drop, map, get_or, Option, Some, None, Result, Ok, Err, OnOk, refl, sym, ◌∙◌, ap, subst, arith}
 use Rattle.std.proofs.lemmas.List.{get_or-map, length-map}
 use Rattle.std.proofs.Math.Seq.{take-suc, drop-cons}
 use Rattle.memory_site.specs.declared.memory.call_log.LoggedCall.{LoggedCall}
 use Rattle.memory_site.specs.declared.memory.stop.Left.{Left}
 use Rattle.memory_site.specs.declared.memory.stop.Replay.{Replay}
 use Rattle.memory_site.specs.declared.memory.stop.Left.TheVariants.{Oldest, Newest, Garbage}
-use Rattle.memory_site.specs.CallLog.{call_of, entry_of}
+use Rattle.memory_site.specs.CallLog.{call_of, entry_as, entry_of}
 use Rattle.crash_site.specs.Files.{File}
 use Rattle.crash_site.specs.Calls.{Call, Entry, Done, Failed, image_open, image_read, image_write, image_sync, map_read, draft_begin, draft_append, draft_sync, draft_publish, map_settle, map_remove}
 use Rattle.crash_site.specs.CallsMade.{unanswered}
@@ -45,18 +45,19 @@ left_unanswered Oldest call reads firm f = refl
 left_unanswered Newest call reads firm f = part_unanswered false call reads firm f
 left_unanswered Garbage call reads firm f = part_unanswered true call reads firm f
 
-entered_unanswered : (d : Disk) (call : Call) → entered d (Failed (unanswered call) 0) ≡ entered d (Failed call 0)
-entered_unanswered d (image_open name make) = refl
-entered_unanswered d (image_read pos asked answer) = refl
-entered_unanswered d (image_write pos piece) = refl
-entered_unanswered d image_sync = refl
-entered_unanswered d (map_read name pos asked answer) = refl
-entered_unanswered d (draft_begin name) = refl
-entered_unanswered d (draft_append piece) = refl
-entered_unanswered d draft_sync = refl
-entered_unanswered d (draft_publish name) = refl
-entered_unanswered d (map_settle name) = refl
-entered_unanswered d (map_remove name) = refl
+entered_unanswered : (d : Disk) (call : Call) (steps : ℕ)
+    → entered d (Failed (unanswered call) steps) ≡ entered d (Failed call steps)
+entered_unanswered d (image_open name make) steps = refl
+entered_unanswered d (image_read pos asked answer) steps = refl
+entered_unanswered d (image_write pos piece) steps = refl
+entered_unanswered d image_sync steps = refl
+entered_unanswered d (map_read name pos asked answer) steps = refl
+entered_unanswered d (draft_begin name) steps = refl
+entered_unanswered d (draft_append piece) steps = refl
+entered_unanswered d draft_sync steps = refl
+entered_unanswered d (draft_publish name) steps = refl
+entered_unanswered d (map_settle name) steps = refl
+entered_unanswered d (map_remove name) steps = refl
 
 -- One call made again.
 
@@ -81,22 +82,23 @@ left_done kind call d reads firm m f was now left r b h w e s =
     ∙ ap (with_some (sure_name call d.reads) (sure_file call kind d))
     (left_here kind call d reads firm f was now r b w e)
 
-pub fails_again : (r : Replay) (d : Disk) (f : List ℕ → Option File) (kind : Left) (l : LoggedCall) → l.failed ≡ true
-    → Replays r (entered d (Failed (call_of l.act) 0)) (left_entry kind d (Failed (call_of l.act) 0) f)
+pub fails_again : (r : Replay) (d : Disk) (f : List ℕ → Option File) (kind : Left) (l : LoggedCall) (steps : ℕ)
+    → l.failed ≡ Some steps
+    → Replays r (entered d (Failed (call_of l.act) steps)) (left_entry kind d (Failed (call_of l.act) steps) f)
     → Replays r (entered d (entry_of l)) (left_entry kind d (entry_of l) f)
-fails_again r d f kind l is h =
+fails_again r d f kind l steps is h =
     let call = call_of l.act in
     subst (λ (e : Entry). Replays r (entered d e) (left_entry kind d e f))
-    (sym (ap (λ (b : Bool). if b then Failed (unanswered (call_of l.act)) 0 else Done (call_of l.act)) is))
-    (subst (λ (x : Disk). Replays r x (left_entry kind d (Failed (unanswered call) 0) f))
-    (sym (entered_unanswered d call))
-    (subst (Replays r (entered d (Failed call 0))) (sym (left_unanswered kind call d.reads d.firm f)) h))
+    (sym (ap (λ (o : Option ℕ). entry_as o call) is))
+    (subst (λ (x : Disk). Replays r x (left_entry kind d (Failed (unanswered call) steps) f))
+    (sym (entered_unanswered d call steps))
+    (subst (Replays r (entered d (Failed call steps))) (sym (left_unanswered kind call d.reads d.firm f)) h))
 
-pub makes_again : (r : Replay) (d : Disk) (f : List ℕ → Option File) (kind : Left) (l : LoggedCall) → l.failed ≡ false
+pub makes_again : (r : Replay) (d : Disk) (f : List ℕ → Option File) (kind : Left) (l : LoggedCall) → l.failed ≡ None
     → Replays r (entered d (Done (call_of l.act))) (left_entry kind d (Done (call_of l.act)) f)
     → Replays r (entered d (entry_of l)) (left_entry kind d (entry_of l) f)
 makes_again r d f kind l is h = subst (λ (e : Entry). Replays r (entered d e) (left_entry kind d e f))
-    (sym (ap (λ (b : Bool). if b then Failed (unanswered (call_of l.act)) 0 else Done (call_of l.act)) is)) h
+    (sym (ap (λ (o : Option ℕ). entry_as o (call_of l.act)) is)) h
 
 -- The calls of a record.
 
@@ -131,11 +133,10 @@ pub left_more : (kind : Left) (s : Disk) (f : List ℕ → Option File) (ls : Li
 left_more kind s f ls i l lt is = sym (ap (left_along kind s f) (take_more ls i l lt is)
     ∙ along-append kind s f (take i (map entry_of ls)) (entry_of l ∷ []))
 
-in_part_left : (kind : Left) (d : Disk) (failed : Bool) (call : Call) (f : List ℕ → Option File)
-    → left_entry kind d (in_part (if failed then Failed (unanswered call) 0 else Done call)) f
-    ≡ left_part kind call d.reads d.firm f
-in_part_left kind d true call f = left_unanswered kind call d.reads d.firm f
-in_part_left kind d false call f = refl
+in_part_left : (kind : Left) (d : Disk) (failed : Option ℕ) (call : Call) (f : List ℕ → Option File)
+    → left_entry kind d (in_part (entry_as failed call)) f ≡ left_part kind call d.reads d.firm f
+in_part_left kind d (Some steps) call f = left_unanswered kind call d.reads d.firm f
+in_part_left kind d None call f = refl
 
 -- The call after the first k is in progress, if there is one.
 pub next_left : (kind : Left) (d : Disk) (ls : List LoggedCall) (k : ℕ) (l : LoggedCall) (f : List ℕ → Option File)

@@ -1,21 +1,23 @@
 //! An output and mapfiles in memory, which tell all and fail on request.
 ghost use Rattle.fault_count.specs.Counts.{raised, HasCause};
-ghost use Rattle.fault_count.specs.Schedule.{no_schedule, with_failing};
+ghost use Rattle.fault_count.specs.Schedule.{with_call, with_failing, with_failing_after, FailsNext};
 ghost use Rattle.std.specs.Prelude.{not, ◌≡◌, ◌⊎◌, ℕ, ◌+◌, ◌<◌, ◌≤◌, ◌^◌, true, false, IsTrue, List, [], ◌∷◌, ◌++◌, length, take, slice_index_or, Some, None, is_some, IfOk, OnOk, OnErr, IsErr, MatchOption};
 ghost use Rattle.crash_site.specs.Files.{File, put};
 ghost use Rattle.crash_site.specs.FileAnswers.{kind_of, is_absent, IsRead, IsWithin, IsImageRead};
 ghost use Rattle.crash_site.specs.Calls.{Entry, Done, image_open, image_read, image_write, image_sync, map_read, draft_begin, draft_append, draft_sync, draft_publish, map_settle, map_remove};
-ghost use Rattle.crash_site.specs.CallsMade.{Lost, call_name};
+ghost use Rattle.crash_site.specs.CallsMade.{Lost, unanswered, call_name};
 ghost use Rattle.crash_site.specs.Folder.{Folder, after};
+ghost use Rattle.crash_site.specs.SiteChanges.{FailsBy};
 ghost use Rattle.crash_site.specs.Changes.{call_in};
 ghost use Rattle.memory_site.specs.Follows.{Follows, Follows-prop};
 ghost use Rattle.memory_site.specs.MemoryFolder.{name_of, folder_of};
 ghost use Rattle.crash_site.specs.Left.{MayBeLeft};
 ghost use Rattle.memory_site.specs.FilesLeft.{files_left};
-ghost use Rattle.memory_site.specs.CallLog.{entries_of};
+ghost use Rattle.memory_site.specs.CallLog.{call_of, entries_of, Missed, IsClosed};
 
 use block_list::tiles::NoMemory;
 use call_log::{Act, CallLog};
+use crash_site::fault::fault;
 use crash_site::site::{ImageKind, MapRead, Site, SiteCall, SiteFault};
 use memory_folder::MemoryFolder;
 use places::MemoryFile;
@@ -28,7 +30,8 @@ mod memory_folder;
 mod places;
 pub mod stop;
 
-/// Files in memory. It tells its beginning and its calls; a call whose number was handed to `fail_call` fails.
+/// Files in memory. It tells its beginning and its calls; a call fails whose number was handed to `fail_call` or
+/// `fail_call_after`.
 #[derive(Drop)]
 pub struct MemorySite {
     alloc: Global,
@@ -108,7 +111,19 @@ impl MemorySite {
             { schedule = with_failing number (state_of self.old).schedule }) }
         ensures kept { OnErr result (state_of self.new ≡ state_of self.old) }
     {
-        self.log.fail_call(number).map_err(|_| NoMemory)
+        self.fail_call_after(number, 0)
+    }
+
+    /// Has the call with this number fail after some of its steps, counted from 1 over all calls. Of a write or an
+    /// append a step is a byte that is taken.
+    pub fn fail_call_after(&mut self, number: u64, steps: u64) -> Result<(), NoMemory>
+        ensures added { OnOk result (state_of self.new ≡ record (state_of self.old)
+            { schedule = with_failing_after number steps (state_of self.old).schedule }) }
+        ensures kept { OnErr result (state_of self.new ≡ state_of self.old) }
+    {
+        self.log
+            .fail_call_after(number, steps)
+            .map_err(|_| NoMemory)
     }
 
     /// The bytes of a file as it reads.
@@ -182,6 +197,35 @@ impl MemorySite {
     }
 }
 
+/// Lists a call that is to be made. One that is to fail makes its steps, unless it finds no memory.
+fn enter(folder: &mut MemoryFolder, log: &mut CallLog, act: Act) -> Result<(), SiteFault>
+    requires { IsClosed (folder_of folder.old) (call_of act) }
+    ensures done { OnOk result (entries_of log.new ≡ entries_of log.old ++ Done (call_of act) ∷ []) }
+    ensures kept { OnOk result (folder.new ≡ folder.old) }
+    ensures lost { OnErr result (Lost (unanswered (call_of act)) (entries_of log.old) (entries_of log.new)) }
+    ensures missed { OnErr result (Missed (call_of act) (entries_of log.old) (entries_of log.new)
+        (folder_of folder.old) (folder_of folder.new)) }
+    ensures image { (folder_of folder.new).image ≡ (folder_of folder.old).image }
+    ensures draft { (folder_of folder.new).draft ≡ (folder_of folder.old).draft }
+    ensures cause { HasCause log.old.faults log.new.faults result }
+    ensures schedule { log.new.schedule ≡ with_call log.old.schedule }
+    ensures fails { FailsNext log.old.schedule → IsErr result }
+    ensures told { OnErr result (FailsBy log.old.schedule log.old.starving log.new.starving
+        (unanswered (call_of act)) (entries_of log.old) (entries_of log.new)) }
+    ensures fed { OnOk result (log.new.starving ≡ log.old.starving) }
+{
+    let Some(steps) = log.schedule.count_steps() else {
+        log.list(act, None)?;
+        return Ok(());
+    };
+    let Ok(failed) = folder.failed(&act, steps) else {
+        return Err(log.starve());
+    };
+    log.list(act, Some(steps))?;
+    *folder = failed;
+    Err(fault(&mut log.faults))
+}
+
 impl Site for MemorySite {
     ghost use Rattle.memory_site.specs.MemoryState.{state_of};
 
@@ -193,7 +237,11 @@ impl Site for MemorySite {
         let Ok(copied) = Vec::from_slice(self.alloc, name) else {
             return Err(self.log.miss());
         };
-        self.log.enter(Act::ImageOpen(copied, make))?;
+        enter(
+            &mut self.folder,
+            &mut self.log,
+            Act::ImageOpen(copied, make),
+        )?;
         let outcome = self.folder.open(name, make);
         self.log.settle(outcome)
     }
@@ -201,7 +249,11 @@ impl Site for MemorySite {
     fn image_read(&mut self, pos: u64, buf: &mut [u8]) -> Result<usize, SiteFault> {
         let asked = buf.len();
         let given = self.folder.read_image(pos, buf);
-        self.log.enter(Act::ImageRead(pos, asked, given))?;
+        enter(
+            &mut self.folder,
+            &mut self.log,
+            Act::ImageRead(pos, asked, given),
+        )?;
         Ok(given)
     }
 
@@ -209,13 +261,17 @@ impl Site for MemorySite {
         let Ok(copied) = Vec::from_slice(self.alloc, piece) else {
             return Err(self.log.miss());
         };
-        self.log.enter(Act::ImageWrite(pos, copied))?;
+        enter(
+            &mut self.folder,
+            &mut self.log,
+            Act::ImageWrite(pos, copied),
+        )?;
         let outcome = self.folder.write(pos, piece);
         self.log.settle(outcome)
     }
 
     fn image_sync(&mut self) -> Result<(), SiteFault> {
-        self.log.enter(Act::ImageSync)
+        enter(&mut self.folder, &mut self.log, Act::ImageSync)
     }
 
     fn map_read(&mut self, name: &str, pos: u64, buf: &mut [u8]) -> Result<MapRead, SiteFault> {
@@ -224,7 +280,11 @@ impl Site for MemorySite {
         };
         let asked = buf.len();
         let answer = self.folder.read(name.as_bytes(), pos, buf);
-        self.log.enter(Act::MapRead(copied, pos, asked, answer))?;
+        enter(
+            &mut self.folder,
+            &mut self.log,
+            Act::MapRead(copied, pos, asked, answer),
+        )?;
         Ok(answer)
     }
 
@@ -234,7 +294,7 @@ impl Site for MemorySite {
         let Ok(copied) = Vec::from_slice(self.alloc, name) else {
             return Err(self.log.miss());
         };
-        self.log.enter(Act::DraftBegin(copied))?;
+        enter(&mut self.folder, &mut self.log, Act::DraftBegin(copied))?;
         let outcome = self.folder.begin(name);
         self.log.settle(outcome)
     }
@@ -243,13 +303,13 @@ impl Site for MemorySite {
         let Ok(copied) = Vec::from_slice(self.alloc, piece) else {
             return Err(self.log.miss());
         };
-        self.log.enter(Act::DraftAppend(copied))?;
+        enter(&mut self.folder, &mut self.log, Act::DraftAppend(copied))?;
         let outcome = self.folder.append(piece);
         self.log.settle(outcome)
     }
 
     fn draft_sync(&mut self) -> Result<(), SiteFault> {
-        self.log.enter(Act::DraftSync)
+        enter(&mut self.folder, &mut self.log, Act::DraftSync)
     }
 
     fn draft_publish(&mut self, name: &str) -> Result<(), SiteFault> {
@@ -260,7 +320,7 @@ impl Site for MemorySite {
         let Ok(copied) = Vec::from_slice(self.alloc, name) else {
             return Err(self.log.miss());
         };
-        self.log.enter(Act::DraftPublish(copied))?;
+        enter(&mut self.folder, &mut self.log, Act::DraftPublish(copied))?;
         let outcome = self.folder.rename(draft.as_slice(), name);
         self.log.settle(outcome)
     }
@@ -269,7 +329,7 @@ impl Site for MemorySite {
         let Ok(copied) = Vec::from_slice(self.alloc, name.as_bytes()) else {
             return Err(self.log.miss());
         };
-        self.log.enter(Act::MapSettle(copied))
+        enter(&mut self.folder, &mut self.log, Act::MapSettle(copied))
     }
 
     fn map_remove(&mut self, name: &str) -> Result<(), SiteFault> {
@@ -277,7 +337,7 @@ impl Site for MemorySite {
         let Ok(copied) = Vec::from_slice(self.alloc, name) else {
             return Err(self.log.miss());
         };
-        self.log.enter(Act::MapRemove(copied))?;
+        enter(&mut self.folder, &mut self.log, Act::MapRemove(copied))?;
         self.folder.remove(name);
         Ok(())
     }

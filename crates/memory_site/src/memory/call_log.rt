@@ -1,10 +1,10 @@
 //! The calls that were made, and which of them failed.
-ghost use Rattle.std.specs.Prelude.{◌≡◌, ◌⊎◌, ℕ, ◌+◌, ◌<◌, ◌≤◌, ◌↔◌, true, false, IsTrue, List, [], ◌∷◌, ◌++◌, Some, None, Ok, IfOk, OnOk, OnErr, IsErr, Contains};
+ghost use Rattle.std.specs.Prelude.{◌≡◌, ◌≤◌, List, [], ◌∷◌, ◌++◌, Ok, IfOk, OnOk, OnErr, IsErr};
 ghost use Rattle.fault_count.specs.Counts.{raised, HasCause};
-ghost use Rattle.fault_count.specs.Schedule.{no_schedule, with_call, with_failing, FailsNext};
-ghost use Rattle.crash_site.specs.Calls.{Entry, Done, Failed};
-ghost use Rattle.crash_site.specs.CallsMade.{Lost, unanswered, call_name};
-ghost use Rattle.memory_site.specs.CallLog.{Missed, call_of, entries_of};
+ghost use Rattle.fault_count.specs.Schedule.{no_schedule, with_call, with_failing_after};
+ghost use Rattle.crash_site.specs.Calls.{Entry};
+ghost use Rattle.crash_site.specs.CallsMade.{call_name};
+ghost use Rattle.memory_site.specs.CallLog.{call_of, entry_as, entries_of};
 
 use crash_site::fault::fault;
 use crash_site::site::{MapRead, SiteCall, SiteFault};
@@ -49,11 +49,11 @@ impl Act {
     }
 }
 
-/// A call, and whether it failed.
+/// A call, and how many steps it made before it failed, if it did.
 #[derive(Drop)]
 pub(crate) struct LoggedCall {
     pub(crate) act: Act,
-    pub(crate) failed: bool,
+    pub(crate) failed: Option<u64>,
 }
 
 /// The calls that were made, those that are to fail, and how many failed.
@@ -81,15 +81,15 @@ impl CallLog {
         }
     }
 
-    /// Has the call with this number fail, counted from 1 over all calls.
-    pub(crate) fn fail_call(&mut self, number: u64) -> Result<(), AllocError>
-        ensures schedule { OnOk result (self.new.schedule ≡ with_failing number self.old.schedule) }
+    /// Has the call with this number fail after some of its steps, counted from 1 over all calls.
+    pub(crate) fn fail_call_after(&mut self, number: u64, steps: u64) -> Result<(), AllocError>
+        ensures schedule { OnOk result (self.new.schedule ≡ with_failing_after number steps self.old.schedule) }
         ensures same { OnErr result (self.new.schedule ≡ self.old.schedule) }
         ensures entries { entries_of self.new ≡ entries_of self.old }
         ensures faults { self.new.faults ≡ self.old.faults }
         ensures starving { self.new.starving ≡ self.old.starving }
     {
-        self.schedule.fail_call(number)
+        self.schedule.fail_call_after(number, steps)
     }
 
     /// Forgets the calls, and keeps their number.
@@ -103,7 +103,7 @@ impl CallLog {
     }
 
     /// Counts lack of memory.
-    fn starve(&mut self) -> SiteFault
+    pub(crate) fn starve(&mut self) -> SiteFault
         ensures schedule { self.new.schedule ≡ self.old.schedule }
         ensures entries { entries_of self.new ≡ entries_of self.old }
         ensures faults { self.new.faults ≡ raised self.old.faults }
@@ -126,26 +126,18 @@ impl CallLog {
         self.starve()
     }
 
-    /// Lists a call, as failed if it is to fail.
-    pub(crate) fn enter(&mut self, act: Act) -> Result<(), SiteFault>
-        ensures done { OnOk result (entries_of self.new ≡ entries_of self.old ++ Done (call_of act) ∷ []) }
-        ensures lost { OnErr result (Lost (unanswered (call_of act)) (entries_of self.old) (entries_of self.new)) }
-        ensures missed { OnErr result (Missed (unanswered (call_of act)) (entries_of self.old) (entries_of self.new)) }
+    /// Lists a call that is made, or that failed after this many steps.
+    pub(crate) fn list(&mut self, act: Act, failed: Option<u64>) -> Result<(), SiteFault>
+        ensures listed { OnOk result (entries_of self.new
+            ≡ entries_of self.old ++ entry_as failed (call_of act) ∷ []) }
+        ensures kept { OnErr result (entries_of self.new ≡ entries_of self.old) }
         ensures cause { HasCause self.old.faults self.new.faults result }
-        ensures schedule { self.new.schedule ≡ with_call self.old.schedule }
-        ensures fails { FailsNext self.old.schedule → IsErr result }
-        ensures told { OnErr result ((FailsNext self.old.schedule
-            × (self.new.starving ≡ self.old.starving)
-            × (entries_of self.new ≡ entries_of self.old ++ Failed (unanswered (call_of act)) 0 ∷ []))
-            ⊎ ((self.new.starving ≡ raised self.old.starving) × (entries_of self.new ≡ entries_of self.old))) }
+        ensures schedule { self.new.schedule ≡ self.old.schedule }
+        ensures why { OnErr result (self.new.starving ≡ raised self.old.starving) }
         ensures fed { OnOk result (self.new.starving ≡ self.old.starving) }
     {
-        let failed = self.schedule.count_call();
         if self.listed.push(LoggedCall { act, failed }).is_err() {
             return Err(self.starve());
-        }
-        if failed {
-            return Err(fault(&mut self.faults));
         }
         Ok(())
     }

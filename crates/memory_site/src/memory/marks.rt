@@ -8,7 +8,7 @@ ghost use Rattle.memory_site.specs.Marks.{marked_of, with_marks, marked_at, clea
 ghost use Rattle.memory_site.specs.MemoryFolder.{folder_of};
 
 use crate::memory::call_log::Act;
-use crate::memory::memory_folder::{MemoryFolder, fits};
+use crate::memory::memory_folder::{MemoryFolder, draft_name, fits};
 use std::alloc::{AllocError, Global};
 
 /// Marks under each name: of the bytes that aren't durable, and of those that are lost. A byte that isn't 0 marks its
@@ -38,15 +38,6 @@ fn mark_range(
     }
     let range = vec![in alloc; mark; len]?;
     marks.write_at(name, pos, range.as_slice())
-}
-
-/// The name of a mapfile's draft.
-fn draft_name(alloc: Global, name: &[u8]) -> Result<Vec<u8>, AllocError>
-    ensures { IfOk result (λ draft. draft.items ≡ draft_of name.now) }
-{
-    let mut draft = Vec::from_slice(alloc, name)?;
-    draft.extend_from_slice(".tmp".as_bytes())?;
-    Ok(draft)
 }
 
 impl Marks {

@@ -1,11 +1,11 @@
 //! The files in memory, as they read.
 #![tactic(auto, using(crate::proofs::FolderLemmas::folder_lemmas))]
 
-ghost use Rattle.std.specs.Prelude.{◌≡◌, ℕ, ◌+◌, ◌-◌, min, ◌<◌, ◌≤◌, ◌^◌, true, false, IsTrue, List, length, take, slice_range, Some, None, IsSome, is_some, IfOk, OnOk, OnErr, MatchOption, if◌then◌else◌};
-ghost use Rattle.crash_site.specs.Files.{File, file_named, put, written_file};
+ghost use Rattle.std.specs.Prelude.{◌≡◌, ℕ, ◌+◌, ◌++◌, ◌-◌, min, ◌<◌, ◌≤◌, ◌^◌, true, false, IsTrue, List, length, take, slice_range, Some, None, IsSome, is_some, IfOk, OnOk, OnErr, MatchOption, if◌then◌else◌};
+ghost use Rattle.crash_site.specs.Files.{File, empty_file, draft_of, file_named, put, written_file};
 ghost use Rattle.crash_site.specs.FileAnswers.{kind_of, is_absent, IsRead, IsWithin, IsImageRead};
-ghost use Rattle.crash_site.specs.Calls.{image_open, image_write, draft_begin, draft_append, draft_publish, map_remove};
-ghost use Rattle.crash_site.specs.Folder.{Folder, after_done, after_failed};
+ghost use Rattle.crash_site.specs.Calls.{image_open, image_write, draft_begin, draft_append, draft_publish, map_settle, map_remove};
+ghost use Rattle.crash_site.specs.Folder.{Folder, after_done, if_any, after_failed};
 ghost use Rattle.memory_site.specs.CallLog.{call_of};
 ghost use Rattle.memory_site.specs.Places.{file_of, files_of};
 ghost use Rattle.crash_site.specs.Full.{IsFull};
@@ -57,6 +57,23 @@ fn opened_name(kind: ImageKind, name: Vec<u8>) -> Option<Vec<u8>>
         ImageKind::Absent => None,
         ImageKind::Regular | ImageKind::Other => Some(name),
     }
+}
+
+/// The name of a mapfile's draft.
+pub(crate) fn draft_name(alloc: Global, name: &[u8]) -> Result<Vec<u8>, AllocError>
+    ensures { IfOk result (λ draft. draft.items ≡ draft_of name.now) }
+{
+    let mut draft = Vec::from_slice(alloc, name)?;
+    draft.extend_from_slice(".tmp".as_bytes())?;
+    Ok(draft)
+}
+
+/// The bytes of a piece that are taken in this many steps.
+fn taken(piece: &[u8], steps: u64) -> &[u8]
+    ensures { result.now ≡ take steps piece.now }
+{
+    let count = piece.len().min(steps as usize);
+    &piece[..count]
 }
 
 /// Whether a range ends where a file in memory may.
@@ -322,15 +339,107 @@ impl MemoryFolder {
         self.rename(draft.as_slice(), name)
     }
 
-    /// Makes a call again that failed.
-    pub(crate) fn fail_again(&mut self, act: &Act)
-        ensures { folder_of self.new ≡ after_failed (folder_of self.old) (call_of act.now) 0 }
+    fn open_in_part(&mut self, name: &[u8], make: bool, steps: u64) -> Result<(), AllocError>
+        ensures { OnOk result (folder_of self.new ≡ after_failed (folder_of self.old) (image_open name.now make) steps) }
+    {
+        if steps == 0 {
+            self.image = None;
+            return Ok(());
+        }
+        self.open(name, make)?;
+        self.image = None;
+        Ok(())
+    }
+
+    fn write_in_part(&mut self, pos: u64, piece: &[u8], steps: u64) -> Result<(), AllocError>
+        ensures { OnOk result (folder_of self.new ≡ after_failed (folder_of self.old) (image_write pos piece.now) steps) }
+    {
+        if steps == 0 {
+            return Ok(());
+        }
+        self.write_again(pos, taken(piece, steps))
+    }
+
+    /// Removes the file of this name, and makes an empty one, as far as these steps go.
+    fn replace_in_part(&mut self, name: &[u8], steps: u64) -> Result<(), AllocError>
+        ensures files { OnOk result ((folder_of self.new).files ≡ if_any steps
+            (if_any (steps - 1) (put (folder_of self.old).files name.now (Some empty_file))
+            (put (folder_of self.old).files name.now None)) (folder_of self.old).files) }
+        ensures image { OnOk result ((folder_of self.new).image ≡ (folder_of self.old).image) }
+    {
+        match steps {
+            0 => Ok(()),
+            1 => {
+                self.remove(name);
+                Ok(())
+            }
+            _ => self.begin(name),
+        }
+    }
+
+    fn begin_in_part(&mut self, name: &[u8], steps: u64) -> Result<(), AllocError>
+        ensures { OnOk result (folder_of self.new ≡ after_failed (folder_of self.old) (draft_begin name.now) steps) }
+    {
+        self.replace_in_part(name, steps)?;
+        self.draft = None;
+        Ok(())
+    }
+
+    fn append_in_part(&mut self, piece: &[u8], steps: u64) -> Result<(), AllocError>
+        ensures { OnOk result (folder_of self.new ≡ after_failed (folder_of self.old) (draft_append piece.now) steps) }
+    {
+        if steps == 0 {
+            return Ok(());
+        }
+        self.append_again(taken(piece, steps))
+    }
+
+    fn settle_in_part(&mut self, name: &[u8], steps: u64) -> Result<(), AllocError>
+        ensures { OnOk result (folder_of self.new ≡ after_failed (folder_of self.old) (map_settle name.now) steps) }
+    {
+        if steps == 0 {
+            return Ok(());
+        }
+        let draft = draft_name(self.alloc, name)?;
+        if self.has(draft.as_slice()) {
+            return Ok(());
+        }
+        let file = MemoryFile {
+            bytes: Vec::new(self.alloc),
+            regular: true,
+        };
+        self.put(draft.as_slice(), Some(file))
+    }
+
+    /// Makes the steps again of a call that failed.
+    pub(crate) fn fail_again(&mut self, act: &Act, steps: u64) -> Result<(), AllocError>
+        ensures { OnOk result (folder_of self.new ≡ after_failed (folder_of self.old) (call_of act.now) steps) }
     {
         match act {
-            Act::ImageOpen(_, _) => self.image = None,
-            Act::DraftBegin(_) => self.draft = None,
-            Act::DraftPublish(_) => self.draft = None,
-            _ => {}
+            Act::ImageOpen(name, make) => self.open_in_part(name.as_slice(), *make, steps),
+            Act::ImageWrite(pos, piece) => self.write_in_part(*pos, piece.as_slice(), steps),
+            Act::DraftBegin(name) => self.begin_in_part(name.as_slice(), steps),
+            Act::DraftAppend(piece) => self.append_in_part(piece.as_slice(), steps),
+            Act::DraftPublish(_) => {
+                self.draft = None;
+                Ok(())
+            }
+            Act::MapSettle(name) => self.settle_in_part(name.as_slice(), steps),
+            Act::ImageRead(_, _, _) => Ok(()),
+            Act::ImageSync => Ok(()),
+            Act::MapRead(_, _, _, _) => Ok(()),
+            Act::DraftSync => Ok(()),
+            Act::MapRemove(_) => Ok(()),
         }
+    }
+
+    /// A copy of the folder, after a call that failed after this many steps.
+    pub(crate) fn failed(&self, act: &Act, steps: u64) -> Result<MemoryFolder, AllocError>
+        ensures { IfOk result (λ folder. folder_of folder
+            ≡ after_failed (folder_of self.now) (call_of act.now) steps) }
+    {
+        let mut folder = self.copy()?;
+        folder.fail_again(act, steps)?;
+        Ok(folder)
     }
 }

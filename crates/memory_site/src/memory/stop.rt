@@ -345,8 +345,8 @@ fn make_sure(
 
 /// Whether the draft is synced after a call.
 fn firm_after(firm: bool, act: &Act, failed: bool) -> bool
-    ensures { (d : Disk) → d.firm ≡ firm
-        → (entered d (if failed then Failed (call_of act.now) 0 else Done (call_of act.now))).firm ≡ result }
+    ensures { (d : Disk) (steps : ℕ) → d.firm ≡ firm
+        → (entered d (if failed then Failed (call_of act.now) steps else Done (call_of act.now))).firm ≡ result }
 {
     match act {
         Act::DraftBegin(_) => false,
@@ -402,17 +402,17 @@ impl Replay {
         )
     }
 
-    /// Makes a call again that failed.
-    fn fail(&mut self, act: &Act) -> Result<(), AllocError>
+    /// Makes a call again that failed after this many steps.
+    fn fail(&mut self, act: &Act, steps: u64) -> Result<(), AllocError>
         ensures replays { OnOk result ((d : Disk) (files : List ℕ → Option File) → Replays self.old d files
-            → Replays self.new (entered d (Failed (call_of act.now) 0))
-            (left_entry self.old.kind d (Failed (call_of act.now) 0) files)) }
+            → Replays self.new (entered d (Failed (call_of act.now) steps))
+            (left_entry self.old.kind d (Failed (call_of act.now) steps) files)) }
         ensures kind { self.new.kind ≡ self.old.kind }
     {
         self.leave(act)?;
         self.marks.change(&self.reads, act)?;
         self.marks.fail(&self.reads, act)?;
-        self.reads.fail_again(act);
+        self.reads.fail_again(act, steps)?;
         self.firm = firm_after(self.firm, act, true);
         Ok(())
     }
@@ -440,10 +440,9 @@ impl Replay {
             (left_entry self.old.kind d (entry_of listed.now) files)) }
         ensures kind { self.new.kind ≡ self.old.kind }
     {
-        if listed.failed {
-            self.fail(&listed.act)
-        } else {
-            self.make(&listed.act)
+        match listed.failed {
+            Some(steps) => self.fail(&listed.act, steps),
+            None => self.make(&listed.act),
         }
     }
 

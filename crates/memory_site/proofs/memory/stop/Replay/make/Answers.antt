@@ -21,7 +21,7 @@ returns-clause-replays c = λ d f h.
     let lost = (marked_of c.leave.new.self.marks).lost in
     record {
       reads = ap (λ (x : Folder). after_done x call) reads ∙ sym c.in_ok-make_again.ensures;
-      firm = c.firm_after-self.ensures d (h.firm ∙ sym c.leave.ensures.firm);
+      firm = c.firm_after-self.ensures d 0 (h.firm ∙ sym c.leave.ensures.firm);
       marks = made_follow d call (folder_of c.leave.new.self.reads) (marked_of c.leave.new.self.marks)
           (marked_of c.change.new.self) (marked_of c.finish.new.self) reads c.in_ok-change.ensures
           c.in_ok-finish.ensures marks;
