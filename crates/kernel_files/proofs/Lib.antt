@@ -1,0 +1,3 @@
+pub mod Volumes
+mod Logs
+mod Silent

@@ -1,0 +1,4 @@
+pub mod Volume
+pub mod Stops
+pub mod Answers
+pub mod Log

@@ -1,0 +1,296 @@
+//! A kernel in memory. It tells its record. A call fails only if there is no memory for it, or if the name of a new
+//! file isn't free.
+ghost use Rattle.std.specs.Prelude.{◌≡◌, ◌+◌, ◌-◌, ◌++◌, ◌∷◌, [], length, min, take, slice_range, OnOk, OnErr, IfOk, IfErr};
+ghost use Rattle.crash_site.specs.Files.{written};
+ghost use Rattle.kernel_files.specs.Volume.{Volume, after_done};
+ghost use Rattle.kernel_files.specs.Answers.{volume, bytes_at};
+ghost use Rattle.kernel_files.specs.Log.{makes, creates, call_at, told_of};
+
+use crate::kernel::Kernel;
+use std::alloc::{AllocError, Global};
+use std::io::{self, ErrorKind};
+
+/// A call that was made.
+#[derive(Drop)]
+pub enum Act {
+    Create(Vec<u8>),
+    Write(usize, u64, Vec<u8>),
+    Append(usize, Vec<u8>),
+    SyncFile(usize),
+    Rename(Vec<u8>, Vec<u8>),
+    Unlink(Vec<u8>),
+    SyncFolder(Vec<u8>),
+}
+
+/// An open file.
+#[derive(Drop)]
+pub struct OpenNode {
+    number: usize,
+}
+
+/// The record of calls, where no file was at first.
+#[derive(Drop)]
+pub struct MemoryKernel {
+    alloc: Global,
+    log: Vec<Act>,
+    made: usize,
+    ghost counts: { made ≡ creates log.items },
+}
+
+impl MemoryKernel {
+    /// No call was made.
+    pub fn new(alloc: Global) -> MemoryKernel {
+        MemoryKernel {
+            alloc,
+            log: Vec::new(alloc),
+            made: 0,
+        }
+    }
+}
+
+/// How many files a call makes.
+fn makes(act: &Act) -> usize
+    ensures { result ≡ makes act.now }
+{
+    match act {
+        Act::Create(_) => 1,
+        _ => 0,
+    }
+}
+
+/// What a name leads to after a call: this file or none, or what another name led to before it.
+fn look<'a>(act: &'a Act, number: usize, name: &'a [u8]) -> Result<&'a [u8], Option<usize>>
+    ensures on { IfOk result (λ other. (v : Volume) → (after_done (call_at number act.now) v).names name.now
+        ≡ v.names other.now) }
+    ensures here { IfErr result (λ found. (v : Volume) → (after_done (call_at number act.now) v).names name.now
+        ≡ found) }
+{
+    match act {
+        Act::Create(own) => {
+            if own.as_slice() == name {
+                Err(Some(number))
+            } else {
+                Ok(name)
+            }
+        }
+        Act::Unlink(own) => {
+            if own.as_slice() == name {
+                Err(None)
+            } else {
+                Ok(name)
+            }
+        }
+        Act::Rename(from, to) => {
+            if to.as_slice() == name {
+                Ok(from.as_slice())
+            } else if from.as_slice() == name {
+                Err(None)
+            } else {
+                Ok(name)
+            }
+        }
+        _ => Ok(name),
+    }
+}
+
+/// The file to which a name leads.
+fn find(log: &[Act], made: usize, name: &[u8]) -> Option<usize>
+    requires { made ≡ creates log.now }
+    ensures { result ≡ (volume (told_of log.now)).names name.now }
+{
+    let mut end = log.len();
+    let mut number = made;
+    let mut wanted = name;
+    while end > 0 {
+        end -= 1;
+        number -= makes(&log[end]);
+        match look(&log[end], number, wanted) {
+            Ok(other) => wanted = other,
+            Err(found) => return found,
+        }
+    }
+    None
+}
+
+/// Bytes after a write at a place. A gap before it is filled with zeros.
+fn write_over(alloc: Global, old: &[u8], pos: usize, piece: &[u8]) -> Result<Vec<u8>, AllocError>
+    ensures { IfOk result (λ bytes. bytes.items ≡ written old.now pos piece.now) }
+{
+    let kept = pos.min(old.len());
+    let mut bytes = Vec::from_slice(alloc, &old[..kept])?;
+    bytes.resize(pos, 0)?;
+    bytes.extend_from_slice(piece)?;
+    if old.len() - kept > piece.len() {
+        bytes.extend_from_slice(&old[pos + piece.len()..])?;
+    }
+    Ok(bytes)
+}
+
+/// The bytes of a file after a call, if this many files were made before it.
+fn play(
+    alloc: Global,
+    bytes: Vec<u8>,
+    act: &Act,
+    made: usize,
+    number: usize,
+) -> Result<Vec<u8>, AllocError>
+    ensures { IfOk result (λ after. (v : Volume) → (v.nodes number).bytes ≡ bytes.items
+        → ((after_done (call_at made act.now) v).nodes number).bytes ≡ after.items) }
+{
+    match act {
+        Act::Create(_) => {
+            if made == number {
+                return Ok(Vec::new(alloc));
+            }
+        }
+        Act::Write(own, pos, piece) => {
+            if *own == number && !piece.is_empty() {
+                return write_over(alloc, bytes.as_slice(), *pos as usize, piece.as_slice());
+            }
+        }
+        Act::Append(own, piece) => {
+            if *own == number {
+                let mut bytes = bytes;
+                bytes.extend_from_slice(piece.as_slice())?;
+                return Ok(bytes);
+            }
+        }
+        _ => {}
+    }
+    Ok(bytes)
+}
+
+/// The bytes of a file.
+fn replay(alloc: Global, log: &[Act], number: usize) -> Result<Vec<u8>, AllocError>
+    ensures { IfOk result (λ bytes. bytes.items ≡ bytes_at (told_of log.now) number) }
+{
+    let mut bytes = Vec::new(alloc);
+    let mut made = 0;
+    for act in log {
+        bytes = play(alloc, bytes, act, made, number)?;
+        made += makes(act);
+    }
+    Ok(bytes)
+}
+
+/// Copies the bytes from a place on, as many as there are and as the buffer takes.
+fn copy_part(bytes: &[u8], pos: u64, buf: &mut [u8]) -> usize
+    ensures count { result ≡ min (length buf.old) (length bytes.now - pos) }
+    ensures part { take result buf.new ≡ slice_range bytes.now pos (pos + result) }
+{
+    let at = pos as usize;
+    if at >= bytes.len() {
+        return 0;
+    }
+    let n = buf.len().min(bytes.len() - at);
+    buf[..n].copy_from_slice(&bytes[at..at + n]);
+    n
+}
+
+/// Lists a call, if there is memory for it.
+fn list(log: &mut Vec<Act>, act: Act) -> io::Result<()>
+    ensures ok { OnOk result (log.new.items ≡ log.old.items ++ act ∷ []) }
+    ensures err { OnErr result (log.new.items ≡ log.old.items) }
+{
+    match log.push(act) {
+        Ok(()) => Ok(()),
+        Err(_) => Err(ErrorKind::OutOfMemory.into()),
+    }
+}
+
+impl Kernel for MemoryKernel {
+    type Open = OpenNode;
+
+    ghost told = { λ k. told_of k.log.items };
+
+    ghost number = { λ file. file.number };
+
+    fn open(&self, name: &str, _write: bool) -> io::Result<Option<OpenNode>> {
+        match find(self.log.as_slice(), self.made, name.as_bytes()) {
+            Some(number) => Ok(Some(OpenNode { number })),
+            None => Ok(None),
+        }
+    }
+
+    fn create_new(&mut self, name: &str) -> io::Result<OpenNode> {
+        match find(self.log.as_slice(), self.made, name.as_bytes()) {
+            Some(_) => return Err(ErrorKind::AlreadyExists.into()),
+            None => {}
+        }
+        let Ok(copied) = Vec::from_slice(self.alloc, name.as_bytes()) else {
+            return Err(ErrorKind::OutOfMemory.into());
+        };
+        if self.made == usize::MAX {
+            return Err(ErrorKind::OutOfMemory.into());
+        }
+        match list(&mut self.log, Act::Create(copied)) {
+            Ok(()) => {}
+            Err(fault) => return Err(fault),
+        }
+        let number = self.made;
+        self.made += 1;
+        Ok(OpenNode { number })
+    }
+
+    fn read_at(&self, file: &OpenNode, pos: u64, buf: &mut [u8]) -> io::Result<usize> {
+        let Ok(bytes) = replay(self.alloc, self.log.as_slice(), file.number) else {
+            return Err(ErrorKind::OutOfMemory.into());
+        };
+        Ok(copy_part(bytes.as_slice(), pos, buf))
+    }
+
+    fn write_at(&mut self, file: &OpenNode, pos: u64, piece: &[u8]) -> io::Result<usize> {
+        let Ok(copied) = Vec::from_slice(self.alloc, piece) else {
+            return Err(ErrorKind::OutOfMemory.into());
+        };
+        list(&mut self.log, Act::Write(file.number, pos, copied))?;
+        Ok(piece.len())
+    }
+
+    fn append(&mut self, file: &OpenNode, piece: &[u8]) -> io::Result<usize> {
+        let Ok(copied) = Vec::from_slice(self.alloc, piece) else {
+            return Err(ErrorKind::OutOfMemory.into());
+        };
+        list(&mut self.log, Act::Append(file.number, copied))?;
+        Ok(piece.len())
+    }
+
+    fn length(&self, file: &OpenNode) -> io::Result<u64> {
+        match replay(self.alloc, self.log.as_slice(), file.number) {
+            Ok(bytes) => Ok(bytes.len() as u64),
+            Err(_) => Err(ErrorKind::OutOfMemory.into()),
+        }
+    }
+
+    fn sync_file(&mut self, file: &OpenNode) -> io::Result<()> {
+        list(&mut self.log, Act::SyncFile(file.number))
+    }
+
+    fn sync_folder(&mut self, folder: &str) -> io::Result<()> {
+        let Ok(copied) = Vec::from_slice(self.alloc, folder.as_bytes()) else {
+            return Err(ErrorKind::OutOfMemory.into());
+        };
+        list(&mut self.log, Act::SyncFolder(copied))
+    }
+
+    fn rename(&mut self, from: &str, to: &str) -> io::Result<()> {
+        let Ok(first) = Vec::from_slice(self.alloc, from.as_bytes()) else {
+            return Err(ErrorKind::OutOfMemory.into());
+        };
+        let Ok(second) = Vec::from_slice(self.alloc, to.as_bytes()) else {
+            return Err(ErrorKind::OutOfMemory.into());
+        };
+        list(&mut self.log, Act::Rename(first, second))
+    }
+
+    fn unlink(&mut self, name: &str) -> io::Result<()> {
+        let Ok(copied) = Vec::from_slice(self.alloc, name.as_bytes()) else {
+            return Err(ErrorKind::OutOfMemory.into());
+        };
+        list(&mut self.log, Act::Unlink(copied))
+    }
+
+    fn lock(&self, _file: &OpenNode) -> io::Result<()> {
+        Ok(())
+    }
+}

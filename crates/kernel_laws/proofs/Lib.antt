@@ -1,0 +1,16 @@
+mod Nodes
+mod Names
+mod Stops
+mod Begins
+mod Drafts
+mod Publishes
+mod Removes
+mod Settles
+mod Refined
+mod Denied
+mod Saved
+mod Covers
+mod Spares
+mod Images
+mod ImageCalls
+mod Opens

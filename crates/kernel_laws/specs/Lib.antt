@@ -1,0 +1,3 @@
+pub mod Refines
+pub mod Calls
+pub mod Laws
