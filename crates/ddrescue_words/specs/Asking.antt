@@ -4,7 +4,6 @@ use Rattle.block_list.specs.declared.types.TypeSet.{TypeSet}
 use Rattle.option_words.specs.Words.{word}
 use Rattle.option_words.specs.declared.row.Row.{Row}
 use Rattle.option_words.specs.declared.reading.Item.{Item}
-use Rattle.option_words.specs.declared.reading.WordReading.{WordReading}
 use Rattle.option_words.specs.declared.fault.UsageFault.{UsageFault}
 use Rattle.option_words.specs.declared.fault.UsageFault.TheVariants.{BadValue, Conflict, Operands}
 use Rattle.option_words.specs.declared.command_error.CommandError.{CommandError}
@@ -182,10 +181,6 @@ task_from words items (Ok o) operands =
 -- what words ask for by their options and operands, or their first fault
 abbrev pub task_in : List (List ℕ) → List Item → (operands : List ℕ) → Result Task UsageFault
 task_in words items operands = task_from words items (options_in words items) operands
-
--- what a reading that the code has asks for, or its first fault
-abbrev pub task_read : List (List ℕ) → WordReading → Result Task UsageFault
-task_read words r = task_in words r.items.items r.operands.items
 
 -- the grammar of a rescue
 abbrev pub rescue_grammar : Grammar Task

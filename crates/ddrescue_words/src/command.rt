@@ -1,21 +1,24 @@
 //! What the words of a command line ask for.
-ghost use Rattle.std.specs.Prelude.{◌≡◌, All, Ok, Err, is_some, IfOk, IfErr, option_map};
+ghost use Rattle.std.specs.Prelude.{◌≡◌, All, Ok, Err, is_some, IfOk, IfErr, option_map, true, map};
+ghost use Rattle.option_words.specs.Rows.{meaning_of_row};
 ghost use Rattle.option_words.specs.Spots.{HasSpot};
+ghost use Rattle.option_words.specs.Tables.{is_table};
 ghost use Rattle.option_words.specs.Values.{IsWord};
-ghost use Rattle.ddrescue_words.specs.Asking.{AreInLimits, AreOptions, IsErrorOf, IsTask, command_with, conflict_in, first_word, goes_with_sample, is_mode_given, later_word, maps_in, mode_task, modes_conflict, sample_command, sample_conflict, sample_task, task_by, task_read, task_with, test_conflict, told_by, wants_mapfile};
+ghost use Rattle.ddrescue_words.specs.Asking.{AreInLimits, AreOptions, IsErrorOf, IsTask, command_with, conflict_in, first_word, goes_with_sample, is_mode_given, later_word, maps_in, mode_task, modes_conflict, sample_command, sample_conflict, sample_task, task_by, task_in, task_with, test_conflict, told_by, wants_mapfile};
+ghost use Rattle.ddrescue_words.specs.Options.{option_meanings};
 
 use crate::options::{
-    CLUSTER_SIZE, DOMAIN_MAPFILE, FILL_MODE, GENERATE_MODE, Options, SAMPLE, TEST_MODE,
-    option_table,
+    CLUSTER_SIZE, DOMAIN_MAPFILE, FILL_MODE, GENERATE_MODE, Options, ROWS, SAMPLE, TEST_MODE,
 };
 use block_list::types::TypeSet;
-use option_words::command_error::{CommandError, unread, usage_error};
+use option_words::asked::{Asked, read_asked};
+use option_words::command_error::CommandError;
 use option_words::fault::UsageFault;
 use option_words::given::{QUIET, is_given, last_of, last_value, letter_of};
 use option_words::operands::find_empty;
 use option_words::option_values::{OptionValues, read_options};
-use option_words::reader::read_words;
 use option_words::reading::{Item, WordReading};
+use option_words::row::Row;
 use option_words::table::OptionTable;
 use option_words::words::Words;
 use run_options::passes::Passes;
@@ -243,34 +246,45 @@ fn name_task<'a>(
     }
 }
 
-/// What a reading of the words asks for.
-fn task_of<'a>(
-    table: &OptionTable,
-    words: &'a Words,
-    reading: &WordReading,
-) -> Result<Task<'a>, UsageFault>
-    requires table { AreOptions table.now }
-    requires spots { All (HasSpot words.now) reading.now.items.items }
-    requires operands { All (IsWord words.now) reading.now.operands.items }
-    ensures asked { IfOk result (λ t. task_read words.now reading.now ≡ Ok (task_by t)) }
-    ensures refused { IfErr result (λ fault. task_read words.now reading.now ≡ Err fault) }
-{
-    let options: Options = match read_options(table, words, &reading.items) {
-        Ok(options) => options,
-        Err(word) => return Err(UsageFault::BadValue { word }),
-    };
-    if options.is_too_large() {
-        let word = last_of(table, words, CLUSTER_SIZE, &reading.items).map_or(0, |item| item.word);
-        return Err(UsageFault::BadValue { word });
+impl<'a> Asked<'a> for Task<'a> {
+    ghost options = { option_meanings };
+
+    ghost asks = { λ words items operands c. task_in words items operands ≡ Ok (task_by c) };
+
+    ghost refuses = { λ words items operands fault. task_in words items operands ≡ Err fault };
+
+    fn rows() -> &'static [Row]
+        ensures table { is_table result.now ≡ true }
+        ensures options { map meaning_of_row result.now ≡ option_meanings }
+    {
+        &ROWS
     }
-    if let Some(word) = find_conflict(table, &reading.items, options.sample.is_some()) {
-        return Err(UsageFault::Conflict { word });
+
+    fn of_reading(
+        table: &OptionTable,
+        words: &'a Words,
+        reading: &WordReading,
+    ) -> Result<Task<'a>, UsageFault> {
+        let options: Options = match read_options(table, words, &reading.items) {
+            Ok(options) => options,
+            Err(word) => return Err(UsageFault::BadValue { word }),
+        };
+        if options.is_too_large() {
+            let word = last_of(table, words, CLUSTER_SIZE, &reading.items).map_or(
+                0,
+                |item| item.word,
+            );
+            return Err(UsageFault::BadValue { word });
+        }
+        if let Some(word) = find_conflict(table, &reading.items, options.sample.is_some()) {
+            return Err(UsageFault::Conflict { word });
+        }
+        let task = name_task(table, words, reading, options)?;
+        if let Some(word) = find_empty(words, &reading.operands) {
+            return Err(UsageFault::BadValue { word });
+        }
+        Ok(task)
     }
-    let task = name_task(table, words, reading, options)?;
-    if let Some(word) = find_empty(words, &reading.operands) {
-        return Err(UsageFault::BadValue { word });
-    }
-    Ok(task)
 }
 
 /// Reads the words of a command line: `[options] infile outfile [mapfile]`, of which some modes want the mapfile, or
@@ -281,13 +295,8 @@ pub fn read_command(alloc: Global, words: &Words) -> Result<Task<'_>, CommandErr
     ensures asked { IfOk result (λ t. IsTask words.now t) }
     ensures refused { IfErr result (λ e. IsErrorOf words.now e) }
 {
-    let table = option_table();
-    let reading = match read_words(alloc, words, &table) {
-        Ok(reading) => reading,
-        Err(fault) => return Err(unread(fault)),
-    };
-    match task_of(&table, words, &reading) {
-        Ok(task) => Ok(task),
-        Err(fault) => Err(usage_error(&table, &reading.items, fault)),
+    match read_asked(alloc, words) {
+        Ok(asked) => Ok(asked),
+        Err(refusal) => Err(refusal.error),
     }
 }

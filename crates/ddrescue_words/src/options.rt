@@ -4,7 +4,7 @@ ghost use Rattle.std.specs.Result.{result_ok};
 ghost use Rattle.size_suffixes.specs.Interval.{interval};
 ghost use Rattle.option_words.specs.Values.{number_by, row_of, set_by, size_by, within_range};
 ghost use Rattle.ddrescue_words.specs.Options.{area_limit_of, cluster_of, in_sectors, lettered_rows, no_options, option_rows, sample_of, sample_row, sectors_of, skips_of};
-ghost use Rattle.ddrescue_words.specs.Asking.{AreInLimits, AreOptions, is_too_large, wants_mapfile};
+ghost use Rattle.ddrescue_words.specs.Asking.{AreInLimits, is_too_large, wants_mapfile};
 
 use crate::skips::{DEFAULT_SKIP, DEFAULT_SKIP_MAX, in_sectors, read_skips};
 use block_list::types::TypeSet;
@@ -12,7 +12,6 @@ use option_words::given::letter_of;
 use option_words::option_row;
 use option_words::option_values::{OptionValues, SECTOR_SIZE};
 use option_words::row::Row;
-use option_words::table::OptionTable;
 use option_words::values::{is_name, number_by, size_by, within_range};
 use run_options::limits::{AreaLimit, Limits};
 use run_options::passes::Passes;
@@ -53,33 +52,33 @@ const MOST_SAMPLE: u64 = 65_536;
 
 /// The options. A later one is a row here, before the last, and an arm in `with_letter`.
 pub static ROWS: [Row; 27] = [
-    option_row!('a', "min-read-rate", Always),
-    option_row!('A', "try-again", Never),
-    option_row!('b', "sector-size", Always),
-    option_row!('c', "cluster-size", Always),
-    option_row!('C', "complete-only", Never),
-    option_row!('e', "max-bad-areas", Always),
-    option_row!('f', "force", Never),
-    option_row!('F', "fill-mode", Always),
-    option_row!('G', "generate-mode", Never),
-    option_row!('H', "test-mode", Always),
-    option_row!('i', "input-position", Always),
-    option_row!('K', "skip-size", Always),
-    option_row!('L', "loose-domain", Never),
-    option_row!('m', "domain-mapfile", Always),
-    option_row!('M', "retrim", Never),
-    option_row!('n', "no-scrape", Never),
-    option_row!('N', "no-trim", Never),
-    option_row!('o', "output-position", Always),
-    option_row!('q', "quiet", Never),
-    option_row!('r', "retry-passes", Always),
-    option_row!('R', "reverse", Never),
-    option_row!('s', "size", Always),
-    option_row!('T', "timeout", Always),
-    option_row!('u', "unidirectional", Never),
-    option_row!('v', "verbose", Never),
-    option_row!('X', "max-read-errors", Always),
-    option_row!("sample", Always),
+    option_row!('a', "min-read-rate", Always(Size): "skip past reads slower than this many bytes a second"),
+    option_row!('A', "try-again", Never: "copy again what is left to trim or to scrape"),
+    option_row!('b', "sector-size", Always(Size): "set the size of a sector"),
+    option_row!('c', "cluster-size", Always(Sectors): "read this many sectors at a time in copying"),
+    option_row!('C', "complete-only", Never: "rescue only what the mapfile lists"),
+    option_row!('e', "max-bad-areas", Always(Areas): "stop when more areas than this failed"),
+    option_row!('f', "force", Never: "allow an outfile that is not a regular file, such as a device"),
+    option_row!('F', "fill-mode", Always(Types): "write infile where the mapfile has one of these statuses"),
+    option_row!('G', "generate-mode", Never: "make the mapfile from what outfile holds"),
+    option_row!('H', "test-mode", Always(TestMap): "read only what is finished in this map"),
+    option_row!('i', "input-position", Always(Size): "begin at this position of infile"),
+    option_row!('K', "skip-size", Always(Skips): "skip this many bytes after a failed read"),
+    option_row!('L', "loose-domain", Never: "accept a domain map and a test map with gaps"),
+    option_row!('m', "domain-mapfile", Always(DomainMap): "rescue only what is finished in this map"),
+    option_row!('M', "retrim", Never: "trim again everything that failed before"),
+    option_row!('n', "no-scrape", Never: "skip scraping"),
+    option_row!('N', "no-trim", Never: "skip trimming"),
+    option_row!('o', "output-position", Always(Size): "begin at this position of outfile"),
+    option_row!('q', "quiet", Never: "print nothing"),
+    option_row!('r', "retry-passes", Always(Retries): "retry the bad sectors in this many passes"),
+    option_row!('R', "reverse", Never: "reverse the direction of each pass"),
+    option_row!('s', "size", Always(Size): "rescue at most this many bytes"),
+    option_row!('T', "timeout", Always(Interval): "stop when no read has succeeded for longer than this"),
+    option_row!('u', "unidirectional", Never: "run all passes in the same direction"),
+    option_row!('v', "verbose", Never: "print first how many bytes are to be rescued"),
+    option_row!('X', "max-read-errors", Always(Number): "stop when more reads than this have failed"),
+    option_row!("sample", Always(Kib): "rescue a sample of this many KiB in memory"),
 ];
 
 /// What the options of a command line ask for.
@@ -181,16 +180,6 @@ impl Options {
     }
 }
 
-/// The table of the options.
-pub(crate) fn option_table() -> OptionTable
-    ensures { AreOptions result }
-{
-    match OptionTable::checked(&ROWS) {
-        Some(table) => table,
-        None => unreachable!(),
-    }
-}
-
 /// The least rate that a value gives, if it does.
 fn read_min_rate(sector: u64, value: Option<&str>) -> Option<u64>
     requires low { 0 < sector }
@@ -274,7 +263,12 @@ macro_rules! set_by_letter {
 }
 
 /// What the option of a letter sets by its value; nothing if that is a bad one, or if no option has the letter.
-fn with_letter(options: Options, sector: u64, letter: char, value: Option<&str>) -> Option<Options>
+pub fn with_letter(
+    options: Options,
+    sector: u64,
+    letter: char,
+    value: Option<&str>,
+) -> Option<Options>
     requires low { 0 < sector }
     requires high { sector ≤ 1048576 }
     ensures { result ≡ set_by (row_of letter lettered_rows) sector options (option_map (λ v. v.now) value.entry) }

@@ -3,7 +3,6 @@ ghost use Rattle.std.specs.Prelude.{◌≡◌, ◌<◌, ◌≤◌, option_map};
 ghost use Rattle.option_words.specs.Values.{row_of, set_by};
 ghost use Rattle.ddrescuelog_words.specs.Modes.{one_type, two_types, with_map};
 ghost use Rattle.ddrescuelog_words.specs.Options.{ends_beyond, no_options, option_rows};
-ghost use Rattle.ddrescuelog_words.specs.Command.{AreOptions};
 
 use crate::mode::LogMode;
 use block_list::status::Status;
@@ -14,7 +13,6 @@ use option_words::given::letter_of;
 use option_words::option_row;
 use option_words::option_values::{OptionValues, SECTOR_SIZE};
 use option_words::row::Row;
-use option_words::table::OptionTable;
 use option_words::values::{is_name, size_by};
 
 /// The least end that is too large for a map.
@@ -36,28 +34,28 @@ pub(crate) static MODES: [char; 13] = [
 
 /// The options. A later one is a row here and an arm in `with_letter`.
 pub static ROWS: [Row; 22] = [
-    option_row!('a', "change-types", Always),
-    option_row!('b', "block-size", Always),
-    option_row!('c', "create-mapfile", Optional),
-    option_row!('C', "complete-mapfile", Optional),
-    option_row!('d', "delete-if-done", Never),
-    option_row!('D', "done-status", Never),
-    option_row!('f', "force", Never),
-    option_row!('i', "input-position", Always),
-    option_row!('l', "list-blocks", Always),
-    option_row!('L', "loose-domain", Never),
-    option_row!('m', "domain-mapfile", Always),
-    option_row!('n', "invert-mapfile", Never),
-    option_row!('o', "output-position", Always),
-    option_row!('p', "compare-mapfile", Always),
-    option_row!('P', "compare-as-domain", Always),
-    option_row!('q', "quiet", Never),
-    option_row!('s', "size", Always),
-    option_row!('t', "show-status", Never),
-    option_row!('v', "verbose", Never),
-    option_row!('x', "xor-mapfile", Always),
-    option_row!('y', "and-mapfile", Always),
-    option_row!('z', "or-mapfile", Always),
+    option_row!('a', "change-types", Always(TypeLists): "print the map with types changed"),
+    option_row!('b', "block-size", Always(Size): "set the size of a block"),
+    option_row!('c', "create-mapfile", Optional(TwoTypes): "make a map from numbers of blocks"),
+    option_row!('C', "complete-mapfile", Optional(OneType): "print the map with its gaps filled"),
+    option_row!('d', "delete-if-done", Never: "remove the mapfile if everything examined is finished"),
+    option_row!('D', "done-status", Never: "answer 0 if everything examined is finished"),
+    option_row!('f', "force", Never: "let -c replace a file"),
+    option_row!('i', "input-position", Always(Size): "begin at this position of the map"),
+    option_row!('l', "list-blocks", Always(Types): "print the numbers of the blocks that have one of these types"),
+    option_row!('L', "loose-domain", Never: "accept a domain map with gaps"),
+    option_row!('m', "domain-mapfile", Always(DomainMap): "examine only what is finished in this map"),
+    option_row!('n', "invert-mapfile", Never: "print the map with finished and unfinished swapped"),
+    option_row!('o', "output-position", Always(Size): "begin at this position of the output"),
+    option_row!('p', "compare-mapfile", Always(Mapfile): "answer 0 if both maps have the same statuses"),
+    option_row!('P', "compare-as-domain", Always(Mapfile): "answer 0 if the same is finished in both"),
+    option_row!('q', "quiet", Never: "print no message"),
+    option_row!('s', "size", Always(Size): "examine at most this many bytes"),
+    option_row!('t', "show-status", Never: "print how much has each status"),
+    option_row!('v', "verbose", Never: "do nothing"),
+    option_row!('x', "xor-mapfile", Always(Mapfile): "print what only one of both maps has finished"),
+    option_row!('y', "and-mapfile", Always(Mapfile): "print what both maps have finished"),
+    option_row!('z', "or-mapfile", Always(Mapfile): "print what at least one map has finished"),
 ];
 
 /// What the options of a command line ask for.
@@ -90,16 +88,6 @@ impl LogOptions {
             Some(size) => self.input_position.saturating_add(size) >= END_LIMIT,
             None => false,
         }
-    }
-}
-
-/// The table of the options.
-pub(crate) fn option_table() -> OptionTable
-    ensures { AreOptions result }
-{
-    match OptionTable::checked(&ROWS) {
-        Some(table) => table,
-        None => unreachable!(),
     }
 }
 

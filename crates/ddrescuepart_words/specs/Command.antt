@@ -4,7 +4,6 @@ use Rattle.option_words.specs.Words.{word}
 use Rattle.option_words.specs.declared.row.Takes.TheVariants.{Never}
 use Rattle.option_words.specs.declared.row.Row.{Row}
 use Rattle.option_words.specs.declared.reading.Item.{Item}
-use Rattle.option_words.specs.declared.reading.WordReading.{WordReading}
 use Rattle.option_words.specs.declared.fault.UsageFault.{UsageFault}
 use Rattle.option_words.specs.declared.fault.UsageFault.TheVariants.{BadValue, Operands}
 use Rattle.option_words.specs.declared.command_error.CommandError.{CommandError}
@@ -52,10 +51,6 @@ with_operands words quiet (i ∷ k ∷ n ∷ more) = Err (Operands (length (i �
 -- what a reading of the words asks for, or its first fault
 abbrev pub command_in : List (List ℕ) → List Item → (operands : List ℕ) → Result Command UsageFault
 command_in words items operands = with_operands words (is_given option_meanings quiet_letter items) operands
-
--- what a reading that the code has asks for, or its first fault
-abbrev pub command_read : List (List ℕ) → WordReading → Result Command UsageFault
-command_read words r = command_in words r.items.items r.operands.items
 
 -- the grammar of `ddrescuepart`
 abbrev pub part_grammar : Grammar Command

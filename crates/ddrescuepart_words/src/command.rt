@@ -1,13 +1,15 @@
 //! What the words of a command line ask for.
-ghost use Rattle.std.specs.Prelude.{◌≡◌, All, Ok, Err, IfOk, IfErr};
+ghost use Rattle.std.specs.Prelude.{◌≡◌, All, Ok, Err, IfOk, IfErr, true, map};
+ghost use Rattle.option_words.specs.Rows.{meaning_of_row};
+ghost use Rattle.option_words.specs.Tables.{is_table};
 ghost use Rattle.option_words.specs.Values.{IsWord};
-ghost use Rattle.ddrescuepart_words.specs.Command.{AreOptions, IsAsked, IsErrorOf, command_read, partition_by, told_by, with_operands};
+ghost use Rattle.ddrescuepart_words.specs.Command.{AreOptions, IsAsked, IsErrorOf, command_in, option_meanings, partition_by, told_by, with_operands};
 
-use option_words::command_error::{CommandError, unread, usage_error};
+use option_words::asked::{Asked, read_asked};
+use option_words::command_error::CommandError;
 use option_words::fault::UsageFault;
 use option_words::given::{QUIET, is_given};
 use option_words::option_row;
-use option_words::reader::read_words;
 use option_words::reading::WordReading;
 use option_words::row::Row;
 use option_words::table::OptionTable;
@@ -19,7 +21,7 @@ use std::alloc::Global;
 const LAST_PARTITION: u64 = 132;
 
 /// The options.
-pub static ROWS: [Row; 1] = [option_row!('q', "quiet", Never)];
+pub static ROWS: [Row; 1] = [option_row!('q', "quiet", Never: "print no message")];
 
 /// What the words of a command line ask for.
 #[derive(Clone, Copy, Debug)]
@@ -29,16 +31,6 @@ pub struct Command<'a> {
     pub partition: u64,
     /// No message is put; by default it is. The map is put all the same.
     pub quiet: bool,
-}
-
-/// The table of the options.
-fn option_table() -> OptionTable
-    ensures { AreOptions result }
-{
-    match OptionTable::checked(&ROWS) {
-        Some(table) => table,
-        None => unreachable!(),
-    }
 }
 
 /// The number of a partition that a text gives, if it does.
@@ -76,19 +68,28 @@ fn name_operands<'a>(
     }
 }
 
-/// What a reading of the words asks for.
-fn command_of<'a>(
-    table: &OptionTable,
-    words: &'a Words,
-    reading: &WordReading,
-) -> Result<Command<'a>, UsageFault>
-    requires table { AreOptions table.now }
-    requires operands { All (IsWord words.now) reading.now.operands.items }
-    ensures asked { IfOk result (λ c. command_read words.now reading.now ≡ Ok (told_by c)) }
-    ensures refused { IfErr result (λ fault. command_read words.now reading.now ≡ Err fault) }
-{
-    let quiet = is_given(table, QUIET, &reading.items);
-    name_operands(words, quiet, &reading.operands)
+impl<'a> Asked<'a> for Command<'a> {
+    ghost options = { option_meanings };
+
+    ghost asks = { λ words items operands c. command_in words items operands ≡ Ok (told_by c) };
+
+    ghost refuses = { λ words items operands fault. command_in words items operands ≡ Err fault };
+
+    fn rows() -> &'static [Row]
+        ensures table { is_table result.now ≡ true }
+        ensures options { map meaning_of_row result.now ≡ option_meanings }
+    {
+        &ROWS
+    }
+
+    fn of_reading(
+        table: &OptionTable,
+        words: &'a Words,
+        reading: &WordReading,
+    ) -> Result<Command<'a>, UsageFault> {
+        let quiet = is_given(table, QUIET, &reading.items);
+        name_operands(words, quiet, &reading.operands)
+    }
 }
 
 /// Reads the words of a command line: `[-q] infile k`. The words themselves come first, then the number of operands,
@@ -97,13 +98,8 @@ pub fn read_command(alloc: Global, words: &Words) -> Result<Command<'_>, Command
     ensures asked { IfOk result (λ c. IsAsked words.now (told_by c)) }
     ensures refused { IfErr result (λ e. IsErrorOf words.now e) }
 {
-    let table = option_table();
-    let reading = match read_words(alloc, words, &table) {
-        Ok(reading) => reading,
-        Err(fault) => return Err(unread(fault)),
-    };
-    match command_of(&table, words, &reading) {
-        Ok(command) => Ok(command),
-        Err(fault) => Err(usage_error(&table, &reading.items, fault)),
+    match read_asked(alloc, words) {
+        Ok(asked) => Ok(asked),
+        Err(refusal) => Err(refusal.error),
     }
 }

@@ -1,19 +1,19 @@
 -- What options set, one after the other, is within limits, and plain.
-use Rattle.std.proofs.Common.{◌≡◌, ℕ, zero, suc, List, slice_get, Option, Some, None, Ok, refl, ◌∙◌, ap, subst}
-use Rattle.std.proofs.lemmas.Option.{same_Some}
-use Rattle.std.specs.Option.{option_map}
+use Rattle.std.proofs.Common.{◌≡◌, ℕ, List, slice_get, Option, Some, None, Ok, refl, sym, ◌∙◌, ap, subst}
+use Rattle.std.proofs.lemmas.Option.{same_Some, slice_get-map}
+use Rattle.std.specs.Option.{option_map, option_and_then}
 use Rattle.option_words.specs.Rows.{is_letter}
 use Rattle.option_words.specs.declared.reading.Item.{Item}
-use Rattle.option_words.specs.Values.{OptionRow, is_given, quiet_letter, row_of, set_by}
+use Rattle.option_words.specs.Values.{OptionRow, is_given, letter_meant, quiet_letter, row_of, set_by}
 use Rattle.option_words.proofs.KeepLemmas.{AreKept, Begins, Keeps, Kept, RowKeeps, options_keep as kept_in}
-use Rattle.option_words.proofs.RowLemmas.{◌and◌, EachRow, row_passes}
+use Rattle.option_words.proofs.RowLemmas.{◌and◌, EachRow, letter_given, lettered_passes, without_last}
 use Rattle.option_words.proofs.TurnLemmas.{IsSector}
 use Rattle.option_words.proofs.ValueLemmas.{map_part}
 use Rattle.ddrescue_words.specs.declared.options.Options.{Options}
-use Rattle.ddrescue_words.specs.Options.{option_rows as rescue_rows, no_options as no_rescue_options}
+use Rattle.ddrescue_words.specs.Options.{lettered_rows, sample_row, option_rows as rescue_rows, no_options as no_rescue_options}
 use Rattle.ddrescue_words.proofs.OptionLemmas.{AreInRange, none_begins as none_rescued, rescue_kept, rows_keep as rescue_rows_keep}
 use Rattle.ddrescueplan_words.specs.declared.options.PlanOptions.{PlanOptions}
-use Rattle.ddrescueplan_words.specs.Options.{of_rescue, no_options, rescue_places, option_meanings, option_rows, options_in}
+use Rattle.ddrescueplan_words.specs.Options.{of_rescue, no_options, option_letters, option_meanings, option_row, option_rows, options_in}
 use Rattle.ddrescueplan_words.specs.Command.{ArePlain}
 
 -- plain options stay so with what options of a plan set
@@ -51,53 +51,44 @@ plan_kept = record {
   quiet = λ o. o.rescue.quiet;
 }
 
--- an option sets what the rescue's at its place does
-placed : (k l place sector : ℕ) (o : PlanOptions) (v : Option (List ℕ)) → Some place ≡ Some k
-    → slice_get rescue_rows k ≡ row_of l rescue_rows
-    → option_map of_rescue (set_by (slice_get rescue_rows place) sector o.rescue v)
-    ≡ option_map of_rescue (set_by (row_of l rescue_rows) sector o.rescue v)
-placed k l place sector o v e is =
-    ap (λ (r : Option (OptionRow Options)). option_map of_rescue (set_by r sector o.rescue v))
-    (ap (slice_get rescue_rows) (same_Some place k e) ∙ is)
+letter_in : (l : Option ℕ) → option_and_then (λ (r : OptionRow PlanOptions). r.letter) (option_map option_row l) ≡ l
+letter_in None = refl
+letter_in (Some c) = refl
 
-pub row_sets : (row place sector : ℕ) (o : PlanOptions) (v : Option (List ℕ)) → Some place ≡ slice_get rescue_places row
-    → option_map of_rescue (set_by (slice_get rescue_rows place) sector o.rescue v)
+-- the letter of a row is that at its place
+letter_there : (row : ℕ) (l : Option ℕ) → letter_meant (slice_get option_meanings row) ≡ l
+    → slice_get option_letters row ≡ l
+letter_there row l e =
+    sym (letter_in (slice_get option_letters row))
+    ∙ ap (option_and_then (λ (r : OptionRow PlanOptions). r.letter)) (sym (slice_get-map option_row option_letters row))
+    ∙ sym (letter_given option_rows row) ∙ e
+
+row_there : (row : ℕ) (l : Option ℕ) → letter_meant (slice_get option_meanings row) ≡ l
+    → slice_get option_rows row ≡ option_map option_row l
+row_there row l e = slice_get-map option_row option_letters row ∙ ap (option_map option_row) (letter_there row l e)
+
+-- an option sets what the rescue's with its letter does
+pub letter_sets : (row letter sector : ℕ) (o : PlanOptions) (v : Option (List ℕ))
+    → letter_meant (slice_get option_meanings row) ≡ Some letter
+    → option_map of_rescue (set_by (row_of letter lettered_rows) sector o.rescue v)
     ≡ set_by (slice_get option_rows row) sector o v
-row_sets zero place sector o v e = placed 2 98 place sector o v e refl
-row_sets (suc zero) place sector o v e = placed 3 99 place sector o v e refl
-row_sets (suc (suc zero)) place sector o v e = placed 10 105 place sector o v e refl
-row_sets (suc (suc (suc zero))) place sector o v e = placed 11 75 place sector o v e refl
-row_sets (suc (suc (suc (suc zero)))) place sector o v e = placed 15 110 place sector o v e refl
-row_sets (suc (suc (suc (suc (suc zero))))) place sector o v e = placed 16 78 place sector o v e refl
-row_sets (suc (suc (suc (suc (suc (suc zero)))))) place sector o v e = placed 18 113 place sector o v e refl
-row_sets (suc (suc (suc (suc (suc (suc (suc zero))))))) place sector o v e = placed 19 114 place sector o v e refl
-row_sets (suc (suc (suc (suc (suc (suc (suc (suc zero)))))))) place sector o v e = placed 20 82 place sector o v e refl
-row_sets (suc (suc (suc (suc (suc (suc (suc (suc (suc zero))))))))) place sector o v e = placed 21 115 place sector o v e refl
-row_sets (suc (suc (suc (suc (suc (suc (suc (suc (suc (suc zero)))))))))) place sector o v e = placed 23 117 place sector o v e refl
-row_sets (suc (suc (suc (suc (suc (suc (suc (suc (suc (suc (suc n))))))))))) place sector o v e = absurd (cc)
+letter_sets row letter sector o v e =
+    ap (λ (r : Option (OptionRow Options)). option_map of_rescue (set_by r sector o.rescue v))
+    (sym (without_last lettered_rows sample_row letter refl))
+    ∙ ap (λ (r : Option (OptionRow PlanOptions)). set_by r sector o v) (sym (row_there row (Some letter) e))
 
-pub no_row_sets : (row sector : ℕ) (o : PlanOptions) (v : Option (List ℕ)) → None ≡ slice_get rescue_places row
-    → None ≡ set_by (slice_get option_rows row) sector o v
-no_row_sets zero sector o v e = absurd (cc)
-no_row_sets (suc zero) sector o v e = absurd (cc)
-no_row_sets (suc (suc zero)) sector o v e = absurd (cc)
-no_row_sets (suc (suc (suc zero))) sector o v e = absurd (cc)
-no_row_sets (suc (suc (suc (suc zero)))) sector o v e = absurd (cc)
-no_row_sets (suc (suc (suc (suc (suc zero))))) sector o v e = absurd (cc)
-no_row_sets (suc (suc (suc (suc (suc (suc zero)))))) sector o v e = absurd (cc)
-no_row_sets (suc (suc (suc (suc (suc (suc (suc zero))))))) sector o v e = absurd (cc)
-no_row_sets (suc (suc (suc (suc (suc (suc (suc (suc zero)))))))) sector o v e = absurd (cc)
-no_row_sets (suc (suc (suc (suc (suc (suc (suc (suc (suc zero))))))))) sector o v e = absurd (cc)
-no_row_sets (suc (suc (suc (suc (suc (suc (suc (suc (suc (suc zero)))))))))) sector o v e = absurd (cc)
-no_row_sets (suc (suc (suc (suc (suc (suc (suc (suc (suc (suc (suc n))))))))))) sector o v e = refl
+pub no_letter_sets : (row sector : ℕ) (o : PlanOptions) (v : Option (List ℕ))
+    → letter_meant (slice_get option_meanings row) ≡ None → None ≡ set_by (slice_get option_rows row) sector o v
+no_letter_sets row sector o v e =
+    ap (λ (r : Option (OptionRow PlanOptions)). set_by r sector o v) (sym (row_there row None e))
 
--- an option keeps what the rescue's at its place does, if it leaves plain options plain
-lifted : (place : ℕ) (r : OptionRow Options) → slice_get rescue_rows place ≡ Some r → (s : ℕ) (o o' : PlanOptions)
+-- an option keeps what the rescue's with its letter does, if it leaves plain options plain
+lifted : (letter : ℕ) (r : OptionRow Options) → row_of letter rescue_rows ≡ Some r → (s : ℕ) (o o' : PlanOptions)
     (v : Option (List ℕ)) → ((n : Options) → r.sets s o.rescue v ≡ Some n → ArePlain o.rescue → ArePlain n)
     → option_map of_rescue (r.sets s o.rescue v) ≡ Some o' → Keeps plan_kept s o (is_letter quiet_letter r.letter) o'
-lifted place r at s o o' v stays e =
+lifted letter r at s o o' v stays e =
     let p = map_part of_rescue (r.sets s o.rescue v) o' e in
-    let k = row_passes (RowKeeps rescue_kept) rescue_rows place r rescue_rows_keep at s o.rescue p.0 v p.1 in
+    let k = lettered_passes (RowKeeps rescue_kept) rescue_rows letter r rescue_rows_keep at s o.rescue p.0 v p.1 in
     subst (Keeps plan_kept s o (is_letter quiet_letter r.letter)) p.2
     (record {
       same = k.same;
@@ -107,17 +98,17 @@ lifted place r at s o o' v stays e =
 
 rows_keep : EachRow (RowKeeps plan_kept) option_rows
 rows_keep =
-    (λ s o o' v. lifted 2 _ refl s o o' v (λ n. flag_plain o.rescue _ n (λ p. p)))
-    and (λ s o o' v. lifted 3 _ refl s o o' v (λ n. value_plain o.rescue n _ _ (λ k p. still_plain o.rescue _ refl refl refl refl refl refl p)))
-    and (λ s o o' v. lifted 10 _ refl s o o' v (λ n. value_plain o.rescue n _ _ (λ k p. still_plain o.rescue _ refl refl refl refl refl refl p)))
-    and (λ s o o' v. lifted 11 _ refl s o o' v (λ n. value_plain o.rescue n _ _ (λ k p. still_plain o.rescue _ refl refl refl refl refl refl p)))
-    and (λ s o o' v. lifted 15 _ refl s o o' v (λ n. flag_plain o.rescue _ n (λ p. still_plain o.rescue _ refl refl refl refl refl refl p)))
-    and (λ s o o' v. lifted 16 _ refl s o o' v (λ n. flag_plain o.rescue _ n (λ p. still_plain o.rescue _ refl refl refl refl refl refl p)))
-    and (λ s o o' v. lifted 18 _ refl s o o' v (λ n. flag_plain o.rescue _ n (λ p. still_plain o.rescue _ refl refl refl refl refl refl p)))
-    and (λ s o o' v. lifted 19 _ refl s o o' v (λ n. value_plain o.rescue n _ _ (λ k p. still_plain o.rescue _ refl refl refl refl refl refl p)))
-    and (λ s o o' v. lifted 20 _ refl s o o' v (λ n. flag_plain o.rescue _ n (λ p. still_plain o.rescue _ refl refl refl refl refl refl p)))
-    and (λ s o o' v. lifted 21 _ refl s o o' v (λ n. value_plain o.rescue n _ _ (λ k p. still_plain o.rescue _ refl refl refl refl refl refl p)))
-    and (λ s o o' v. lifted 23 _ refl s o o' v (λ n. flag_plain o.rescue _ n (λ p. still_plain o.rescue _ refl refl refl refl refl refl p)))
+    (λ s o o' v. lifted 98 _ refl s o o' v (λ n. flag_plain o.rescue _ n (λ p. p)))
+    and (λ s o o' v. lifted 99 _ refl s o o' v (λ n. value_plain o.rescue n _ _ (λ k p. still_plain o.rescue _ refl refl refl refl refl refl p)))
+    and (λ s o o' v. lifted 105 _ refl s o o' v (λ n. value_plain o.rescue n _ _ (λ k p. still_plain o.rescue _ refl refl refl refl refl refl p)))
+    and (λ s o o' v. lifted 75 _ refl s o o' v (λ n. value_plain o.rescue n _ _ (λ k p. still_plain o.rescue _ refl refl refl refl refl refl p)))
+    and (λ s o o' v. lifted 110 _ refl s o o' v (λ n. flag_plain o.rescue _ n (λ p. still_plain o.rescue _ refl refl refl refl refl refl p)))
+    and (λ s o o' v. lifted 78 _ refl s o o' v (λ n. flag_plain o.rescue _ n (λ p. still_plain o.rescue _ refl refl refl refl refl refl p)))
+    and (λ s o o' v. lifted 113 _ refl s o o' v (λ n. flag_plain o.rescue _ n (λ p. still_plain o.rescue _ refl refl refl refl refl refl p)))
+    and (λ s o o' v. lifted 114 _ refl s o o' v (λ n. value_plain o.rescue n _ _ (λ k p. still_plain o.rescue _ refl refl refl refl refl refl p)))
+    and (λ s o o' v. lifted 82 _ refl s o o' v (λ n. flag_plain o.rescue _ n (λ p. still_plain o.rescue _ refl refl refl refl refl refl p)))
+    and (λ s o o' v. lifted 115 _ refl s o o' v (λ n. value_plain o.rescue n _ _ (λ k p. still_plain o.rescue _ refl refl refl refl refl refl p)))
+    and (λ s o o' v. lifted 117 _ refl s o o' v (λ n. flag_plain o.rescue _ n (λ p. still_plain o.rescue _ refl refl refl refl refl refl p)))
     and tt
 
 none_plain : (n : ℕ) → ArePlain (no_rescue_options n)

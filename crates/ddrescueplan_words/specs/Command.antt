@@ -3,7 +3,6 @@ use Rattle.std.specs.Prelude.{◌≡◌, ℕ, ◌≤◌, false, List, [], ◌∷
 use Rattle.option_words.specs.Words.{word}
 use Rattle.option_words.specs.declared.row.Row.{Row}
 use Rattle.option_words.specs.declared.reading.Item.{Item}
-use Rattle.option_words.specs.declared.reading.WordReading.{WordReading}
 use Rattle.option_words.specs.declared.fault.UsageFault.{UsageFault}
 use Rattle.option_words.specs.declared.fault.UsageFault.TheVariants.{BadValue, Operands}
 use Rattle.option_words.specs.declared.command_error.CommandError.{CommandError}
@@ -63,10 +62,6 @@ command_by words items (Ok o) operands =
 -- what words ask for by their options and operands, or their first fault
 abbrev pub command_in : List (List ℕ) → List Item → (operands : List ℕ) → Result Command UsageFault
 command_in words items operands = command_by words items (options_in words items) operands
-
--- what a reading that the code has asks for, or its first fault
-abbrev pub command_read : List (List ℕ) → WordReading → Result Command UsageFault
-command_read words r = command_in words r.items.items r.operands.items
 
 -- the grammar of `ddrescueplan`
 abbrev pub plan_grammar : Grammar Command

@@ -36,10 +36,6 @@ option_row letter = record {
 abbrev pub option_letters : List ℕ
 option_letters = codes "bciKnNqrRsu"
 
--- where a rescue's table has these options, counted from 0
-abbrev pub rescue_places : List ℕ
-rescue_places = 2 ∷ 3 ∷ 10 ∷ 11 ∷ 15 ∷ 16 ∷ 18 ∷ 19 ∷ 20 ∷ 21 ∷ 23 ∷ []
-
 -- the options, one a row
 abbrev pub option_rows : List (OptionRow PlanOptions)
 option_rows = map option_row option_letters

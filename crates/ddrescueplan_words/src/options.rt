@@ -1,33 +1,29 @@
 //! The options of `ddrescueplan`, each of which is the rescue's with its letter.
-ghost use Rattle.std.specs.Prelude.{◌≡◌, slice_get, option_map};
-ghost use Rattle.ddrescueplan_words.specs.Options.{no_options, of_rescue, option_rows, rescue_places};
-ghost use Rattle.ddrescueplan_words.specs.Command.{AreOptions};
+ghost use Rattle.std.specs.Prelude.{◌≡◌, option_map};
+ghost use Rattle.ddrescueplan_words.specs.Options.{no_options, of_rescue, option_rows};
 
-use ddrescue_words::options::Options;
+use ddrescue_words::options::{Options, with_letter};
+use option_words::given::letter_of;
 use option_words::option_row;
 use option_words::option_values::OptionValues;
 use option_words::row::Row;
-use option_words::table::OptionTable;
 
 /// The letter of the option that gives the size of a cluster.
 pub(crate) const CLUSTER_SIZE: char = 'c';
 
-/// Which row of a rescue's options each row of a plan's options is, counted from 0.
-const RESCUE_PLACES: [usize; 11] = [2, 3, 10, 11, 15, 16, 18, 19, 20, 21, 23];
-
-/// The options. A later one is a row here and its place above.
+/// The options. A later one is a row here.
 pub static ROWS: [Row; 11] = [
-    option_row!('b', "sector-size", Always),
-    option_row!('c', "cluster-size", Always),
-    option_row!('i', "input-position", Always),
-    option_row!('K', "skip-size", Always),
-    option_row!('n', "no-scrape", Never),
-    option_row!('N', "no-trim", Never),
-    option_row!('q', "quiet", Never),
-    option_row!('r', "retry-passes", Always),
-    option_row!('R', "reverse", Never),
-    option_row!('s', "size", Always),
-    option_row!('u', "unidirectional", Never),
+    option_row!('b', "sector-size", Always(Size): "set the size of a sector"),
+    option_row!('c', "cluster-size", Always(Sectors): "read this many sectors at a time in copying"),
+    option_row!('i', "input-position", Always(Size): "begin at this position"),
+    option_row!('K', "skip-size", Always(Skips): "skip this many bytes after a failed read"),
+    option_row!('n', "no-scrape", Never: "skip scraping"),
+    option_row!('N', "no-trim", Never: "skip trimming"),
+    option_row!('q', "quiet", Never: "print no message"),
+    option_row!('r', "retry-passes", Always(Retries): "retry the bad sectors in this many passes"),
+    option_row!('R', "reverse", Never: "reverse the direction of each pass"),
+    option_row!('s', "size", Always(Size): "rescue at most this many bytes"),
+    option_row!('u', "unidirectional", Never: "run all passes in the same direction"),
 ];
 
 /// What the options of a command line ask for.
@@ -35,23 +31,6 @@ pub static ROWS: [Row; 11] = [
 pub struct PlanOptions {
     /// What they ask of the rescue; all that they can't ask for is as a rescue has it if no option is given.
     pub rescue: Options,
-}
-
-/// The table of the options.
-pub(crate) fn option_table() -> OptionTable
-    ensures { AreOptions result }
-{
-    match OptionTable::checked(&ROWS) {
-        Some(table) => table,
-        None => unreachable!(),
-    }
-}
-
-/// The row of the rescue's option that an option is, if there is such an option.
-fn rescue_row(row: usize) -> Option<usize>
-    ensures { result ≡ slice_get rescue_places row }
-{
-    RESCUE_PLACES.get(row).copied()
 }
 
 /// What was set for a rescue, as options of a plan.
@@ -76,8 +55,8 @@ impl OptionValues for PlanOptions {
     }
 
     fn with_row(self, sector: u64, row: usize, value: Option<&str>) -> Option<PlanOptions> {
-        match rescue_row(row) {
-            Some(place) => of_rescue(self.rescue.with_row(sector, place, value)),
+        match letter_of(&ROWS, row) {
+            Some(letter) => of_rescue(with_letter(self.rescue, sector, letter, value)),
             None => None,
         }
     }

@@ -2,13 +2,11 @@
 ghost use Rattle.std.specs.Prelude.{◌≡◌, ◌<◌, ◌≤◌, Some, option_map};
 ghost use Rattle.option_words.specs.Values.{row_of, set_by};
 ghost use Rattle.ddrescueshow_words.specs.Options.{color_row, coloring_by, count_by, lettered_rows, no_options, option_rows, rows_row, width_row};
-ghost use Rattle.ddrescueshow_words.specs.Command.{AreOptions};
 
 use option_words::given::letter_of;
 use option_words::option_row;
 use option_words::option_values::{OptionValues, SECTOR_SIZE};
 use option_words::row::Row;
-use option_words::table::OptionTable;
 use option_words::values::{is_name, number_by, size_by, within_range};
 
 /// The letter of the option that names the domain map.
@@ -32,20 +30,21 @@ const MOST_CELLS: u64 = 1000;
 
 /// The options. A later one with a letter is a row here, before the last four, and an arm in `with_letter`.
 pub static ROWS: [Row; 10] = [
-    option_row!('b', "sector-size", Always),
-    option_row!('i', "input-position", Always),
-    option_row!('L', "loose-domain", Never),
-    option_row!('m', "domain-mapfile", Always),
-    option_row!('q', "quiet", Never),
-    option_row!('s', "size", Always),
-    option_row!("color", Always),
-    option_row!("rows", Always),
-    option_row!("svg", Never),
-    option_row!("width", Always),
+    option_row!('b', "sector-size", Always(Size): "set the size of a sector"),
+    option_row!('i', "input-position", Always(Size): "begin the picture at this position of the map"),
+    option_row!('L', "loose-domain", Never: "accept a domain map with gaps"),
+    option_row!('m', "domain-mapfile", Always(DomainMap): "show only what is finished in this map"),
+    option_row!('q', "quiet", Never: "print no message"),
+    option_row!('s', "size", Always(Size): "show at most this many bytes"),
+    option_row!("color", Always(Coloring): "draw in color"),
+    option_row!("rows", Always(Cells): "draw at most this many rows"),
+    option_row!("svg", Never: "print the picture as SVG"),
+    option_row!("width", Always(Cells): "draw this many cells in a row"),
 ];
 
 /// The option that goes alone, to follow a rescue. So it is no row of the table.
-pub static PROGRESS: Row = option_row!("progress", Never);
+pub static PROGRESS: Row =
+    option_row!("progress", Never: "follow a rescue whose lines come on standard input");
 
 /// When a picture is in color.
 #[derive(Clone, Copy, Debug, PartialEq, Eq)]
@@ -77,16 +76,6 @@ pub struct ShowOptions {
     pub loose: bool,
     /// No message is put; by default it is. The picture is put all the same.
     pub quiet: bool,
-}
-
-/// The table of the options.
-pub(crate) fn option_table() -> OptionTable
-    ensures { AreOptions result }
-{
-    match OptionTable::checked(&ROWS) {
-        Some(table) => table,
-        None => unreachable!(),
-    }
 }
 
 /// The number of cells or rows that a value gives, if it does.

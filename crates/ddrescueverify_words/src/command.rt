@@ -1,16 +1,20 @@
 //! What the words of a command line ask for.
-ghost use Rattle.std.specs.Prelude.{◌≡◌, All, Ok, Err, IfOk, IfErr};
+ghost use Rattle.std.specs.Prelude.{◌≡◌, All, Ok, Err, IfOk, IfErr, true, map};
+ghost use Rattle.option_words.specs.Rows.{meaning_of_row};
 ghost use Rattle.option_words.specs.Spots.{HasSpot};
+ghost use Rattle.option_words.specs.Tables.{is_table};
 ghost use Rattle.option_words.specs.Values.{IsWord};
-ghost use Rattle.ddrescueverify_words.specs.Command.{AreOptions, IsAsked, IsErrorOf, command_read, command_with, told_by};
+ghost use Rattle.ddrescueverify_words.specs.Command.{AreOptions, IsAsked, IsErrorOf, command_in, command_with, told_by};
+ghost use Rattle.ddrescueverify_words.specs.Options.{option_meanings};
 
-use crate::options::{VerifyOptions, option_table};
-use option_words::command_error::{CommandError, unread, usage_error};
+use crate::options::{ROWS, VerifyOptions};
+use option_words::asked::{Asked, read_asked};
+use option_words::command_error::CommandError;
 use option_words::fault::UsageFault;
 use option_words::operands::find_empty;
 use option_words::option_values::read_options;
-use option_words::reader::read_words;
 use option_words::reading::WordReading;
+use option_words::row::Row;
 use option_words::table::OptionTable;
 use option_words::words::Words;
 use std::alloc::Global;
@@ -47,27 +51,35 @@ fn name_files<'a>(
     }
 }
 
-/// What a reading of the words asks for.
-fn command_of<'a>(
-    table: &OptionTable,
-    words: &'a Words,
-    reading: &WordReading,
-) -> Result<Command<'a>, UsageFault>
-    requires table { AreOptions table.now }
-    requires spots { All (HasSpot words.now) reading.now.items.items }
-    requires operands { All (IsWord words.now) reading.now.operands.items }
-    ensures asked { IfOk result (λ c. command_read words.now reading.now ≡ Ok (told_by c)) }
-    ensures refused { IfErr result (λ fault. command_read words.now reading.now ≡ Err fault) }
-{
-    let options: VerifyOptions = match read_options(table, words, &reading.items) {
-        Ok(options) => options,
-        Err(word) => return Err(UsageFault::BadValue { word }),
-    };
-    let command = name_files(words, reading, options)?;
-    if let Some(word) = find_empty(words, &reading.operands) {
-        return Err(UsageFault::BadValue { word });
+impl<'a> Asked<'a> for Command<'a> {
+    ghost options = { option_meanings };
+
+    ghost asks = { λ words items operands c. command_in words items operands ≡ Ok (told_by c) };
+
+    ghost refuses = { λ words items operands fault. command_in words items operands ≡ Err fault };
+
+    fn rows() -> &'static [Row]
+        ensures table { is_table result.now ≡ true }
+        ensures options { map meaning_of_row result.now ≡ option_meanings }
+    {
+        &ROWS
     }
-    Ok(command)
+
+    fn of_reading(
+        table: &OptionTable,
+        words: &'a Words,
+        reading: &WordReading,
+    ) -> Result<Command<'a>, UsageFault> {
+        let options: VerifyOptions = match read_options(table, words, &reading.items) {
+            Ok(options) => options,
+            Err(word) => return Err(UsageFault::BadValue { word }),
+        };
+        let command = name_files(words, reading, options)?;
+        if let Some(word) = find_empty(words, &reading.operands) {
+            return Err(UsageFault::BadValue { word });
+        }
+        Ok(command)
+    }
 }
 
 /// Reads the words of a command line: `[options] infile outfile mapfile`. The words themselves come first, then the
@@ -77,13 +89,8 @@ pub fn read_command(alloc: Global, words: &Words) -> Result<Command<'_>, Command
     ensures asked { IfOk result (λ c. IsAsked words.now (told_by c)) }
     ensures refused { IfErr result (λ e. IsErrorOf words.now e) }
 {
-    let table = option_table();
-    let reading = match read_words(alloc, words, &table) {
-        Ok(reading) => reading,
-        Err(fault) => return Err(unread(fault)),
-    };
-    match command_of(&table, words, &reading) {
-        Ok(command) => Ok(command),
-        Err(fault) => Err(usage_error(&table, &reading.items, fault)),
+    match read_asked(alloc, words) {
+        Ok(asked) => Ok(asked),
+        Err(refusal) => Err(refusal.error),
     }
 }

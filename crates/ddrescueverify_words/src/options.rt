@@ -2,22 +2,20 @@
 ghost use Rattle.std.specs.Prelude.{◌≡◌, ◌<◌, ◌≤◌, option_map};
 ghost use Rattle.option_words.specs.Values.{row_of, set_by};
 ghost use Rattle.ddrescueverify_words.specs.Options.{no_options, option_rows};
-ghost use Rattle.ddrescueverify_words.specs.Command.{AreOptions};
 
 use option_words::given::letter_of;
 use option_words::option_row;
 use option_words::option_values::{OptionValues, SECTOR_SIZE};
 use option_words::row::Row;
-use option_words::table::OptionTable;
 use option_words::values::size_by;
 
 /// The options. A later one is a row here and an arm in `with_letter`.
 pub static ROWS: [Row; 5] = [
-    option_row!('b', "sector-size", Always),
-    option_row!('i', "input-position", Always),
-    option_row!('o', "output-position", Always),
-    option_row!('q', "quiet", Never),
-    option_row!('s', "size", Always),
+    option_row!('b', "sector-size", Always(Size): "set the size of a sector"),
+    option_row!('i', "input-position", Always(Size): "begin at this position of infile"),
+    option_row!('o', "output-position", Always(Size): "begin at this position of outfile"),
+    option_row!('q', "quiet", Never: "print nothing"),
+    option_row!('s', "size", Always(Size): "compare at most this many bytes"),
 ];
 
 /// What the options of a command line ask for.
@@ -33,16 +31,6 @@ pub struct VerifyOptions {
     pub size: Option<u64>,
     /// Nothing is put on the console; by default the numbers and messages are.
     pub quiet: bool,
-}
-
-/// The table of the options.
-pub(crate) fn option_table() -> OptionTable
-    ensures { AreOptions result }
-{
-    match OptionTable::checked(&ROWS) {
-        Some(table) => table,
-        None => unreachable!(),
-    }
 }
 
 /// Writes the arms of a `match` over the letters: each sets a field. The size of a sector is set before.

@@ -8,12 +8,14 @@ use Rattle.option_words.specs.declared.fault.WordFault.{WordFault}
 use Rattle.option_words.specs.declared.fault.WordFault.TheVariants.{NoMemory}
 use Rattle.option_words.specs.declared.fault.UsageFault.{UsageFault}
 use Rattle.option_words.specs.declared.fault.UsageFault.TheVariants.{Word}
+use Rattle.option_words.specs.declared.command_error.CommandError.{CommandError}
 use Rattle.option_words.specs.declared.command_error.CommandError.TheVariants.{Usage}
 use Rattle.option_words.specs.Reading.{IsReading, WordFaultAt}
 use Rattle.option_words.proofs.LawLemmas.{one_reading, one_fault, no_fault}
 use Rattle.option_words.proofs.MeantLemmas.{same_reading, same_fault}
 use Rattle.option_words.proofs.OperandLemmas.{operands_words}
-use Rattle.option_words.specs.Values.{IsWord, is_given}
+use Rattle.option_words.specs.Asked.{IsRefusedAs, CannotRead, Refuses}
+use Rattle.option_words.specs.Values.{IsWord, is_given, quiet_letter}
 use Rattle.option_words.specs.Grammar.{Grammar, AreOptionsOf, AskFor, AreRefusedBy, Unread, Wrong, AskSilence, HasOneMeaning, AskForOnly, IsAskedWithin, IsRefusalBy, IsErrorBy, unread_error}
 
 module _ {C : Type 0} (g : Grammar C) (words : List (List ℕ)) where
@@ -144,6 +146,18 @@ module _ {C : Type 0} (g : Grammar C) (words : List (List ℕ)) where
   unread_is rows NoMemory o w = tt
   unread_is rows x o w =
       elim w [ inl e ↦ absurd (cc) | inr at ↦ unread_refused rows x o at ]
+
+  -- an error of the one reading is why words ask for nothing
+  pub refused_as : (error : CommandError) → g.quiet ≡ quiet_letter
+      → IsRefusedAs g.options words (λ items operands f. g.asked words items operands ≡ Err f) error
+      → IsErrorBy g words error
+  refused_as error quiet r = elim r [
+    | CannotRead rows f m w e ↦ subst (IsErrorBy g words) (sym e) (unread_is rows f (record { meanings = m }) w)
+    | Refuses rows is os f m reading at e ↦
+        let same : Usage f (is_given (map meaning_of_row rows) g.quiet is) ≡ error =
+        ap (λ q. Usage f (is_given (map meaning_of_row rows) q is)) quiet ∙ sym e in
+        subst (IsErrorBy g words) same (refused_is rows is is os f (record { meanings = m }) reading at refl)
+  ]
 
 -- the operands of a reading are words
 pub operands_named : (words : List (List ℕ)) (rows : List Row) (is : List Item) (os : List ℕ)

@@ -1,5 +1,5 @@
 -- Rows that each have a letter of their own are found by it.
-use Rattle.std.proofs.Common.{◌≡◌, ℕ, zero, suc, Bool, true, false, not, ◌&&◌, nat_eq, List, [], ◌∷◌, slice_get, Option, Some, None, refl, sym, ◌∙◌, ap, subst, arith}
+use Rattle.std.proofs.Common.{◌≡◌, ℕ, zero, suc, Bool, true, false, cond, not, ◌&&◌, nat_eq, List, [], ◌∷◌, ◌++◌, slice_get, Option, Some, None, refl, sym, ◌∙◌, ap, subst, arith}
 use Rattle.std.proofs.lemmas.Bool.Decides.{nat_tests}
 use Rattle.std.proofs.lemmas.Option.{slice_get-map}
 use Rattle.std.specs.Option.{option_map, option_and_then}
@@ -23,6 +23,27 @@ pub row_passes : {O : Type 0} (P : OptionRow O → Type 0) (rows : List (OptionR
 row_passes P [] k r h e = absurd (cc)
 row_passes P (x ∷ rows) zero r h e = let same : x ≡ r = cc in subst P same h.0
 row_passes P (x ∷ rows) (suc k) r h e = row_passes P rows k r h.1 e
+
+-- of a row that is tested and those after it
+row_or_further : {O : Type 0} (P : OptionRow O → Type 0) (x r : OptionRow O) (rest : Option (OptionRow O)) (b : Bool)
+    → P x → (rest ≡ Some r → P r) → cond b (Some x) rest ≡ Some r → P r
+row_or_further P x r rest true h further e = let same : x ≡ r = cc in subst P same h
+row_or_further P x r rest false h further e = further e
+
+-- holds of the row that has a letter
+pub lettered_passes : {O : Type 0} (P : OptionRow O → Type 0) (rows : List (OptionRow O)) (letter : ℕ) (r : OptionRow O)
+    → EachRow P rows → row_of letter rows ≡ Some r → P r
+lettered_passes P [] letter r h e = absurd (cc)
+lettered_passes P (x ∷ rows) letter r h e =
+    row_or_further P x r (row_of letter rows) (is_letter letter x.letter) h.0
+    (λ found. lettered_passes P rows letter r h.1 found) e
+
+-- a last row that has no letter is found by none
+pub without_last : {O : Type 0} (rows : List (OptionRow O)) (x : OptionRow O) (letter : ℕ) → x.letter ≡ None
+    → row_of letter (rows ++ x ∷ []) ≡ row_of letter rows
+without_last [] x letter e = rw e refl
+without_last (y ∷ rows) x letter e =
+    ap (λ rest. cond (is_letter letter y.letter) (Some y) rest) (without_last rows x letter e)
 
 -- no row has this letter
 abbrev lack_letter : {O : Type 0} → Option ℕ → List (OptionRow O) → Bool

@@ -1,3 +1,4 @@
+pub mod Asked
 pub mod Forms
 pub mod Grammar
 pub mod Laws

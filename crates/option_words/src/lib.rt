@@ -2,6 +2,7 @@
 //! count, and the first that is bad.
 #![tactic(auto)]
 
+pub mod asked;
 mod choice;
 pub mod command_error;
 pub mod fault;

@@ -1,5 +1,5 @@
 //! A table of options, and when it is well formed.
-ghost use Rattle.std.specs.Prelude.{◌≡◌, is_some, IfSome};
+ghost use Rattle.std.specs.Prelude.{◌≡◌, true, is_some, IfSome};
 ghost use Rattle.std.specs.List.{list_all};
 ghost use Rattle.option_words.specs.Tables.{share_nothing, fits_table, holds_no_sign, is_table, letter_fits, name_fits};
 
@@ -33,6 +33,14 @@ impl OptionTable {
         } else {
             None
         }
+    }
+
+    /// The table of rows that are known to be one.
+    pub fn of(rows: &'static [Row]) -> OptionTable
+        requires { is_table rows.now ≡ true }
+        ensures { result ≡ rows.now }
+    {
+        OptionTable { rows }
     }
 
     /// The rows.
