@@ -1,9 +1,9 @@
 -- What a command did, by what came of the load of the test map, and by how the plan ended.
-use Rattle.std.proofs.Common.{◌≡◌, ℕ, ◌++◌, IsTrue, List, [], map, Option, None, Err, refl, sym, inl, inr, append-nil, arith}
+use Rattle.std.proofs.Common.{◌≡◌, ◌⊎◌, ℕ, ◌++◌, IsTrue, List, [], map, Option, None, Err, refl, sym, inl, inr, append-nil}
 use Rattle.std.proofs.lemmas.List.Elements.{All-nil}
 use Rattle.block_list.specs.declared.status.Status.{Status}
 use Rattle.mapfile_text.specs.declared.read.Mode.TheVariants.{Tight}
-use Rattle.mapfile_text.specs.declared.read.ReadMap.{ReadMap}
+use Rattle.mapfile_reader.specs.declared.read.ReadMap.{ReadMap}
 use Rattle.crash_site.specs.Files.{File}
 use Rattle.crash_site.specs.Calls.{Call, Entry, Done as Returned}
 use Rattle.crash_site.specs.SiteState.{SiteState, files_in}
@@ -16,9 +16,9 @@ use Rattle.save_resume.specs.Resuming.{IsOfFile, IsReadAs, IsRefusedFor, LoadEnd
 use Rattle.rescue_console.specs.ConsoleState.{ConsoleState}
 use Rattle.rescue_sample.specs.Line.{IsStill}
 use Rattle.rescue_rules.specs.Moves.{IsMove}
-use Rattle.work_rules.specs.Parts.{only_calls}
-use Rattle.work_rules.proofs.LoadLemmas.{broke_off, ended, ran_out}
-use Rattle.work_rules.proofs.LoadedLemmas.{read_passes}
+use Rattle.program_promise.specs.Parts.{only_calls}
+use Rattle.program_promise.proofs.LoadLemmas.{broke_off, ended, ran_out}
+use Rattle.program_promise.proofs.LoadedLemmas.{read_passes}
 use Rattle.program_promise.specs.World.{WorldState, handed}
 use Rattle.program_promise.specs.Causes.{Changed, changes_of}
 use Rattle.program_promise.specs.Promise.{DoneFor}
@@ -27,10 +27,11 @@ use Rattle.rescue_plan.specs.declared.run.PlanEnd.{PlanEnd}
 use Rattle.rescue_plan.specs.declared.run.PlanEnd.TheVariants.{Whole, Lost}
 use Rattle.rescue_plan.specs.Plan.{IsPlannedIn, plan_setting}
 use Rattle.rescue_plan.specs.Running.{PutsFirst, PutsPlan}
+use Rattle.rescue_plan.proofs.PutLemmas.{broken_rose, lines_put}
 use Rattle.ddrescueplan_words.specs.Command.{Command}
-use Rattle.work_rules.proofs.PartLemmas.{idle}
+use Rattle.program_promise.proofs.PartLemmas.{idle}
 use Rattle.ddrescueplan_cli.specs.declared.ending.PlanEnding.{PlanEnding}
-use Rattle.ddrescueplan_cli.specs.declared.ending.PlanEnding.TheVariants.{NoMap, MapRefused, NoMemory}
+use Rattle.ddrescueplan_cli.specs.declared.ending.PlanEnding.TheVariants.{Done, NoMap, MapRefused, ConsoleFault, NoMemory}
 use Rattle.ddrescueplan_cli.specs.Answers.{ending_of, refusal_of, row_of}
 use Rattle.ddrescueplan_cli.specs.Work.{LeavesAs, Loading, PlanWorks, Planning, TestMapRefused, Untouched}
 use Rattle.ddrescueplan_cli.specs.Ddrescueplan.{PlanWorked, plan_program}
@@ -46,15 +47,7 @@ starved_first c test p = record {
     seen = All-nil (IsPlannedIn test);
     are = refl;
   };
-  puts = record {
-    stays = record {
-      keeps = record { tells = refl; scheduled = refl; out = omega arith; err = omega arith };
-      other = refl;
-    };
-    whole = λ tells. sym (append-nil p.out.text);
-    kept = refl;
-    fed = λ scheduled. refl;
-  };
+  says = (refl, refl);
 }
 
 -- ---- the work
@@ -69,6 +62,12 @@ starved_done c line w = record {
   leaves = Untouched refl;
 }
 
+-- the answers for a plan that was put
+answer_is : (end : PlanEnd) → (ending_of end ≡ Done) ⊎ (ending_of end ≡ NoMemory) ⊎ (ending_of end ≡ ConsoleFault)
+answer_is Whole = inl refl
+answer_is (Lost Memory) = inr (inl refl)
+answer_is (Lost Console) = inr (inr refl)
+
 module _ (c : Command) (file : Option File) (load : List Call) (is : IsLoad c.test_map file load) where
   went : (m : ReadMap) (end : PlanEnd) → IsReadAs file Tight m
       → PlanWorks c file (ending_of end) (only_calls (map Returned load))
@@ -80,7 +79,7 @@ module _ (c : Command) (file : Option File) (load : List Call) (is : IsLoad c.te
         sym (append-nil (map Returned load)),
         inr (
           λ v refused. read_passes (v ≡ NoMap) (λ error. v ≡ MapRefused error) Tight file m read refused,
-          record { test = m; read = read; idle = idle; end = end; answer = refl },
+          record { test = m; read = read; idle = idle; answer = answer_is end },
         ),
       )))
 
@@ -120,18 +119,18 @@ module _ (c : Command) (words : List (List ℕ)) (s s' : SiteState) (stays : Sta
       let l = ended [] c.test_map (λ file. IsReadAs file Tight m) s s' told of in
       worked (ending_of Whole) l.file (map Returned l.load) (went c l.file l.load l.is_load m Whole l.holds) l.is_own l.gained
       (record { test = m; read = l.holds; puts = puts })
-      (record { opens = refl; reads = refl; calls = same; takes = refl; puts = puts.puts.kept }) tt
+      (record { opens = refl; reads = refl; calls = same; takes = refl; puts = (lines_put puts.reads p p' puts.says).kept }) tt
   put_worked m (Lost Memory) told of same puts =
       let l = ended [] c.test_map (λ file. IsReadAs file Tight m) s s' told of in
       worked (ending_of (Lost Memory)) l.file (map Returned l.load) (went c l.file l.load l.is_load m (Lost Memory) l.holds)
       l.is_own l.gained
       (Planning l.load l.is_load refl (record { test = m; read = l.holds; puts = puts }))
-      (record { opens = refl; reads = refl; calls = same; takes = refl; puts = puts.puts.kept }) tt
+      (record { opens = refl; reads = refl; calls = same; takes = refl; puts = (lines_put puts.reads p p' puts.says).kept }) tt
   put_worked m (Lost Console) told of same puts =
       let l = ended [] c.test_map (λ file. IsReadAs file Tight m) s s' told of in
       worked (ending_of (Lost Console)) l.file (map Returned l.load) (went c l.file l.load l.is_load m (Lost Console) l.holds)
       l.is_own l.gained (record { test = m; read = l.holds; puts = puts })
-      (record { opens = refl; reads = refl; calls = same; takes = refl; puts = puts.puts.rose }) tt
+      (record { opens = refl; reads = refl; calls = same; takes = refl; puts = broken_rose c m.tiles.statuses p p' puts }) tt
 
 -- or it wasn't
 pub refused_worked : (c : Command) (words : List (List ℕ)) (s s' : SiteState) (stays : Stays s s') (p : ConsoleState)

@@ -3,12 +3,10 @@ use Rattle.std.specs.Prelude.{⊤, ℕ, Bool, List, Option}
 use Rattle.crash_site.specs.Files.{File}
 use Rattle.crash_site.specs.SiteChanges.{Stays}
 use Rattle.program_promise.specs.World.{WorldState, Told}
-use Rattle.program_promise.specs.WordFaults.{IsPlainFault}
 use Rattle.program_promise.specs.Program.{Program}
 use Rattle.program_promise.specs.Promise.{IsDone, Promise, Worked}
 use Rattle.ddrescueplan_words.specs.Command.{Command, plan_grammar}
 use Rattle.ddrescueplan_cli.specs.declared.ending.PlanEnding.{PlanEnding}
-use Rattle.ddrescueplan_cli.specs.declared.ending.PlanEnding.TheVariants.{Usage}
 use Rattle.ddrescueplan_cli.specs.Names.{program_name}
 use Rattle.ddrescueplan_cli.specs.Answers.{row_of}
 use Rattle.ddrescueplan_cli.specs.Work.{Agrees, LeavesAs, RunsPlan, plan_faults, plan_rows}
@@ -18,16 +16,13 @@ abbrev pub plan_program : Program Command PlanEnding (Option File)
 plan_program = record {
   name = program_name;
   grammar = plan_grammar;
-  HasFault = IsPlainFault;
   row = row_of;
-  wrong = λ fault. Usage fault;
   faults = plan_faults;
   Fits = λ c e. ⊤;
   rows = plan_rows;
   Run = λ c line file. RunsPlan file;
   Agrees = λ c file did old new. Agrees c file did old.site new.site;
   Leaves = λ c line file e did old new. LeavesAs c file e did old new;
-  Begins = λ w. ⊤;
   Keeps = λ e old new. Stays old.site new.site;
 }
 

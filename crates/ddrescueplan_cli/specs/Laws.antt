@@ -1,7 +1,7 @@
 -- What the definitions mean.
 use Rattle.std.specs.Prelude.{◌≡◌, Option}
 use Rattle.crash_site.specs.Files.{File}
-use Rattle.work_rules.specs.Work.{Deeds}
+use Rattle.program_promise.specs.Work.{Deeds}
 use Rattle.program_promise.specs.WellMade.{IsVerdict as IsVerdictOf}
 use Rattle.program_promise.specs.Laws.{IsNoFaultUnless, KeepsPromises}
 use Rattle.ddrescueplan_words.specs.Command.{Command}

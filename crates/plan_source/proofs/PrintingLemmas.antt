@@ -3,24 +3,25 @@ use Rattle.std.proofs.Common.{◌≡◌, ℕ, ◌+◌, ◌-◌, ◌<◌, Bool, f
 use Rattle.std.proofs.lemmas.List.{append-nil, drop_at, take_at, take-append-drop}
 use Rattle.std.proofs.lemmas.Grind.{flat_map-append}
 use Rattle.fault_count.specs.Counts.{raised}
+use Rattle.fault_count.specs.Schedule.{Schedule, with_call}
 use Rattle.faulty_source.specs.declared.journal.ReadEntry.{ReadEntry}
 use Rattle.rescue_console.specs.declared.console.Channel.TheVariants.{Out}
 use Rattle.rescue_console.specs.ConsoleState.{ConsoleState, TextGoesOn, StaysBeside, Puts, PutsPart}
 use Rattle.plan_source.specs.declared.loss.PlanLoss.{PlanLoss}
 use Rattle.plan_source.specs.declared.loss.PlanLoss.TheVariants.{Memory, Console}
 use Rattle.plan_source.specs.Lines.{line_of_entry, lines_of_entries}
-use Rattle.plan_source.specs.Printing.{BeginsAfter, BreaksLast, HasPrinted, PutsAfter, but_last, last_of, AreCounted}
+use Rattle.plan_source.specs.Printing.{BeginsAfter, BreaksLast, HasPrinted, after_each, but_last, last_of, AreCounted}
 
 -- ---- the last entry of a journal
 
 last_place : (before : List ReadEntry) (last : ReadEntry) → length (before ++ last ∷ []) - 1 ≡ length before
 last_place before last = omega (arith, length-append before (last ∷ []))
 
-but_last_is : (before : List ReadEntry) (last : ReadEntry) → but_last (before ++ last ∷ []) ≡ before
+pub but_last_is : (before : List ReadEntry) (last : ReadEntry) → but_last (before ++ last ∷ []) ≡ before
 but_last_is before last =
     ap (λ (n : ℕ). take n (before ++ last ∷ [])) (last_place before last) ∙ take_at before (last ∷ []) (length before) refl
 
-last_is : (before : List ReadEntry) (last : ReadEntry) → last_of (before ++ last ∷ []) ≡ last ∷ []
+pub last_is : (before : List ReadEntry) (last : ReadEntry) → last_of (before ++ last ∷ []) ≡ last ∷ []
 last_is before last =
     ap (λ (n : ℕ). drop n (before ++ last ∷ [])) (last_place before last) ∙ drop_at before (last ∷ []) (length before) refl
 
@@ -37,10 +38,10 @@ ends_with (e ∷ f ∷ more) some =
     let rest = ends_with (f ∷ more) (omega arith) in
     record { before = e ∷ rest.before; last = rest.last; are = ap (λ (xs : List ReadEntry). e ∷ xs) rest.are }
 
-one_line : (e : ReadEntry) → lines_of_entries (e ∷ []) ≡ line_of_entry e
+pub one_line : (e : ReadEntry) → lines_of_entries (e ∷ []) ≡ line_of_entry e
 one_line e = append-nil (line_of_entry e)
 
-lines_more : (es : List ReadEntry) (e : ReadEntry) → lines_of_entries (es ++ e ∷ []) ≡ lines_of_entries es ++ lines_of_entries (e ∷ [])
+pub lines_more : (es : List ReadEntry) (e : ReadEntry) → lines_of_entries (es ++ e ∷ []) ≡ lines_of_entries es ++ lines_of_entries (e ∷ [])
 lines_more es e = flat_map-append line_of_entry es (e ∷ [])
 
 -- ---- texts that go on
@@ -58,7 +59,7 @@ begins_part before part left piece now split is =
           ∙ take_at part left (length part) refl ∙ sym rest;
     }
 
-goes_on : (piece before now : List ℕ) → BeginsAfter piece before now → TextGoesOn piece before now
+pub goes_on : (piece before now : List ℕ) → BeginsAfter piece before now → TextGoesOn piece before now
 goes_on piece before now b =
     let n : ℕ = length now - length before in
     record {
@@ -68,20 +69,20 @@ goes_on piece before now b =
       is = b.is;
     }
 
-begins_as : (piece piece' before before' now : List ℕ) → piece ≡ piece' → before ≡ before' → BeginsAfter piece before now
+pub begins_as : (piece piece' before before' now : List ℕ) → piece ≡ piece' → before ≡ before' → BeginsAfter piece before now
     → BeginsAfter piece' before' now
 begins_as piece piece' before before' now same after b =
     subst (λ (p : List ℕ). BeginsAfter p before' now) same (subst (λ (t : List ℕ). BeginsAfter piece t now) after b)
 
 -- ---- what nothing changes, one after another
 
-stays_self : (s : ConsoleState) → StaysBeside Out s s
+pub stays_self : (s : ConsoleState) → StaysBeside Out s s
 stays_self s = record {
   keeps = record { tells = refl; scheduled = refl; out = omega arith; err = omega arith };
   other = refl;
 }
 
-stays_more : (a b c : ConsoleState) → StaysBeside Out a b → StaysBeside Out b c → StaysBeside Out a c
+pub stays_more : (a b c : ConsoleState) → StaysBeside Out a b → StaysBeside Out b c → StaysBeside Out a c
 stays_more a b c f g = record {
   keeps = record {
     tells = g.keeps.tells ∙ f.keeps.tells;
@@ -107,19 +108,25 @@ printed_nothing s = record {
     fed = λ scheduled. refl;
   };
   broken = λ broken. absurd (cc broken);
+  none = λ none. refl;
+  calls = λ scheduled. refl;
 }
 
 -- One line was put,
-pub printed_one : (s s' : ConsoleState) (e : ReadEntry) → Puts Out (line_of_entry e) s s' → HasPrinted s s' (e ∷ []) None
-printed_one s s' e p = record {
+pub printed_one : (s s' : ConsoleState) (e : ReadEntry) → Puts Out (line_of_entry e) s s'
+    → (IsTrue s.is_scheduled → s'.schedule ≡ with_call s.schedule) → HasPrinted s s' (e ∷ []) None
+printed_one s s' e p one = record {
   whole = λ whole. subst (λ (t : List ℕ). Puts Out t s s') (sym (one_line e)) p;
   broken = λ broken. absurd (cc broken);
+  none = λ none. absurd (cc none);
+  calls = one;
 }
 
 -- or its put failed;
 pub printed_part : (s s' : ConsoleState) (e : ReadEntry) → PutsPart Out (line_of_entry e) s s'
-    → (IsTrue s.is_scheduled → s'.out.text ≡ s.out.text) → HasPrinted s s' (e ∷ []) (Some Console)
-printed_part s s' e p unput =
+    → (IsTrue s.is_scheduled → s'.schedule ≡ with_call s.schedule) → (IsTrue s.is_scheduled → s'.out.text ≡ s.out.text)
+    → HasPrinted s s' (e ∷ []) (Some Console)
+printed_part s s' e p one unput =
     let after : s.out.text ++ lines_of_entries (but_last (e ∷ [])) ≡ s.out.text =
     ap (λ (es : List ReadEntry). s.out.text ++ lines_of_entries es) (but_last_is [] e) ∙ append-nil s.out.text in
     let piece : lines_of_entries (last_of (e ∷ [])) ≡ line_of_entry e = ap lines_of_entries (last_is [] e) ∙ one_line e in
@@ -136,7 +143,18 @@ printed_part s s' e p unput =
         unput = λ scheduled tells. unput scheduled ∙ sym after;
         rose = p.rose;
       };
+      none = λ none. absurd (cc none);
+      calls = one;
     }
+
+-- a journal with one more has an entry
+pub not_none : (es : List ReadEntry) (e : ReadEntry) → es ++ e ∷ [] ≡ [] → ⊥
+not_none es e none = absurd (omega (arith, length-append es (e ∷ []), ap length none))
+
+-- one more call
+pub each_more : (es : List ReadEntry) (e : ReadEntry) (s : Schedule) → after_each (es ++ e ∷ []) s ≡ with_call (after_each es s)
+each_more [] e s = refl
+each_more (f ∷ es) e s = each_more es e (with_call s)
 
 -- and so it is after the lines of a journal,
 module _ (start now now' : ConsoleState) (es : List ReadEntry) (e : ReadEntry) (lost : Option PlanLoss)
@@ -186,31 +204,16 @@ module _ (start now now' : ConsoleState) (es : List ReadEntry) (e : ReadEntry) (
   printed_more = record {
     whole = λ whole. all_more (one.whole whole);
     broken = λ broken. last_more (one.broken broken);
+    none = λ none. absurd (not_none es e none);
+    calls = λ scheduled.
+        one.calls (scheduled_now scheduled) ∙ ap with_call (h.calls scheduled) ∙ sym (each_more es e start.schedule);
   }
 
 -- or there was no memory for it.
 pub printed_starved : (start now : ConsoleState) (es : List ReadEntry) → HasPrinted start now es None
     → HasPrinted start now es (Some Memory)
-printed_starved start now es h = record { whole = λ whole. h.whole refl; broken = λ broken. absurd (cc broken) }
-
--- What was printed by a journal whose last line's put failed is the lines before it, and a beginning of that one.
-pub puts_broken : (start now : ConsoleState) (es before : List ReadEntry) (last : ReadEntry) → es ≡ before ++ last ∷ []
-    → BreaksLast es start now → PutsAfter (lines_of_entries before) (line_of_entry last) start now
-puts_broken start now es before last are b =
-    let first : but_last es ≡ before = ap but_last are ∙ but_last_is before last in
-    let after : start.out.text ++ lines_of_entries (but_last es) ≡ start.out.text ++ lines_of_entries before =
-    ap (λ (xs : List ReadEntry). start.out.text ++ lines_of_entries xs) first in
-    let piece : lines_of_entries (last_of es) ≡ line_of_entry last =
-    ap lines_of_entries (ap last_of are ∙ last_is before last) ∙ one_line last in
-    record {
-      stays = b.stays;
-      part = λ tells.
-          goes_on (line_of_entry last) (start.out.text ++ lines_of_entries before) now.out.text
-          (begins_as (lines_of_entries (last_of es)) (line_of_entry last) (start.out.text ++ lines_of_entries (but_last es))
-          (start.out.text ++ lines_of_entries before) now.out.text piece after (b.text tells));
-      unput = λ scheduled tells. b.unput scheduled tells ∙ after;
-      rose = b.rose;
-    }
+printed_starved start now es h =
+    record { whole = λ whole. h.whole refl; broken = λ broken. absurd (cc broken); none = h.none; calls = h.calls }
 
 -- ---- the same by what is told of a journal
 

@@ -1,10 +1,10 @@
--- What a console got of a journal's lines.
-use Rattle.std.specs.Prelude.{◌≡◌, ℕ, ◌-◌, ◌<◌, Bool, true, false, IsTrue, List, [], ◌++◌, length, take, drop, Option, Some, None}
+-- What a console got of a journal's lines. For contracts and proofs: no promise uses it.
+use Rattle.std.specs.Prelude.{◌≡◌, ℕ, ◌-◌, ◌<◌, Bool, true, false, IsTrue, List, [], ◌∷◌, ◌++◌, length, take, drop, Option, Some, None}
 use Rattle.fault_count.specs.Counts.{Rose}
-use Rattle.fault_count.specs.Schedule.{no_schedule}
+use Rattle.fault_count.specs.Schedule.{Schedule, no_schedule, with_call}
 use Rattle.faulty_source.specs.declared.journal.ReadEntry.{ReadEntry}
 use Rattle.rescue_console.specs.declared.console.Channel.TheVariants.{Out}
-use Rattle.rescue_console.specs.ConsoleState.{ConsoleState, TextGoesOn, Puts, StaysBeside}
+use Rattle.rescue_console.specs.ConsoleState.{ConsoleState, Puts, StaysBeside}
 use Rattle.plan_source.specs.declared.loss.PlanLoss.{PlanLoss}
 use Rattle.plan_source.specs.declared.loss.PlanLoss.TheVariants.{Memory, Console}
 use Rattle.plan_source.specs.Lines.{lines_of_entries}
@@ -55,16 +55,15 @@ pub record BreaksLast (entries : List ReadEntry) (start now : ConsoleState) : Ty
       → now.out.text ≡ start.out.text ++ lines_of_entries (but_last entries)
   pub rose : Rose start.out.faults now.out.faults
 
+-- a schedule after a call for each of these entries
+abbrev pub after_each : List ReadEntry → Schedule → Schedule
+after_each [] s = s
+after_each (e ∷ entries) s = after_each entries (with_call s)
+
 -- what a console got of a journal's lines, by why further reads are lost: each, whole and in order, or the last one's
--- put failed
+-- put failed; and by its schedule it was called once for each
 pub record HasPrinted (start now : ConsoleState) (entries : List ReadEntry) (lost : Option PlanLoss) : Type 0 where
   pub whole : is_line_lost lost ≡ false → Puts Out (lines_of_entries entries) start now
   pub broken : is_line_lost lost ≡ true → BreaksLast entries start now
-
--- a text was put on standard output, and a beginning of a piece after it; and then a put failed, of which nothing is
--- there if it failed by a schedule
-pub record PutsAfter (text piece : List ℕ) (old new : ConsoleState) : Type 0 where
-  pub stays : StaysBeside Out old new
-  pub part : IsTrue old.tells → TextGoesOn piece (old.out.text ++ text) new.out.text
-  pub unput : IsTrue old.is_scheduled → IsTrue old.tells → new.out.text ≡ old.out.text ++ text
-  pub rose : Rose old.out.faults new.out.faults
+  pub none : entries ≡ [] → now ≡ start
+  pub calls : IsTrue start.is_scheduled → now.schedule ≡ after_each entries start.schedule

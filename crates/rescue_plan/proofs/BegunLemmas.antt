@@ -13,6 +13,7 @@ use Rattle.rescue_plan.specs.Plan.{IsPlan, plan_setting}
 use Rattle.rescue_plan.specs.Running.{PutsPlan, PutsFirst, PutsPlanBroken}
 use Rattle.rescue_plan.specs.Laws.{AreUnlimited, PlanIsBegun}
 use Rattle.rescue_plan.proofs.PlanLemmas.{begin_with, limits_none, plan_is_one}
+use Rattle.rescue_plan.proofs.PutLemmas.{broken_part, lines_put}
 
 lines_after : (first more : List PlannedRead) → lines_of (first ++ more) ≡ lines_of first ++ lines_of more
 lines_after first more = flat_map-append line_of first more
@@ -33,13 +34,13 @@ module _ (c : Command) (test : List Status) (old new : ConsoleState) (reads : Li
         part = lines_of p.reads;
         left = lines_of b.more;
         split = sym (lines_after p.reads b.more) ∙ ap lines_of b.are;
-        is = p.puts.whole tells;
+        is = (lines_put p.reads old new p.says).whole tells;
       }
 
   broken_begun : PutsPlanBroken c test old new → Begun
   broken_begun p =
       let b = begin_with c.options.rescue c.length test (p.reads ++ p.next ∷ []) reads unbounded p.first plan in
-      let g = p.puts.part tells in
+      let g = broken_part c test old new p tells in
       let rest : List ℕ = lines_of b.more in
       let next : lines_of (p.reads ++ p.next ∷ []) ≡ lines_of p.reads ++ line_of p.next =
       lines_after p.reads (p.next ∷ []) ∙ ap (λ (t : List ℕ). lines_of p.reads ++ t) (append-nil (line_of p.next)) in
@@ -61,7 +62,7 @@ module _ (c : Command) (test : List Status) (old new : ConsoleState) (reads : Li
     left = [];
     split = append-nil (lines_of p.reads)
         ∙ ap lines_of ((plan_is_one c.options.rescue c.length test reads unbounded plan).alone p.reads p.plan);
-    is = p.puts.whole tells;
+    is = (lines_put p.reads old new p.says).whole tells;
   }
   by_end (Lost Memory) p = first_begun p
   by_end (Lost Console) p = broken_begun p

@@ -31,8 +31,8 @@ use Rattle.rescue_rules.proofs.SearchLemmas.{request_found}
 use Rattle.rescue_rules.proofs.StatusLemmas.{non_trimmed_stood, rest_is, wanted_taken}
 use Rattle.rescue_rules.proofs.StepLemmas.{move_steps, request_asks, trims_is}
 use Rattle.rescue_core.proofs.ChangeLemmas.{Kept, Missed, CutOff, Between, Stands, changes}
-use Rattle.trim_scrape.proofs.CursorLemmas.{LiesAhead, asked_left, asked_past}
-use Rattle.trim_scrape.proofs.OwedLemmas.{passes_are}
+use Rattle.run_laws.proofs.CursorLemmas.{LiesAhead, asked_left, asked_past}
+use Rattle.run_laws.proofs.OwedLemmas.{passes_are}
 use Rattle.ddrescue_words.specs.declared.options.Options.{Options}
 use Rattle.ddrescue_words.specs.Options.{sectors_of}
 use Rattle.ddrescue_words.specs.Asking.{AreInLimits}

@@ -1,3 +1,5 @@
+-- ddrescueplan_cli cites this.
+pub mod PutLemmas
 mod SimilarLemmas
 mod PlanLemmas
 mod BegunLemmas

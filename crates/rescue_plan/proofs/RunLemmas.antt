@@ -7,14 +7,14 @@ use Rattle.std.proofs.lemmas.List.{length-replicate, map-append}
 use Rattle.std.proofs.lemmas.List.Elements.{All-nil, All-cons, All-head, All-tail}
 use Rattle.block_list.specs.declared.status.Status.{Status}
 use Rattle.block_list.specs.declared.status.Status.TheVariants.{NonTried}
-use Rattle.save_resume.specs.MapNames.{MapNames}
+use Rattle.save_resume.specs.MapNames.{MapNames, names_in}
 use Rattle.crash_site.specs.Calls.{Entry}
 use Rattle.faulty_source.specs.declared.journal.ReadEntry.{ReadEntry}
 use Rattle.faulty_source.specs.Journal.{Reading}
 use Rattle.faulty_source.specs.SourceState.{SourceState, Below}
 use Rattle.faulty_source.specs.SourceChanges.{Stays}
-use Rattle.rescue_console.specs.declared.console.Channel.TheVariants.{Out}
-use Rattle.rescue_console.specs.ConsoleState.{ConsoleState, Puts}
+use Rattle.rescue_console.specs.ConsoleState.{ConsoleState}
+use Rattle.rescue_console.specs.Speaking.{SpeaksOn, out_pieces}
 use Rattle.rescue_domain.specs.Testing.{finished_front}
 use Rattle.rescue_domain.specs.Parts.{covers}
 use Rattle.rescue_rules.specs.declared.stop.RunEnd.{RunEnd}
@@ -33,21 +33,22 @@ use Rattle.rescue_rules.proofs.NamelessLemmas.{run_named}
 use Rattle.rescue_rules.proofs.MoveLemmas.{run_first, run_rest}
 use Rattle.rescue_rules.proofs.ReadyLemmas.{order_over, order_ready, stays_ready}
 use Rattle.rescue_rules.proofs.StepLemmas.{move_steps}
-use Rattle.rescue_core.proofs.PrepareLemmas.{change_is_made}
-use Rattle.rescue_core.specs.declared.settings.Settings.{Settings}
-use Rattle.rescue_core.specs.RunState.{RunState, names_in, setting_with, setting_in}
+use Rattle.map_preparation.proofs.PrepareLemmas.{change_is_made}
+use Rattle.run_options.specs.declared.settings.Settings.{Settings}
+use Rattle.rescue_core.specs.RunState.{RunState, setting_with, setting_in}
 use Rattle.ddrescue_words.specs.declared.options.Options.{Options}
 use Rattle.task_files.specs.Asked.{domain_asked, no_maps}
 use Rattle.task_files.specs.Settings.{settings_by}
 use Rattle.ddrescueplan_words.specs.Command.{Command, AreInLimits}
 use Rattle.plan_source.specs.declared.loss.PlanLoss.{PlanLoss}
 use Rattle.plan_source.specs.declared.loss.PlanLoss.TheVariants.{Memory, Console}
-use Rattle.plan_source.specs.Lines.{PlannedRead, planned, planned_entry, line_of, lines_of, line_of_entry, lines_of_entries}
-use Rattle.plan_source.specs.Printing.{BreaksLast, HasPrinted, PutsAfter}
+use Rattle.plan_source.specs.Lines.{PlannedRead, planned, planned_entry, line_of, line_of_entry}
+use Rattle.plan_source.specs.Printing.{HasPrinted, is_line_lost}
 use Rattle.plan_source.specs.Answering.{IsSeenIn, there, given_at, reading_of, plan_source_state}
 use Rattle.rescue_plan.specs.Plan.{IsPlannedIn, BeginsPlan, untried_map, plan_setting, plan_start}
 use Rattle.rescue_plan.specs.Running.{BeginsPlannedRun, PutsPlan, PutsPlanWhole, PutsFirst, PutsPlanBroken, end_by}
-use Rattle.plan_source.proofs.PrintingLemmas.{ends_with, puts_broken}
+use Rattle.plan_source.proofs.PrintingLemmas.{EndsWith, ends_with}
+use Rattle.plan_source.proofs.ChainLemmas.{LastBreaks, last_breaks, lines_put, whole_lines, with_lines}
 use Rattle.rescue_plan.proofs.SimilarLemmas.{IsUnlimited}
 use Rattle.rescue_plan.proofs.PlanLemmas.{begins_by, limits_none, plan_by, unlimited}
 
@@ -152,11 +153,11 @@ entries_planned len test (e ∷ entries) seen within =
 planned_is : (e : ReadEntry) → planned (reading_of e) ≡ planned_entry e
 planned_is e = ap (λ (n : ℕ). record { pos = e.pos; asked = e.asked; given = n }) (length-replicate e.given 0)
 
-lines_are : (entries : List ReadEntry) → lines_of (map planned (map reading_of entries)) ≡ lines_of_entries entries
+lines_are : (entries : List ReadEntry) → map line_of (map planned (map reading_of entries)) ≡ map line_of_entry entries
 lines_are [] = refl
 lines_are (e ∷ entries) =
-    ap (λ (r : PlannedRead). line_of r ++ lines_of (map planned (map reading_of entries))) (planned_is e)
-    ∙ ap (λ (t : List ℕ). line_of_entry e ++ t) (lines_are entries)
+    ap (λ (r : PlannedRead). line_of r ∷ map line_of (map planned (map reading_of entries))) (planned_is e)
+    ∙ ap (λ (ts : List (List ℕ)). line_of_entry e ∷ ts) (lines_are entries)
 
 -- those of entries with one more
 planned_last : (before : List ReadEntry) (last : ReadEntry)
@@ -168,12 +169,12 @@ planned_last before last =
 
 -- ---- how it ended
 
-done_over : (s : Setting) (m : Machine) (es : List Event) (spare : ℕ) (calls : List Entry) → Ends s m es spare calls RunDone
+done_over : (s : Setting) (m : Machine) (es : List Event) (calls : List Entry) → Ends s m es calls RunDone
     → has_ended s (state_after s m es) ≡ true
-done_over s m es spare calls (IsSaved None by is all) = by.0
-done_over s m es spare calls (IsSaved (Some stop) by is all) = absurd (cc is)
-done_over s m es spare calls (IsUnsaved stop call by is broke) = absurd (cc is)
-done_over s m es spare calls (IsBroken before last call split none is broke) = absurd (cc is)
+done_over s m es calls (IsSaved None by is all) = by
+done_over s m es calls (IsSaved (Some stop) by is all) = absurd (cc is)
+done_over s m es calls (IsUnsaved stop call by is broke) = absurd (cc is)
+done_over s m es calls (IsBroken before last call split is broke) = absurd (cc is)
 
 blank_size : (s : Setting) (n : ℕ) → length (plan_start s n).map ≡ n
 blank_size s n =
@@ -196,8 +197,14 @@ module _ (c : Command) (limits : AreInLimits c) (r : RunState) (is : BeginsPlann
       (entries_planned c.length test entries seen
       (subst (λ (rs : List Reading). All (IsWithin c.length) rs) (sym journal) inside))
 
-  lines_same : lines_of_entries entries ≡ lines_of (map planned (reads_of es))
-  lines_same = sym (lines_are entries) ∙ ap (λ (rs : List Reading). lines_of (map planned rs)) journal
+  lines_same : map line_of_entry entries ≡ map line_of (map planned (reads_of es))
+  lines_same = sym (lines_are entries) ∙ ap (λ (rs : List Reading). map line_of (map planned rs)) journal
+
+  says_whole : (lost : Option PlanLoss) → HasPrinted start now entries lost → is_line_lost lost ≡ false
+      → SpeaksOn (out_pieces (map line_of (map planned (reads_of es)))) true true start now
+  says_whole lost h whole =
+      subst (λ (ts : List (List ℕ)). SpeaksOn (out_pieces ts) true true start now) lines_same
+      (whole_lines start now entries lost h whole)
 
   unbounded : IsUnlimited s
   unbounded = unlimited c.options.rescue c.length (limits_none c.options.rescue limits.plain)
@@ -206,25 +213,27 @@ module _ (c : Command) (limits : AreInLimits c) (r : RunState) (is : BeginsPlann
   reads_begin = begins_by s unbounded c.length 0 test es (run_is c r es is run)
       planned_all
 
-  put_whole : Puts Out (lines_of_entries entries) start now
+  put_whole : (lost : Option PlanLoss) → HasPrinted start now entries lost → is_line_lost lost ≡ false
       → has_ended (setting_in r) (state_after (setting_in r) r.machine es) ≡ true → PutsPlanWhole c test start now
-  put_whole puts over = record {
+  put_whole lost h whole over = record {
     reads = map planned (reads_of es);
     plan = plan_by s unbounded c.length 0 test es (run_is c r es is run) planned_all
         (ended_is c r es is over);
-    puts = subst (λ (t : List ℕ). Puts Out t start now) lines_same puts;
+    says = says_whole lost h whole;
   }
 
-  put_first : Puts Out (lines_of_entries entries) start now → PutsFirst c test start now
-  put_first puts = record {
-    reads = map planned (reads_of es);
-    first = reads_begin;
-    puts = subst (λ (t : List ℕ). Puts Out t start now) lines_same puts;
-  }
+  put_first : (lost : Option PlanLoss) → HasPrinted start now entries lost → is_line_lost lost ≡ false
+      → PutsFirst c test start now
+  put_first lost h whole =
+      record { reads = map planned (reads_of es); first = reads_begin; says = says_whole lost h whole }
 
-  put_broken : BreaksLast entries start now → PutsPlanBroken c test start now
-  put_broken b =
-      let end = ends_with entries b.some in
+  put_broken : HasPrinted start now entries (Some Console) → PutsPlanBroken c test start now
+  put_broken h =
+      let end : EndsWith entries = ends_with entries (h.broken refl).some in
+      let g : HasPrinted start now (end.before ++ end.last ∷ []) (Some Console) =
+      subst (λ (xs : List ReadEntry). HasPrinted start now xs (Some Console)) end.are h in
+      let last : LastBreaks start now end.before end.last =
+      last_breaks start now end.before end.last (g.broken refl) g.calls in
       let reads : List PlannedRead = map planned (map reading_of end.before) in
       let are : map planned (reads_of es) ≡ reads ++ planned_entry end.last ∷ [] =
       ap (map planned) (sym journal ∙ ap (map reading_of) end.are) ∙ planned_last end.before end.last in
@@ -232,20 +241,23 @@ module _ (c : Command) (limits : AreInLimits c) (r : RunState) (is : BeginsPlann
         reads = reads;
         next = planned_entry end.last;
         first = subst (λ (rs : List PlannedRead). BeginsPlan s c.length test rs) are reads_begin;
-        puts = subst (λ (t : List ℕ). PutsAfter t (line_of_entry end.last) start now) (sym (lines_are end.before))
-            (puts_broken start now entries end.before end.last end.are b);
+        between = with_lines end.before start;
+        says = subst (λ (ts : List (List ℕ)). SpeaksOn (out_pieces ts) true true start (with_lines end.before start))
+            (sym (lines_are end.before)) (lines_put end.before start);
+        breaks = last.breaks;
+        unput = last.unput;
       }
 
   -- by why reads after it are lost, and how the run ended
-  pub plan_put : (lost : Option PlanLoss) (end : RunEnd) (spare : ℕ) (calls : List Entry)
-      → Ends (setting_in r) r.machine es spare calls end → HasPrinted start now entries lost
+  pub plan_put : (lost : Option PlanLoss) (end : RunEnd) (calls : List Entry)
+      → Ends (setting_in r) r.machine es calls end → HasPrinted start now entries lost
       → PutsPlan c test (end_by lost end) start now
-  plan_put None RunDone spare calls ends h =
-      put_whole (h.whole refl) (done_over (setting_in r) r.machine es spare calls ends)
-  plan_put None (Stopped stop) spare calls ends h = put_first (h.whole refl)
-  plan_put None (SaveFailed call earlier) spare calls ends h = put_first (h.whole refl)
-  plan_put (Some Memory) end spare calls ends h = put_first (h.whole refl)
-  plan_put (Some Console) end spare calls ends h = put_broken (h.broken refl)
+  plan_put None RunDone calls ends h =
+      put_whole None h refl (done_over (setting_in r) r.machine es calls ends)
+  plan_put None (Stopped stop) calls ends h = put_first None h refl
+  plan_put None (SaveFailed call earlier) calls ends h = put_first None h refl
+  plan_put (Some Memory) end calls ends h = put_first (Some Memory) h refl
+  plan_put (Some Console) end calls ends h = put_broken h
 
 -- ---- what the source tells after the run
 
@@ -280,8 +292,8 @@ is_after len len' test test' reference reference' entries name opened opens faul
 
 -- What the run of a plan put, by all that is told of it.
 pub run_puts : (c : Command) (limits : AreInLimits c) (r : RunState) (is : BeginsPlannedRun c r) (end : RunEnd) (es : List Event)
-    (run : IsRun (setting_in r) r.machine es) (spare : ℕ) (calls : List Entry)
-    → Ends (setting_in r) r.machine es spare calls end
+    (run : IsRun (setting_in r) r.machine es) (calls : List Entry)
+    → Ends (setting_in r) r.machine es calls end
     → (len len' : ℕ) → c.length ≡ len → (test test' : List Status) (reference reference' : ℕ) (entries : List ReadEntry)
     (name : List ℕ) (opened idle : Bool) (opens faults losses : ℕ) (lost : Option PlanLoss) (old : SourceState)
     → old ≡ plan_source_state len test reference [] [] true 0 0 0
@@ -289,7 +301,7 @@ pub run_puts : (c : Command) (limits : AreInLimits c) (r : RunState) (is : Begin
     → (IsTrue old.tells → map reading_of entries ≡ old.journal ++ reads_of es)
     → All (IsSeenIn len' test') entries → (start now : ConsoleState) → (idle ≡ true → HasPrinted start now entries lost)
     → PutsPlan c test (end_by lost end) start now
-run_puts c limits r is end es run spare calls ends len len' size test test' reference reference' entries name opened idle
+run_puts c limits r is end es run calls ends len len' size test test' reference reference' entries name opened idle
     opens faults losses lost old was stays read seen start now printed =
     let b : IsAfter len len' test test' (opened && idle) entries (reads_of es) =
     is_after len len' test test' reference reference' entries name (opened && idle) opens faults losses old (reads_of es)
@@ -297,5 +309,5 @@ run_puts c limits r is end es run spare calls ends len len' size test test' refe
     let seen_all : All (IsSeenIn c.length test) entries =
     subst (λ (n : ℕ). All (IsSeenIn n test) entries) (b.length_is ∙ sym size)
     (subst (λ (f : List Status). All (IsSeenIn len' f) entries) b.test_is seen) in
-    plan_put c limits r is es run test entries seen_all b.journal start now lost end spare calls ends
+    plan_put c limits r is es run test entries seen_all b.journal start now lost end calls ends
     (printed (and_parts opened idle b.on).1)

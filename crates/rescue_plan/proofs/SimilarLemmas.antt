@@ -9,6 +9,7 @@ use Rattle.block_list.specs.declared.status.Status.{Status}
 use Rattle.block_list.specs.declared.status.Status.TheVariants.{Finished}
 use Rattle.block_list.specs.Map.{marked}
 use Rattle.faulty_source.specs.Journal.{Reading, floor}
+use Rattle.save_resume.specs.MapNames.{names_in}
 use Rattle.rescue_rules.specs.declared.stop.TrimMode.TheVariants.{Lead}
 use Rattle.rescue_rules.specs.Setting.{Setting}
 use Rattle.rescue_rules.specs.Passes.{Pass, is_up}
@@ -18,7 +19,6 @@ use Rattle.rescue_rules.specs.Step.{Event, is_copying, is_trimming, is_slow, res
 use Rattle.rescue_rules.specs.Moves.{begun, at_next, ready, move_of, moves, state_after, IsMove, IsRun, no_pass_left, has_ended}
 use Rattle.rescue_rules.proofs.LimitLemmas.{none_met}
 use Rattle.rescue_rules.proofs.MoveLemmas.{run_first, run_rest}
-use Rattle.rescue_core.specs.RunState.{names_in}
 
 -- a setting without the names of files
 abbrev pub plain : Setting → Setting
@@ -40,6 +40,7 @@ quiet m = record m {
     due_at = 0;
     shown = nothing_shown;
     written = 0;
+    had_event = false;
     said = None;
     first_areas = 0;
   };

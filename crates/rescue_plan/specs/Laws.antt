@@ -12,7 +12,6 @@ use Rattle.rescue_rules.specs.Beginning.{machine_over}
 use Rattle.rescue_rules.specs.Events.{reads_of}
 use Rattle.rescue_rules.specs.Start.{IsFresh}
 use Rattle.rescue_console.specs.ConsoleState.{ConsoleState, TextGoesOn}
-use Rattle.rescue_core.specs.RunState.{names_in}
 use Rattle.ddrescue_words.specs.declared.options.Options.{Options}
 use Rattle.ddrescue_words.specs.Asking.{AreInLimits as AreRescueLimits}
 use Rattle.ddrescue_words.specs.Command.{Command as RescueCommand}
@@ -21,6 +20,7 @@ use Rattle.ddrescueplan_words.specs.Command.{Command, ArePlain}
 use Rattle.rescue_plan.specs.declared.run.PlanEnd.{PlanEnd}
 use Rattle.rescue_plan.specs.Running.{PutsPlan}
 use Rattle.plan_source.specs.Lines.{PlannedRead, planned, lines_of}
+use Rattle.save_resume.specs.MapNames.{names_in}
 use Rattle.rescue_plan.specs.Plan.{untried_map, plan_setting, BeginsPlan, IsPlan}
 
 -- reads begin with others

@@ -20,7 +20,7 @@ returns g c = record {
       {x = s.console.now}
       (search rules)
       (rw ended
-      (run_puts k limits c.args.rescue begins end went.events went.run (length went.spare) went.gained went.ends
+      (run_puts k limits c.args.rescue begins end went.events went.run went.gained went.ends
       c.args.length s.length size (statuses c.args.tiles) (statuses s.tiles) _ _ s.entries.items s.name.items s.opened s.idle
       s.opens s.faults s.losses s.lost _ c.since-source.ensures.state c.run_rescue-closed.ensures.source went.read s.seen
       (state c.args.console.now) (state s.console.now)
