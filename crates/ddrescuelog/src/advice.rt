@@ -1,8 +1,8 @@
 //! The line after the message: why an answer came, by the files that the arguments name.
-use crash_site::folder::FolderSite;
 use ddrescuelog_cli::ending::{LogEnding, Which};
-use ddrescuelog_words::command::{Command, read_command};
-use ddrescuelog_words::options::ROWS;
+use ddrescuelog_words::command::Command;
+use folder_site::folder::FolderSite;
+use option_words::asked::read_asked;
 use option_words::words::Words;
 use program_advice::cause::{Cause, Fact, Hint, Named, Role, Stream};
 use program_advice::files::stream_cause;
@@ -20,9 +20,8 @@ const USAGE: &str =
 fn manual() -> Manual {
     Manual {
         usage: USAGE,
-        option: "an option of this program; 'man ddrescuelog' lists them and what stands in place of those of GNU's",
+        option: "an option of this program; 'man ddrescuelog' lists them, and what replaces GNU's other options",
         operand: "a file's name",
-        rows: &ROWS,
     }
 }
 
@@ -109,9 +108,9 @@ pub fn advise(
     fed: Option<io::Error>,
     put: Option<io::Error>,
 ) -> Option<Line> {
-    let command = match read_command(rt.alloc(), words) {
+    let command: Command<'_> = match read_asked(rt.alloc(), words) {
         Ok(command) => command,
-        Err(error) => return line_on_words(PROGRAM, rt.alloc(), words, error, manual()),
+        Err(refusal) => return line_on_words(PROGRAM, words, refusal, manual()),
     };
     if command.options.quiet {
         return None;

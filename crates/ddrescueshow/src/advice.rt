@@ -1,9 +1,9 @@
 //! The line after the message: why an answer came, by the files that the arguments name.
-use crash_site::folder::FolderSite;
 use ddrescueshow_cli::ending::{ShowEnding, Which};
 use ddrescueshow_cli::follow::FollowEnding;
-use ddrescueshow_words::command::{Command, read_command};
-use ddrescueshow_words::options::ROWS;
+use ddrescueshow_words::command::Command;
+use folder_site::folder::FolderSite;
+use option_words::asked::read_asked;
 use option_words::words::Words;
 use program_advice::cause::{Cause, Fact, Hint, Named, Role, Stream};
 use program_advice::files::stream_cause;
@@ -19,7 +19,6 @@ fn manual() -> Manual {
         usage: "ddrescueshow [options] mapfile; 'man ddrescueshow' lists the options and names the version",
         option: "an option of this program; 'man ddrescueshow' lists them",
         operand: "a file's name",
-        rows: &ROWS,
     }
 }
 
@@ -87,9 +86,9 @@ pub fn advise(
     site: &FolderSite,
     put: Option<io::Error>,
 ) -> Option<Line> {
-    let command = match read_command(rt.alloc(), words) {
+    let command: Command<'_> = match read_asked(rt.alloc(), words) {
         Ok(command) => command,
-        Err(error) => return line_on_words(PROGRAM, rt.alloc(), words, error, manual()),
+        Err(refusal) => return line_on_words(PROGRAM, words, refusal, manual()),
     };
     if command.options.quiet {
         return None;
@@ -113,14 +112,17 @@ pub fn advise(
 }
 
 /// The line to print after the message of a call that follows a rescue, if a line helps. `fed` and `put` are the
-/// errors of standard input and output.
+/// errors of standard input and output. A `terminal` as output can't be written once it is closed, and the message says
+/// all.
 pub fn advise_follower(
     ending: FollowEnding,
     fed: Option<io::Error>,
     put: Option<io::Error>,
+    terminal: bool,
 ) -> Option<Line> {
     let cause = match ending {
         FollowEnding::Done | FollowEnding::NotAlone => return None,
+        FollowEnding::ConsoleFault if terminal => return None,
         FollowEnding::FeedFault => stream_cause(Stream::Input, fed)?,
         FollowEnding::ConsoleFault => stream_cause(Stream::Output, put)?,
         FollowEnding::NoMemory => Cause::Hint(Hint::NoMemory),

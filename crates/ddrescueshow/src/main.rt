@@ -2,11 +2,11 @@
 #![tactic(auto)]
 
 use advice::{advise, advise_follower};
-use crash_site::folder::FolderSite;
 use ddrescueshow_cli::asked::asks_to_follow;
 use ddrescueshow_cli::follow::{follow, refuse, starve};
 use ddrescueshow_cli::show::ddrescueshow;
 use ddrescueshow_words::progress::asks_progress;
+use folder_site::folder::FolderSite;
 use program_advice::put::put_line;
 use program_start::status::status_of;
 use program_start::streams::{ClosedStream, fill_streams};
@@ -31,14 +31,14 @@ fn follow_rescue(
     let mut feed = StdFeed::new(rt.clone()?);
     let ending = follow(rt.alloc(), &mut feed, &mut console, terminal);
     let (fed, put) = (feed.trouble(), console.trouble(Channel::Out));
-    put_line(&mut console, advise_follower(ending, fed, put));
+    put_line(&mut console, advise_follower(ending, fed, put, terminal));
     Ok(ending.code())
 }
 
 /// Says that there wasn't enough memory to read the arguments.
 fn starved(mut console: StdConsole) -> u8 {
     let ending = starve(&mut console);
-    put_line(&mut console, advise_follower(ending, None, None));
+    put_line(&mut console, advise_follower(ending, None, None, false));
     ending.code()
 }
 

@@ -5,7 +5,7 @@ use Rattle.program_advice.specs.declared.cause.Role.TheVariants.{Infile, Pattern
 use Rattle.program_advice.specs.declared.cause.Doing.{Doing}
 use Rattle.program_advice.specs.declared.cause.Doing.TheVariants.{Open, Read, Write, Sync, Remove}
 use Rattle.program_advice.specs.declared.cause.Fact.{Fact}
-use Rattle.program_advice.specs.declared.cause.Fact.TheVariants.{InUse, NotApart, DraftNotApart, NotRegular, NeedsForce, Absent, Exists, Empty, NoMap, Replaced}
+use Rattle.program_advice.specs.declared.cause.Fact.TheVariants.{InUse, NotApart, DraftNotApart, NotRegular, NeedsForce, Absent, Unplugged, Exists, Empty, NoMap, Replaced}
 use Rattle.program_advice.specs.declared.cause.Stream.{Stream}
 use Rattle.program_advice.specs.declared.cause.Stream.TheVariants.{Input, Output}
 use Rattle.program_advice.specs.declared.cause.Hint.{Hint}
@@ -40,6 +40,7 @@ fact_text DraftNotApart = codes " or its draft (.tmp) is the infile or the outfi
 fact_text NotRegular = codes " isn't a regular file"
 fact_text NeedsForce = codes " isn't a regular file: option -f writes to it, and what it holds is lost"
 fact_text Absent = codes " doesn't exist"
+fact_text Unplugged = codes " isn't there: is the disk connected?"
 fact_text Exists = codes " exists: option -f replaces it"
 fact_text Empty = codes " is empty"
 fact_text NoMap = codes " isn't a mapfile, or it was damaged"

@@ -46,6 +46,8 @@ pub enum Fact {
     /// The file is no regular file, and an option allows it all the same.
     NeedsForce,
     Absent,
+    /// The file isn't there, and its name is one of a device.
+    Unplugged,
     Exists,
     Empty,
     /// The file's text is no map.

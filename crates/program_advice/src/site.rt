@@ -3,8 +3,8 @@ ghost use Rattle.std.specs.Prelude.{◌≡◌, IfSome};
 
 use crate::cause::{Cause, Doing, Fact, Hint, Named, Role, UsedBy};
 use crate::reason::reason_text;
-use crash_site::folder::SiteTrouble;
 use crash_site::site::SiteCall;
+use folder_site::folder::SiteTrouble;
 use kernel_devices::devices::{DeviceUse, User, find_use};
 use kernel_devices::identity::Identity;
 use real_files::outcome::is_in_use;
@@ -84,6 +84,12 @@ fn image_cause<'a>(doing: Doing, error: &io::Error, files: SiteFiles<'a>) -> Cau
         return Cause::File {
             file,
             fact: Fact::InUse,
+        };
+    }
+    if is_own(error, ErrorKind::NotFound) {
+        return Cause::File {
+            file,
+            fact: Fact::Unplugged,
         };
     }
     if is_full(error) {

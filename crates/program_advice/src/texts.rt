@@ -51,6 +51,7 @@ pub(crate) fn fact_text(fact: Fact) -> &'static str
             " isn't a regular file: option -f writes to it, and what it holds is lost"
         }
         Fact::Absent => " doesn't exist",
+        Fact::Unplugged => " isn't there: is the disk connected?",
         Fact::Exists => " exists: option -f replaces it",
         Fact::Empty => " is empty",
         Fact::NoMap => " isn't a mapfile, or it was damaged",

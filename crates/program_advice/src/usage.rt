@@ -4,13 +4,11 @@ ghost use Rattle.program_advice.specs.Lines.{IsOneLine};
 
 use crate::cause::Cause;
 use crate::line::{Line, line_of};
+use option_words::asked::Refusal;
 use option_words::command_error::CommandError;
 use option_words::fault::{UsageFault, WordFault};
-use option_words::reader::read_words;
-use option_words::row::Row;
-use option_words::table::OptionTable;
+use option_words::row::Wants;
 use option_words::words::Words;
-use std::alloc::Global;
 
 /// What a program tells of its arguments.
 #[derive(Clone, Copy)]
@@ -21,7 +19,6 @@ pub struct Manual {
     pub option: &'static str,
     /// What an argument isn't that names no file and gives no number.
     pub operand: &'static str,
-    pub rows: &'static [Row],
 }
 
 /// An argument, counted from 1, if there are that many.
@@ -57,75 +54,42 @@ fn word_cause<'a>(words: &'a Words, fault: WordFault, manual: Manual) -> Option<
     Some(Cause::Argument { word, wanted })
 }
 
-/// The long name of the option whose value begins in a word, and None if that word is no option's value.
-fn option_at(
-    alloc: Global,
-    words: &Words,
-    word: usize,
-    rows: &'static [Row],
-) -> Option<&'static str> {
-    let table = OptionTable::checked(rows)?;
-    let Ok(reading) = read_words(alloc, words, &table) else {
-        return None;
-    };
-    for item in &reading.items {
-        if let Some(spot) = item.value {
-            if spot.word == word {
-                return Some(rows.get(item.row)?.long);
-            }
+/// What the value of an option should be.
+fn wanted_text(wants: Wants) -> &'static str {
+    match wants {
+        Wants::Size | Wants::Sectors | Wants::Skips => {
+            "a size that fits here (4Ki is 4096, 4k is 4000)"
         }
-    }
-    None
-}
-
-/// Whether the value of an option is a size.
-fn is_size(option: &str) -> bool {
-    option == "block-size"
-        || option == "cluster-size"
-        || option == "input-position"
-        || option == "min-read-rate"
-        || option == "output-position"
-        || option == "sector-size"
-        || option == "size"
-        || option == "skip-size"
-}
-
-/// What the value of an option is to be.
-fn wanted_by(option: &str) -> &'static str {
-    if is_size(option) {
-        "a size that fits here (4Ki is 4096, 4k is 4000)"
-    } else if option == "retry-passes" {
-        "a number from 0 to 65535"
-    } else if option == "max-bad-areas" || option == "max-read-errors" {
-        "a number that fits here"
-    } else if option == "rows" || option == "width" {
-        "a number from 1 to 1000"
-    } else if option == "sample" {
-        "a number from 1 to 65536"
-    } else if option == "timeout" {
-        "a time that fits here (90 is 90 s, 2m is 120 s)"
-    } else if option == "change-types" {
-        "two lists of types, such as */,-"
-    } else if option == "fill-mode" || option == "list-blocks" {
-        "a list of types, such as - or */-"
-    } else {
-        "a value that fits here"
+        Wants::Retries => "a number from 0 to 65535",
+        Wants::Areas | Wants::Number => "a number that fits here",
+        Wants::Cells => "a number from 1 to 1000",
+        Wants::Kib => "a number from 1 to 65536",
+        Wants::Interval => "a time that fits here (90 is 90 s, 2m is 120 s)",
+        Wants::TypeLists => "two lists of types, such as */,-",
+        Wants::Types => "a list of types, such as - or */-",
+        Wants::Nothing
+        | Wants::OneType
+        | Wants::TwoTypes
+        | Wants::Mapfile
+        | Wants::DomainMap
+        | Wants::TestMap
+        | Wants::Coloring => "a value that fits here",
     }
 }
 
 /// Why arguments ask for nothing that can be done, if that helps.
 fn usage_cause<'a>(
-    alloc: Global,
     words: &'a Words,
     fault: UsageFault,
+    wants: Option<Wants>,
     manual: Manual,
 ) -> Option<Cause<'a>> {
     match fault {
         UsageFault::Word(fault) => word_cause(words, fault, manual),
         UsageFault::BadValue { word: number } => {
             let word = argument(words, number)?;
-            let wanted = match option_at(alloc, words, number, manual.rows) {
-                Some(option) => wanted_by(option),
+            let wanted = match wants {
+                Some(wants) => wanted_text(wants),
                 None => manual.operand,
             };
             Some(Cause::Argument { word, wanted })
@@ -143,19 +107,13 @@ fn usage_cause<'a>(
 
 /// The line that follows the message on arguments that ask for nothing. There is none if they ask that nothing be said,
 /// and none if it wouldn't help.
-pub fn line_on_words(
-    program: &str,
-    alloc: Global,
-    words: &Words,
-    error: CommandError,
-    manual: Manual,
-) -> Option<Line>
+pub fn line_on_words(program: &str, words: &Words, refusal: Refusal, manual: Manual) -> Option<Line>
     requires { length program.now ≤ 18 }
     ensures { IfSome result (λ line. IsOneLine line.items) }
 {
-    match error {
+    match refusal.error {
         CommandError::Usage { fault, quiet } if !quiet => {
-            let cause = usage_cause(alloc, words, fault, manual)?;
+            let cause = usage_cause(words, fault, refusal.wants, manual)?;
             Some(line_of(program, cause))
         }
         _ => None,

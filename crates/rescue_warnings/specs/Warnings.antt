@@ -59,7 +59,7 @@ abbrev pub advice_said : List ℕ → Names → Advice → List ℕ
 advice_said front names (OutfileShort n e) =
     number_said (number_said (outfile_said front names (codes " has ")) n
     (codes " B, but the mapfile calls positions up to ")) e
-    (codes " finished: what is missing won't be read again; delete the mapfile, or compare by ddrescueverify")
+    (codes " finished: what is missing won't be read again; is its disk connected? else run ddrescueverify")
 advice_said front names (MapPastInfile e n) =
     number_said (number_said (infile_said front names (codes " has ")) n
     (codes " B: was the mapfile made of a disk of ")) e (codes " B?")

@@ -107,7 +107,7 @@ fn say(line: &mut Line, names: Names<'_>, advice: Advice)
             say_number(
                 line,
                 finished,
-                " finished: what is missing won't be read again; delete the mapfile, or compare by ddrescueverify",
+                " finished: what is missing won't be read again; is its disk connected? else run ddrescueverify",
             );
         }
         Advice::MapPastInfile { end, length } => {

@@ -1,0 +1,87 @@
+//! The files that no mapfile and no draft may be, and what may not be written since it is the infile's.
+use crate::folder::image::OpenImage;
+use kernel_devices::devices::{find_under, find_under_open};
+use kernel_devices::identity::{Identity, OpenInput};
+use kernel_devices::names::folder_of;
+use std::fs::{File, Metadata};
+use std::io::{self, ErrorKind};
+
+/// The files that no mapfile and no draft may be: the open input and the open image.
+#[derive(Drop)]
+pub(super) struct Apart<'a> {
+    input: &'a Option<OpenInput>,
+    image: &'a Option<OpenImage>,
+}
+
+impl<'a> Apart<'a> {
+    /// The files to keep apart: the open input and the open image, if there are any.
+    pub fn new(input: &'a Option<OpenInput>, image: &'a Option<OpenImage>) -> Apart<'a> {
+        Apart { input, image }
+    }
+
+    /// Refuses a file that is the input or the image under another name.
+    pub fn check(&self, found: &Metadata) -> io::Result<()> {
+        let identity = Identity::of(found);
+        check_input(self.input, identity)?;
+        match self.image {
+            Some(image) if image.identity == identity => Err(ErrorKind::ResourceBusy.into()),
+            _ => Ok(()),
+        }
+    }
+
+    /// Refuses a mapfile whose folder lies on the input.
+    pub fn check_folder(&self, rt: &HostRuntime, name: &str) -> io::Result<()> {
+        check_folder(rt, self.input, name)
+    }
+}
+
+/// The open input, if there is one.
+fn noted(input: &Option<OpenInput>) -> Option<Identity> {
+    match input {
+        Some(input) => input.noted(),
+        None => None,
+    }
+}
+
+/// Refuses a file that is the input.
+pub(super) fn check_input(input: &Option<OpenInput>, identity: Identity) -> io::Result<()> {
+    match input {
+        Some(input) if input.is(identity) => Err(ErrorKind::ResourceBusy.into()),
+        _ => Ok(()),
+    }
+}
+
+/// Refuses what lies on the input, and what the input lies on. Two regular files that aren't one lie apart.
+pub(super) fn check_overlap(
+    rt: &HostRuntime,
+    input: &Option<OpenInput>,
+    file: &File,
+) -> io::Result<()> {
+    let Some(input) = noted(input) else {
+        return Ok(());
+    };
+    let written = Identity::of(&file.metadata()?);
+    if !input.is_device() && !written.is_device() {
+        return Ok(());
+    }
+    if find_under_open(rt, file)?.as_slice().contains(&input)
+        || find_under(rt, input)?.as_slice().contains(&written)
+    {
+        return Err(ErrorKind::CrossesDevices.into());
+    }
+    Ok(())
+}
+
+/// Refuses a new file in a folder that lies on the input.
+pub(super) fn check_folder(
+    rt: &HostRuntime,
+    input: &Option<OpenInput>,
+    name: &str,
+) -> io::Result<()> {
+    match noted(input) {
+        Some(device) if device.is_device() => {
+            check_overlap(rt, input, &File::open(rt, folder_of(name))?)
+        }
+        _ => Ok(()),
+    }
+}
