@@ -11,7 +11,7 @@ use Rattle.block_list.specs.Map.{Has}
 use Rattle.crash_site.specs.Files.{File, bytes_of, draft_of}
 use Rattle.crash_site.specs.Calls.{Call, Entry}
 use Rattle.crash_site.specs.Left.{NothingLost}
-use Rattle.save_resume.specs.MapNames.{names_of}
+use Rattle.save_resume.specs.MapNames.{names_of, names_in}
 use Rattle.rescue_rules.specs.declared.stop.RunEnd.{RunEnd}
 use Rattle.rescue_rules.specs.Setting.{Setting, IsSensible, place}
 use Rattle.rescue_rules.specs.Start.{Stands}
@@ -25,7 +25,6 @@ use Rattle.rescue_rules.specs.Stops.{Before, files_before, lost_before, has_barr
 use Rattle.rescue_rules.specs.StopsBy.{published, IsKeptBy}
 use Rattle.rescue_rules.proofs.CutLemmas.{Cut, cut_past}
 use Rattle.rescue_rules.proofs.MapfileLemmas.{opening_by}
-use Rattle.rescue_core.specs.RunState.{names_in}
 use Rattle.sweep_rules.specs.Sweep.{Sweep, Swept, Sweeper, generator, IsSweep, after_piece, after_pieces, sweep_over, sweep_end}
 use Rattle.sweep_rules.specs.SweepLaws.{AreGiven}
 use Rattle.sweep_rules.specs.SweepStops.{GeneratePromise, SweepsOver, has_swept_out, sweep_saves}
@@ -36,7 +35,7 @@ use Rattle.option_words.specs.Words.{command_line}
 use Rattle.ddrescue_words.specs.Command.{Generate}
 use Rattle.ddrescue_words.specs.Asking.{HasMapfile}
 use Rattle.ddrescue_words.proofs.CommandLemmas.{reading_asks}
-use Rattle.work_rules.proofs.FrontLemmas.{load_reads}
+use Rattle.program_promise.proofs.FrontLemmas.{load_reads}
 use Rattle.task_files.specs.Maps.{Found, found_in}
 use Rattle.task_files.specs.Names.{program_name}
 use Rattle.task_files.specs.Outside.{Outside}

@@ -2,6 +2,7 @@
 use Rattle.std.proofs.Common.{◌≡◌, ℕ, nat_eq, false, List, [], ◌∷◌, length, map, Option, Some, None, Ok, refl, sym, ap, subst, arith}
 use Rattle.std.proofs.lemmas.Bool.{ne_eqb}
 use Rattle.option_words.specs.declared.row.Row.{Row}
+use Rattle.option_words.specs.declared.row.Wants.TheVariants.{Nothing}
 use Rattle.option_words.specs.Meanings.{Brought, meaning, one_item, one_operand}
 use Rattle.option_words.specs.Reading.{Bring}
 use Rattle.option_words.specs.Rows.{meaning_of_row}
@@ -17,7 +18,13 @@ use Rattle.rescue_safety.proofs.SafeLemmas.{any_stop_is_safe}
 
 -- a table of the options, whatever it holds its texts in
 row_with : Meaning → Row
-row_with m = record { short = m.0; long = record { now = m.1; ref_ptr = (0, 0) }; takes = m.2 }
+row_with m = record {
+  short = m.0;
+  long = record { now = m.1; ref_ptr = (0, 0) };
+  takes = m.2;
+  wants = Nothing;
+  help = record { now = []; ref_ptr = (0, 0) };
+}
 
 rows_mean : (ms : List Meaning) → map meaning_of_row (map row_with ms) ≡ ms
 unfolding row_with

@@ -13,7 +13,7 @@ use Rattle.rescue_rules.proofs.GoesLemmas.{Course, Way, AnyMap, OneMap, way}
 use Rattle.rescue_rules.proofs.ReadyLemmas.{order_over}
 use Rattle.option_words.specs.Words.{command_line}
 use Rattle.ddrescue_words.specs.Command.{Command, Rescue as ForRescue}
-use Rattle.work_rules.specs.Work.{Works}
+use Rattle.program_promise.specs.Work.{Works}
 use Rattle.task_files.specs.Maps.{found_in}
 use Rattle.task_files.specs.Names.{program_name}
 use Rattle.task_files.specs.Outside.{Outside}

@@ -11,7 +11,7 @@ use Rattle.faulty_source.specs.Journal.{Reading}
 use Rattle.crash_site.specs.Files.{File, bytes_of, draft_of}
 use Rattle.crash_site.specs.Calls.{Entry}
 use Rattle.crash_site.specs.Left.{IsLoose, Matches}
-use Rattle.save_resume.specs.MapNames.{names_of}
+use Rattle.save_resume.specs.MapNames.{names_of, names_in}
 use Rattle.save_resume.specs.Named.{map_mode, IsMapOf}
 use Rattle.rescue_domain.specs.Testing.{seen}
 use Rattle.rescue_rules.specs.Setting.{Setting, IsSensible, place}
@@ -21,7 +21,6 @@ use Rattle.rescue_rules.specs.Work.{Gain, Goes}
 use Rattle.rescue_rules.specs.Held.{Held}
 use Rattle.rescue_rules.specs.Stops.{Before, files_before, lost_before, has_barrier, CouldBefore, opened_output, CouldBeOutput, StopOf, LeftBy}
 use Rattle.rescue_rules.specs.StopsBy.{IsKept, KeepsOver, saves_of, RescueStopsBy}
-use Rattle.rescue_core.specs.RunState.{names_in}
 use Rattle.option_words.specs.Words.{command_line}
 use Rattle.ddrescue_words.specs.Command.{Command, Rescue as ForRescue}
 use Rattle.task_files.specs.Names.{program_name}

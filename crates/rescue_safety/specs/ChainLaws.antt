@@ -1,20 +1,22 @@
 -- What the headlines follow from, and wrong runs that break what is owed.
-use Rattle.std.specs.Prelude.{◌≡◌, ◌↔◌, ℕ, Bool, true, List, [], ◌∷◌, ◌++◌, take, Option}
+use Rattle.std.specs.Prelude.{◌≡◌, ◌↔◌, ℕ, Bool, true, List, [], ◌∷◌, ◌++◌, take, All, slice_get, Option, Some}
 use Rattle.block_list.specs.declared.status.Status.{Status}
 use Rattle.block_list.specs.declared.status.Status.TheVariants.{Finished}
 use Rattle.block_list.specs.Map.{Has}
 use Rattle.mapfile_text.specs.declared.state.MapState.{MapState}
 use Rattle.faulty_source.specs.Journal.{Reading}
 use Rattle.crash_site.specs.Files.{File}
+use Rattle.crash_site.specs.Calls.{Entry}
 use Rattle.crash_site.specs.Folder.{Folder}
 use Rattle.crash_site.specs.Left.{NothingLost}
 use Rattle.rescue_rules.specs.Given.{given}
 use Rattle.rescue_rules.specs.Start.{Stands}
-use Rattle.rescue_rules.specs.Stops.{Before, files_before, lost_before, has_barrier}
+use Rattle.rescue_rules.specs.Stops.{Before, files_before, lost_before, has_barrier, LeftBy}
 use Rattle.rescue_safety.specs.Saves.{CallsFinished}
 use Rattle.rescue_safety.specs.Safe.{Target}
 use Rattle.rescue_safety.specs.Owed.{last_given, pairs_of}
 use Rattle.rescue_safety.specs.OwedFiles.{IsOwedIn, IsOwedAt}
+use Rattle.rescue_safety.specs.Runs.{Link, NextBegins, all_give}
 use Rattle.rescue_safety.specs.MixedRuns.{MixedLink, IsRescue, IsMixedChain, all_given}
 use Rattle.rescue_safety.specs.Early.{IsTooEarly, IsRetried, IsUnwrittenMap}
 
@@ -40,6 +42,17 @@ GivenIsLast =
 abbrev pub FinishesAlike : Type 0
 FinishesAlike = (mapfile : Option File) (end : ℕ) (map : List Status) (state : Option MapState) (x : ℕ)
     → Stands mapfile end map state → CallsFinished mapfile x ↔ Has map Finished x
+
+-- If all runs of a chain had the same input, what they gave a position last is its byte.
+abbrev pub ChainIsTheInputs : Type 0
+ChainIsTheInputs = (t : Target) (input : List ℕ) (links : List (Link t)) (x byte : ℕ)
+    → All (λ l. l.rescue.did.call.told.before.source.bytes ≡ input) links → all_give links x ≡ Some byte
+    → slice_get input x ≡ Some byte
+
+-- What the next run of a chain finds, a stop may leave, even if the process was killed within a call.
+abbrev pub NextMayBeLeft : Type 0
+NextMayBeLeft = (outfile : List ℕ) (from next : Before) (calls : List Entry) (k : ℕ)
+    → NextBegins outfile from calls k next → LeftBy from calls k (files_before next)
 
 -- ---- wrong runs
 

@@ -11,7 +11,6 @@ use Rattle.mapfile_text.specs.declared.state.MapState.{MapState}
 use Rattle.faulty_source.specs.Journal.{Reading}
 use Rattle.crash_site.specs.Files.{File}
 use Rattle.crash_site.specs.Calls.{Entry}
-use Rattle.rescue_rules.specs.declared.tally.Tally.{Tally}
 use Rattle.rescue_rules.specs.Setting.{Setting, IsSensible}
 use Rattle.rescue_rules.specs.Start.{Stands}
 use Rattle.rescue_rules.specs.Machine.{Machine}
@@ -27,7 +26,7 @@ use Rattle.rescue_rules.specs.Work.{begins, events_in}
 use Rattle.rescue_rules.proofs.FinishLemmas.{run_steps}
 use Rattle.rescue_rules.proofs.MoveLemmas.{run_rest}
 use Rattle.rescue_rules.proofs.MoveStages.{due_first}
-use Rattle.rescue_rules.proofs.ReadyLemmas.{order_over, stays_ready}
+use Rattle.rescue_rules.proofs.ReadyLemmas.{order_over}
 use Rattle.rescue_rules.proofs.SnapshotLemmas.{one_of}
 use Rattle.rescue_safety.specs.Saves.{CallsFinished}
 use Rattle.rescue_safety.specs.Rescue.{Rescue}
@@ -35,11 +34,12 @@ use Rattle.rescue_safety.proofs.BegunLemmas.{own}
 use Rattle.rescue_safety.proofs.ClaimLemmas.{goes_ran, FinishesIt, some_or_none, never_some}
 use Rattle.rescue_safety.proofs.FinishedLemmas.{StandsAt, At, calls_finished}
 use Rattle.rescue_safety.proofs.SaveLemmas.{goes_made}
-use Rattle.rescue_safety.proofs.SafeLemmas.{p, s, g, b, on, ok, goes, over, calls_are, map_is, untested}
+use Rattle.rescue_safety.proofs.SafeLemmas.{p, s, g, b, on, ok, goes, over, calls_are, map_is, seen_alone}
 use Rattle.saved_laws.specs.Failed.{MarksTried, FailedOf}
 use Rattle.saved_laws.specs.Dues.{dues_by}
 use Rattle.saved_laws.specs.Laws.{ReturnedSavesKeep}
 use Rattle.saved_laws.proofs.BarrierFirst.{saved_past}
+use Rattle.saved_laws.proofs.DuesReturned.{due_here, ready_at, no_events}
 use Rattle.saved_laws.proofs.NothingLost.{all_finish, own_finishes}
 use Rattle.saved_laws.proofs.SavedLemmas.{unread_or_stands}
 use Rattle.saved_laws.proofs.TriedKept.{Tried, TriedIn, Vain, marks_tried, vain_tried, all_tried, head_failed}
@@ -54,27 +54,15 @@ module _ (s : Setting) (ok : IsSensible s) (x : ℕ) where
     Rest = (i : ℕ) (p : Snapshot) → slice_get (snapshots s (move_of s m e).after (old ++ more)) i ≡ Some p
         → dues_by (move_of s m e).after.tally.due_at old ≤ i → Goal p
 
-    due_here : (timely : Bool) → is_timely (ready s m) e ≡ timely → dues_by (ready s m).tally.due_at (e ∷ old)
-        ≡ (if timely then suc (dues_by (move_of s m e).after.tally.due_at old) else dues_by (move_of s m e).after.tally.due_at old)
-    due_here true is =
-        ap (λ (c : Bool). if c then suc (dues_by e.after old) else dues_by (ready s m).tally.due_at old) is
-        ∙ ap (λ (c : Bool). suc (dues_by (if c then e.after else (ready s m).tally.due_at) old)) (sym is)
-    due_here false is =
-        ap (λ (c : Bool). if c then suc (dues_by e.after old) else dues_by (ready s m).tally.due_at old) is
-        ∙ ap (λ (c : Bool). dues_by (if c then e.after else (ready s m).tally.due_at) old) (sym is)
-
-    ready_at : dues_by m.tally.due_at (e ∷ old) ≡ dues_by (ready s m).tally.due_at (e ∷ old)
-    ready_at = ap (λ (a : Tally). dues_by a.due_at (e ∷ old)) (sym (stays_ready s m).tally)
-
     at_least : dues_by (move_of s m e).after.tally.due_at old ≤ dues_by m.tally.due_at (e ∷ old)
     at_least =
         ⊎_elim
         (λ (on : is_timely (ready s m) e ≡ true).
         let le : dues_by (move_of s m e).after.tally.due_at old ≤ dues_by m.tally.due_at (e ∷ old)
-        = omega (arith, ready_at, due_here true on) in le)
+        = omega (arith, ready_at s m e old, due_here s m e old true on) in le)
         (λ (off : is_timely (ready s m) e ≡ false).
         let le : dues_by (move_of s m e).after.tally.due_at old ≤ dues_by m.tally.due_at (e ∷ old)
-        = omega (arith, ready_at, due_here false off) in le)
+        = omega (arith, ready_at s m e old, due_here s m e old false off) in le)
         (cases_Bool (is_timely (ready s m) e))
 
     one_more : is_due s (move_of s m e) ≡ true
@@ -82,7 +70,7 @@ module _ (s : Setting) (ok : IsSensible s) (x : ℕ) where
     one_more is =
         let both = (and_parts (s.has_mapfile && is_timely (ready s m) e) (is_none (limit_met s (move_of s m e).after)) is).0 in
         let timely : is_timely (ready s m) e ≡ true = (and_parts s.has_mapfile (is_timely (ready s m) e) both).1 in
-        omega (arith, ready_at, due_here true timely)
+        omega (arith, ready_at s m e old, due_here s m e old true timely)
 
     by_rest : Rest → (due : Bool) → is_due s (move_of s m e) ≡ due → (i : ℕ) (p : Snapshot)
         → slice_get ((if due then snapshot_of n ∷ [] else []) ++ snapshots s n (old ++ more)) i ≡ Some p
@@ -200,22 +188,15 @@ module _ (r : Rescue) (k : ℕ) (files : List ℕ → Option File) (old more : L
       → MarksTried (files (s r).names.map) x
   found_tried f (At began was there) = over_tried began was there f
 
--- without reads no read gave anything, nor failed
-no_events : (rs : List Reading) (times : List ℕ) → rs ≡ [] → (old more : List Event) → events_of rs times ≡ old ++ more
-    → old ≡ []
-no_events rs times none [] more is = refl
-no_events rs times none (e ∷ old) more is =
-    let no : [] ≡ e ∷ (old ++ more) = sym (ap (λ (l : List Reading). events_of l times) none) ∙ is in absurd (cc)
-
 pub returned_saves_keep : ReturnedSavesKeep
-returned_saves_keep r k files times old more x none tells readings le left is fewer =
+returned_saves_keep r reads k files times old more x seen tells readings le left is fewer =
     let sector : ℕ = r.command.options.sector in
     let same : times ≡ (g r).times
     = append_cancel_left r.did.call.told.before.clock.readings times (g r).times
     (sym readings ∙ (p r).agrees.agrees.times tells) in
     let at : events_in (g r) ≡ old ++ more
-    = ap (λ (rs : List Reading). events_of rs (g r).times) (untested r none)
-    ∙ ap (λ (ts : List ℕ). events_of r.did.reads ts) (sym same) ∙ is in
+    = ap (λ (rs : List Reading). events_of rs (g r).times) (sym (seen_alone r reads seen))
+    ∙ ap (λ (ts : List ℕ). events_of reads ts) (sym same) ∙ is in
     let le' : k ≤ length (g r).calls = subst (λ (l : List Entry). k ≤ length l) (calls_are r) le in
     let left' : LeftBy (b r) (g r).calls k files = subst (λ (l : List Entry). LeftBy (b r) l k files) (calls_are r) left in
     let fewer' : dues_by (began_at (g r).times) old < returned (take k (g r).calls)

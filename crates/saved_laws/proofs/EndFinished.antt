@@ -21,7 +21,7 @@ use Rattle.rescue_rules.specs.Work.{begins, events_in}
 use Rattle.rescue_rules.proofs.CutLemmas.{add}
 use Rattle.rescue_rules.proofs.MapfileLemmas.{end_is}
 use Rattle.option_words.specs.Words.{command_line}
-use Rattle.work_rules.specs.Work.{Works}
+use Rattle.program_promise.specs.Work.{Works}
 use Rattle.task_files.specs.Maps.{Found}
 use Rattle.task_files.specs.Names.{program_name}
 use Rattle.task_files.specs.Work.{Rescues, rescue_faults, rescue_rows}
@@ -29,14 +29,14 @@ use Rattle.ddrescue_cli.specs.ToldParts.{files_of, asked_of}
 use Rattle.rescue_safety.specs.Saves.{CallsFinished}
 use Rattle.rescue_safety.specs.Safe.{Run, by_then, gives}
 use Rattle.rescue_safety.specs.Holds.{HoldsGiven, StillHolds}
-use Rattle.rescue_safety.specs.AskedFor.{Untested}
+use Rattle.rescue_safety.specs.AskedFor.{AreSeen}
 use Rattle.rescue_safety.specs.Rescue.{Rescue, run_of}
 use Rattle.saved_laws.specs.Laws.{FinishedAtEnd}
 use Rattle.rescue_safety.proofs.BegunLemmas.{writes_in, count_both, begun, begun_step, own, is_kept, write_counted, save_unwritten}
 use Rattle.rescue_safety.proofs.ClaimLemmas.{never_some}
 use Rattle.saved_laws.proofs.EndedLemmas.{NoneFailed, EndedWork, ended_works}
-use Rattle.rescue_safety.proofs.SafeLemmas.{p, w, s, g, b, on, ok, calls_are, map_is, untested, none_is_read_again}
-use Rattle.rescue_safety.proofs.HoldsLemmas.{finished_is_held}
+use Rattle.rescue_safety.proofs.SafeLemmas.{p, w, s, g, b, on, ok, calls_are, map_is, safe_anywhere, seen_alone, none_is_read_again}
+use Rattle.rescue_safety.proofs.HoldsLemmas.{holds_finished}
 use Rattle.saved_laws.proofs.SavedLemmas.{began_or, found_finished, synced}
 
 module _ (s : Setting) (ok : IsSensible s) (x : ℕ) where
@@ -147,25 +147,25 @@ ended_of r never =
     ((p r).agrees.agrees.found r.did.call.site_tells) (p r).work)
 
 -- what is finished, and was given, is held
-given_held : (r : Rescue) (k : ℕ) (files : List ℕ → Option File) (x byte : ℕ) → r.command.test_map ≡ None
+given_held : (r : Rescue) (reads : List Reading) (k : ℕ) (files : List ℕ → Option File) (x byte : ℕ) → AreSeen r reads
     → k ≤ length r.did.call.calls → LeftBy (b r) r.did.call.calls k files
     → has_barrier (take k r.did.call.calls) ≡ true → CallsFinished (files r.mapfile) x
-    → gives (run_of r r.did.reads) x ≡ Some byte → HoldsGiven (run_of r r.did.reads) files x
-given_held r k files x byte none le left barrier fin gave =
-    let d : Run = run_of r r.did.reads in
+    → gives (run_of r reads) x ≡ Some byte → HoldsGiven (run_of r reads) files x
+given_held r reads k files x byte seen le left barrier fin gave =
+    let d : Run = run_of r reads in
     let same : gives (by_then d k) x ≡ gives d x
-    = none_is_read_again r r.did.reads k files x (Untested none refl) le left barrier fin in
+    = none_is_read_again r reads k files x seen le left barrier fin in
     ⊎_elim
     (λ (h : HoldsGiven (by_then d k) files x).
     record { byte = h.byte; given = sym same ∙ h.given; own = h.own; place = h.place; at = h.at; holds = h.holds })
     (λ (h : (gives (by_then d k) x ≡ None) × StillHolds d.target d.past files x).
     absurd (never_some byte (gives d x) (sym same ∙ h.0) gave))
-    ((finished_is_held r k files none le left).past_barrier barrier x fin)
+    ((holds_finished d k files (safe_anywhere r reads seen) le left).past_barrier barrier x fin)
 
 pub finished_at_end : FinishedAtEnd
-finished_at_end r files x byte none never left gave =
+finished_at_end r reads files x byte seen never left gave =
     let gave' : given (s r).sector (g r).reads x ≡ Some byte
-    = subst (λ (rs : List Reading). given r.command.options.sector rs x ≡ Some byte) (sym (untested r none)) gave in
+    = subst (λ (rs : List Reading). given r.command.options.sector rs x ≡ Some byte) (seen_alone r reads seen) gave in
     let found : List ℕ → Option File = files_of r.did.call.told in
     ⊎_elim
     (λ (unread : (g r).reads ≡ []).
@@ -176,7 +176,7 @@ finished_at_end r files x byte none never left gave =
     (ended_finished r work files x byte
     (subst (λ (l : List Entry). LeftBy (b r) l (length l) files) (calls_are r) left) gave') in (
       fin,
-      given_held r (length r.did.call.calls) files x byte none (omega arith) left
+      given_held r reads (length r.did.call.calls) files x byte seen (omega arith) left
           (subst (λ (l : List Entry). has_barrier (take (length l) l) ≡ true) (sym (calls_are r)) (ended_barrier r work)) fin gave,
     ))
     (ended_of r never)

@@ -31,7 +31,7 @@ use Rattle.ddrescue_cli.specs.ToldParts.{files_of}
 use Rattle.rescue_safety.specs.Rescue.{Rescue}
 use Rattle.rescue_safety.proofs.BegunLemmas.{count_both}
 use Rattle.rescue_safety.proofs.ClaimLemmas.{Ran, goes_ran}
-use Rattle.rescue_safety.proofs.SafeLemmas.{s, g, b, on, ok, goes, over, calls_are, map_is, untested}
+use Rattle.rescue_safety.proofs.SafeLemmas.{s, g, b, on, ok, goes, over, calls_are, map_is, seen_alone}
 use Rattle.rescue_safety.proofs.SettleLemmas.{settled, save_settled}
 use Rattle.saved_laws.specs.Failed.{MarksTried, FailedOf}
 use Rattle.saved_laws.specs.Laws.{TriedAtEnd}
@@ -149,9 +149,9 @@ module _ (r : Rescue) (work : EndedWork (s r) (files_of r.did.call.told) (g r)) 
       (omega (arith, kept.no_older, enough)) kept.is_save)
 
 pub tried_at_end : TriedAtEnd
-tried_at_end r files x none never left f =
+tried_at_end r reads files x seen never left f =
     let f' : FailedOf (s r).sector (g r).reads x
-    = subst (λ (rs : List Reading). FailedOf r.command.options.sector rs x) (sym (untested r none)) f in
+    = subst (λ (rs : List Reading). FailedOf r.command.options.sector rs x) (seen_alone r reads seen) f in
     ⊎_elim
     (λ (unread : (g r).reads ≡ []).
     absurd (none-some f'.read (subst (λ (rs : List Reading). slice_get rs f'.number ≡ Some f'.read) unread f'.is)))

@@ -18,9 +18,9 @@ use Rattle.rescue_rules.specs.RunCalls.{run_calls, end_calls}
 use Rattle.rescue_rules.specs.Stops.{is_settle}
 use Rattle.rescue_rules.specs.Work.{Gain, begins, events_in, mapfile_in, Ends, IsSaved as RunSaved, IsUnsaved, IsBroken}
 use Rattle.rescue_rules.proofs.GoesLemmas.{timed}
-use Rattle.work_rules.specs.Work.{Deeds, Faults, WorkStep, Take, Look, Open, Make, Read, Works, with_calls, with_opens}
-use Rattle.work_rules.proofs.AnswerLemmas.{Passed}
-use Rattle.work_rules.proofs.FrontLemmas.{made_both}
+use Rattle.program_promise.specs.Work.{Deeds, Faults, WorkStep, Take, Look, Open, Make, Read, Works, with_calls, with_opens}
+use Rattle.program_promise.proofs.AnswerLemmas.{Passed}
+use Rattle.program_promise.proofs.FrontLemmas.{made_both}
 use Rattle.task_files.specs.declared.ending.Ending.{Ending}
 use Rattle.task_files.specs.declared.ending.Ending.TheVariants.{SiteFault}
 use Rattle.task_files.specs.Asked.{Maps, setting_of}
@@ -65,12 +65,12 @@ NoneFailed e = (call : SiteCall) (earlier : Option Stop) → e ≡ SiteFault cal
 abbrev pub last_calls : Setting → Machine → List Event → List Entry
 last_calls s m es = map Returned (run_calls s m es ++ end_calls s m es)
 
-ends_saved : (s : Setting) (m : Machine) (events : List Event) (spare : ℕ) (calls : List Entry) (e : Ending) (end : RunEnd)
-    → NoneFailed e → e ≡ answer_of end → Ends s m events spare calls end → calls ≡ last_calls s m events
-ends_saved s m events spare calls e end none is (RunSaved stop ends same all) = all
-ends_saved s m events spare calls e end none is (IsUnsaved stop call ends same broke) =
+ends_saved : (s : Setting) (m : Machine) (events : List Event) (calls : List Entry) (e : Ending) (end : RunEnd)
+    → NoneFailed e → e ≡ answer_of end → Ends s m events calls end → calls ≡ last_calls s m events
+ends_saved s m events calls e end none is (RunSaved stop ends same all) = all
+ends_saved s m events calls e end none is (IsUnsaved stop call ends same broke) =
     absurd (none call stop (is ∙ ap answer_of same))
-ends_saved s m events spare calls e end none is (IsBroken before last call split spared same broke) =
+ends_saved s m events calls e end none is (IsBroken before last call split same broke) =
     absurd (none call None (is ∙ ap answer_of same))
 
 -- what a rescue did whose calls all returned
@@ -120,7 +120,7 @@ module _ (c : Command) (line : List ℕ) (end : ℕ) (maps : Maps) (files : List
   ended_run g front run grew settles d same (opens, (statuses, state, stands, inl unbegun)) =
       inl (sym (ap (λ (h : Gain). h.reads) same) ∙ unbegun.reads)
   ended_run g front run grew settles d same (opens, (statuses, state, stands, inr ran)) =
-      let ends = ends_saved s (begins s statuses state d.gain) (events_in d.gain) ran.runs.spare d.gain.calls e ran.end none
+      let ends = ends_saved s (begins s statuses state d.gain) (events_in d.gain) d.gain.calls e ran.end none
       ran.answer ran.runs.ends in
       inr (record {
         front = front;

@@ -52,7 +52,9 @@ use Rattle.rescue_rules.proofs.SnapshotLemmas.{one_of}
 use Rattle.rescue_rules.proofs.StatusLemmas.{has_marks, wanted_taken}
 use Rattle.rescue_rules.proofs.StepLemmas.{Taking, read_takes, with_kept, with_rest, pos_there, back_low, Apart, kept_apart, rest_apart, kept_finished, rest_marked, rest_stands, scraped_outside, tail_trims, trims_is}
 use Rattle.rescue_safety.specs.Safe.{reads_until}
-use Rattle.saved_laws.specs.Failed.{Says, Marks, FailedOf, FailedAt, may_have_read}
+use Rattle.rescue_safety.specs.Finishes.{Says}
+use Rattle.saved_laws.specs.Failed.{Marks, FailedOf, FailedAt, may_have_read}
+use Rattle.rescue_safety.specs.AskedFor.{AreSeen}
 use Rattle.rescue_safety.specs.Rescue.{Rescue, run_of}
 use Rattle.saved_laws.specs.Laws.{BadWasAsked, FailedWasAsked}
 use Rattle.rescue_safety.proofs.BegunLemmas.{writes_in, Past, cut_split, count_both, cut_published, save_published, write_counted, write_unpublished, save_unwritten}
@@ -61,7 +63,7 @@ use Rattle.rescue_safety.proofs.SaveLemmas.{Made, calls_of_run, goes_made}
 use Rattle.rescue_safety.proofs.ThenLemmas.{front, front_still, parts, past_writes, past_published}
 use Rattle.rescue_safety.proofs.FinishedLemmas.{StandsAt, At}
 use Rattle.rescue_safety.proofs.QuietLemmas.{SavesNone, none_or_stands}
-use Rattle.rescue_safety.proofs.SafeLemmas.{s, g, b, on, ok, goes, over, calls_are, map_is, untested}
+use Rattle.rescue_safety.proofs.SafeLemmas.{s, g, b, on, ok, goes, over, calls_are, map_is, seen_alone}
 
 -- ---- what a mapfile calls a position that was tried
 
@@ -513,12 +515,12 @@ module _ (U : Status → Type 0) (V : ℕ → Reading → Type 0) (are : AreFail
 
 -- by the names and the reads of the law
 source_of : (U : Status → Type 0) (V : ℕ → Reading → Type 0) → AreFailures U V → (r : Rescue) (k : ℕ)
-    (files : List ℕ → Option File) (u : Status) (x : ℕ)
-    → r.command.test_map ≡ None → k ≤ length r.did.call.calls → LeftBy (run_of r r.did.reads).past r.did.call.calls k files
+    (files : List ℕ → Option File) (u : Status) (x : ℕ) (reads : List Reading)
+    → AreSeen r reads → k ≤ length r.did.call.calls → LeftBy (run_of r reads).past r.did.call.calls k files
     → has_barrier (take k r.did.call.calls) ≡ true → U u → Marks (files r.mapfile) u x
-    → ((was : Status) × U was × Marks (files_before (run_of r r.did.reads).past r.mapfile) was x)
-    ⊎ ((f : FailedAt (may_have_read (run_of r r.did.reads) k) x) × V r.command.options.sector f.read)
-source_of U V are r k files u x none le left barrier so calls =
+    → ((was : Status) × U was × Marks (files_before (run_of r reads).past r.mapfile) was x)
+    ⊎ ((f : FailedAt (may_have_read (run_of r reads) k) x) × V r.command.options.sector f.read)
+source_of U V are r k files u x reads seen le left barrier so calls =
     let sector : ℕ = r.command.options.sector in
     let Of : List Reading → Type 0 = λ rs. (f : FailedOf sector rs x) × V sector f.read in
     let found = found_source U V are r k files u x
@@ -531,7 +533,7 @@ source_of U V are r k files u x none le left barrier so calls =
     inl (f.0, f.1, subst (λ (m : List ℕ). Marks (files_before (b r) m) f.0 x) (map_is r) f.2))
     (λ (f : Asked U V are (s r) (ok r) x (reads_until (s r).sector (suc (writes_in (take (k + 1) (g r).calls))) (g r).reads)).
     inr (subst (λ (rs : List Reading). Of (reads_until sector (suc (writes_in (take (k + 1) r.did.call.calls))) rs))
-    (untested r none)
+    (sym (seen_alone r reads seen))
     (subst (λ (l : List Entry). Of (reads_until sector (suc (writes_in (take (k + 1) l))) (g r).reads))
     (sym (calls_are r)) f)))
     found
@@ -646,17 +648,17 @@ all_fail = record {
 }
 
 pub bad_was_asked : BadWasAsked
-bad_was_asked r k files x none le left barrier calls =
+bad_was_asked r reads k files x seen le left barrier calls =
     let sector : ℕ = r.command.options.sector in
     ⊎_elim
-    (λ (f : (was : Status) × (was ≡ BadSector) × Marks (files_before (run_of r r.did.reads).past r.mapfile) was x).
-    inl (subst (λ (u : Status). Marks (files_before (run_of r r.did.reads).past r.mapfile) u x) f.1 f.2))
-    (λ (f : (f : FailedAt (may_have_read (run_of r r.did.reads) k) x) × (f.read.asked ≤ kept sector f.read + sector)). inr f)
-    (source_of IsBad OneSector bad_fail r k files BadSector x none le left barrier refl calls)
+    (λ (f : (was : Status) × (was ≡ BadSector) × Marks (files_before (run_of r reads).past r.mapfile) was x).
+    inl (subst (λ (u : Status). Marks (files_before (run_of r reads).past r.mapfile) u x) f.1 f.2))
+    (λ (f : (f : FailedAt (may_have_read (run_of r reads) k) x) × (f.read.asked ≤ kept sector f.read + sector)). inr f)
+    (source_of IsBad OneSector bad_fail r k files BadSector x reads seen le left barrier refl calls)
 
 pub failed_was_asked : FailedWasAsked
-failed_was_asked r k files status x none le left barrier failed calls =
+failed_was_asked r reads k files status x seen le left barrier failed calls =
     ⊎_elim
-    (λ (f : (was : Status) × (has_failed was ≡ true) × Marks (files_before (run_of r r.did.reads).past r.mapfile) was x). inl f)
-    (λ (f : (f : FailedAt (may_have_read (run_of r r.did.reads) k) x) × Any r.command.options.sector f.read). inr f.0)
-    (source_of HasFailed Any all_fail r k files status x none le left barrier failed calls)
+    (λ (f : (was : Status) × (has_failed was ≡ true) × Marks (files_before (run_of r reads).past r.mapfile) was x). inl f)
+    (λ (f : (f : FailedAt (may_have_read (run_of r reads) k) x) × Any r.command.options.sector f.read). inr f.0)
+    (source_of HasFailed Any all_fail r k files status x reads seen le left barrier failed calls)

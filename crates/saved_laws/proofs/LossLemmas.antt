@@ -1,44 +1,36 @@
--- What was read before half a minute went by is finished.
-use Rattle.std.proofs.Common.{◌≡◌, inl, inr, ⊎_elim, ℕ, zero, suc, ◌+◌, ◌<◌, ◌≤◌, Bool, true, false, ◌&&◌, if◌then◌else◌, nat_eq, nat_le, List, [], ◌∷◌, ◌++◌, length, take, drop, map, All, Option, Some, None, is_none, not, refl, sym, ap, ◌∙◌, subst, arith, append_assoc}
-use Rattle.std.specs.List.{flat_map, slice_get}
-use Rattle.std.proofs.lemmas.Bool.{cases_Bool, cond_both, le-leb, and_from, cond-false}
+-- What is due in the first moves of a run, and which of their calls have returned.
+use Rattle.std.proofs.Common.{◌≡◌, inl, inr, ⊎_elim, ℕ, zero, suc, ◌+◌, ◌<◌, ◌≤◌, Bool, true, false, ◌&&◌, if◌then◌else◌, nat_eq, List, [], ◌∷◌, ◌++◌, length, take, drop, map, All, Option, Some, None, is_none, not, refl, sym, ap, ◌∙◌, subst, arith, append_assoc}
+use Rattle.std.specs.List.{flat_map}
+use Rattle.std.proofs.lemmas.Bool.{cond_both, and_from}
 use Rattle.std.proofs.lemmas.List.{map-append}
 use Rattle.std.proofs.lemmas.List.Elements.{All-nil, All-head, All-tail}
 use Rattle.faulty_source.specs.Journal.{Reading, kept}
 use Rattle.crash_site.specs.Calls.{Call, image_open, image_read, image_write, Entry, Done, Failed}
 use Rattle.crash_site.specs.CallsMade.{unanswered}
-use Rattle.rescue_rules.specs.declared.tally.Tally.{Tally}
 use Rattle.rescue_rules.specs.declared.stop.Limit.{Limit}
 use Rattle.rescue_rules.specs.Setting.{Setting, IsSensible, place}
 use Rattle.rescue_rules.specs.Passes.{Pass}
 use Rattle.rescue_rules.specs.Machine.{Machine, has_request}
-use Rattle.rescue_rules.specs.MachineLaws.{IsInOrder}
-use Rattle.rescue_rules.specs.Step.{Event, save_interval, is_timely, limit_met}
+use Rattle.rescue_rules.specs.Step.{Event, is_timely, limit_met}
 use Rattle.rescue_rules.specs.Moves.{begun as begun_pass, at_next, ready, move_of, IsRun}
 use Rattle.rescue_rules.specs.Events.{reads_of}
-use Rattle.rescue_rules.specs.Given.{given, last_of_both}
 use Rattle.rescue_rules.specs.Deeds.{deed_calls, save_of}
 use Rattle.rescue_rules.specs.RunDeeds.{run_deeds}
 use Rattle.rescue_rules.specs.RunCalls.{write_calls}
-use Rattle.rescue_rules.specs.Snapshots.{Snapshot, text_of, snapshot_of, is_due, snapshots}
+use Rattle.rescue_rules.specs.Snapshots.{Snapshot, text_of, snapshot_of, is_due}
 use Rattle.rescue_rules.specs.Stops.{is_settle, is_write}
 use Rattle.rescue_rules.proofs.CutLemmas.{Cut, IsOf, add}
 use Rattle.rescue_rules.proofs.DeedStages.{last_calls, all_calls}
-use Rattle.rescue_rules.proofs.FinishLemmas.{run_steps}
 use Rattle.rescue_rules.proofs.MoveLemmas.{run_first, run_rest}
-use Rattle.rescue_rules.proofs.MoveStages.{due_first}
-use Rattle.rescue_rules.proofs.ReadyLemmas.{stays_ready}
-use Rattle.rescue_rules.proofs.SnapshotLemmas.{one_of}
 use Rattle.rescue_safety.specs.Safe.{reads_until}
-use Rattle.rescue_safety.proofs.BegunLemmas.{writes_in, Past, cut_split, count_both, count_step, is_kept, write_counted, save_unwritten, own}
-use Rattle.rescue_safety.proofs.ClaimLemmas.{FinishesIt, some_or_none, never_some}
-use Rattle.saved_laws.proofs.NothingLost.{save_dry, all_finish, own_finishes, write_unsettled}
+use Rattle.rescue_safety.proofs.BegunLemmas.{writes_in, Past, cut_split, count_both, count_step, is_kept, write_counted, save_unwritten}
+use Rattle.saved_laws.proofs.NothingLost.{save_dry, write_unsettled}
 use Rattle.rescue_safety.proofs.SettleLemmas.{settled, save_settled}
 use Rattle.rescue_safety.proofs.ThenLemmas.{IsDry}
 
 -- ---- parts of calls that write nothing
 
-failed_alike : (c : Call) (steps : ℕ) → is_write (Failed c steps) ≡ is_write (Done c)
+pub failed_alike : (c : Call) (steps : ℕ) → is_write (Failed c steps) ≡ is_write (Done c)
 failed_alike (image_open name make) steps = refl
 failed_alike (image_read pos asked answer) steps = refl
 failed_alike (image_write pos piece) steps = refl
@@ -179,18 +171,10 @@ module _ (s : Setting) (ok : IsSensible s) (on : s.has_mapfile ≡ true) (x : �
             (take (kept s.sector e.reading) e.reading.given),
       )
 
-  save_settles : (due : Bool) (p : Snapshot) → due ≡ true
+  pub save_settles : (due : Bool) (p : Snapshot) → due ≡ true
       → 1 ≤ settled (map Done (save_of s (if due then Some p else None)))
   save_settles true p is = save_settled s.names (text_of s.line p)
   save_settles false p is = absurd (cc)
-
-  -- the moment of the last due save is one of an event's, or stands
-  pub due_moment : (m : Machine) (e : Event) (t : ℕ) → m.tally.due_at + save_interval ≤ t → e.after + save_interval ≤ t
-      → (move_of s m e).after.tally.due_at + save_interval ≤ t
-  due_moment m e t old here =
-      let was : (ready s m).tally.due_at ≡ m.tally.due_at = ap (λ (a : Tally). a.due_at) (stays_ready s m).tally in
-      cond_both (nat_le ((ready s m).tally.due_at + save_interval) e.after) e.after (ready s m).tally.due_at
-      (λ (n : ℕ). n + save_interval ≤ t) (λ is. here) (λ off. omega (arith, was, old))
 
   -- a read after which the run went on met no limit
   none_met : (m : Machine) (e f : Event) (es : List Event) → IsRun s m (e ∷ f ∷ es) → limit_met s (move_of s m e).after ≡ None
@@ -206,125 +190,10 @@ module _ (s : Setting) (ok : IsSensible s) (on : s.has_mapfile ≡ true) (x : �
       (and_from s.has_mapfile (is_timely (ready s m) e) on timely)
       (ap (λ (o : Option Limit). is_none o) (none_met m e f es run))
 
-  ready_moment : (m : Machine) → (ready s m).tally.due_at ≡ m.tally.due_at
-  ready_moment m = ap (λ (a : Tally). a.due_at) (stays_ready s m).tally
-
-  late_timely : (m : Machine) (late : Event) → m.tally.due_at + save_interval ≤ late.after → is_timely (ready s m) late ≡ true
-  late_timely m late low =
-      le-leb ((ready s m).tally.due_at + save_interval) late.after (omega (arith, ready_moment m, low))
-
-  -- the moment stands where no save is due
-  same_moment : (m : Machine) (e : Event) → is_timely (ready s m) e ≡ false
-      → (move_of s m e).after.tally.due_at ≡ m.tally.due_at
-  same_moment m e off =
-      cond-false (is_timely (ready s m) e) e.after (ready s m).tally.due_at off ∙ ready_moment m
-
-  due_before : (m : Machine) (e : Event) (mid : List Event) (late : Event) (rest : List Event)
+  pub due_before : (m : Machine) (e : Event) (mid : List Event) (late : Event) (rest : List Event)
       → IsRun s m (e ∷ (mid ++ late ∷ rest)) → is_timely (ready s m) e ≡ true → is_due s (move_of s m e) ≡ true
   due_before m e [] late rest run timely = timely_due m e late rest run timely
   due_before m e (f ∷ mid) late rest run timely = timely_due m e f (mid ++ late ∷ rest) run timely
-
-  -- one is due between a moment and a read that comes late enough after it
-  due_by : (m : Machine) (mid : List Event) (late later : Event) (rest : List Event)
-      → IsRun s m (mid ++ late ∷ later ∷ rest) → m.tally.due_at + save_interval ≤ late.after
-      → 1 ≤ due_settles m (mid ++ late ∷ [])
-  due_by m [] late later rest run low =
-      omega (
-        arith,
-        settles_more m late [],
-        save_settles (is_due s (move_of s m late)) (snapshot_of (move_of s m late).after)
-            (timely_due m late later rest run (late_timely m late low)),
-      )
-  due_by m (e ∷ mid) late later rest run low =
-      let es : List Event = mid ++ late ∷ later ∷ rest in
-      ⊎_elim
-      (λ (timely : is_timely (ready s m) e ≡ true).
-      let le : 1 ≤ due_settles m (e ∷ (mid ++ late ∷ [])) = omega (
-        arith,
-        settles_more m e (mid ++ late ∷ []),
-        save_settles (is_due s (move_of s m e)) (snapshot_of (move_of s m e).after)
-            (due_before m e mid late (later ∷ rest) run timely),
-      ) in le)
-      (λ (off : is_timely (ready s m) e ≡ false).
-      let le : 1 ≤ due_settles m (e ∷ (mid ++ late ∷ [])) = omega (
-        arith,
-        settles_more m e (mid ++ late ∷ []),
-        due_by (move_of s m e).after mid late later rest (run_rest s m e es run)
-            (omega (arith, same_moment m e off, low)),
-      ) in le)
-      (cases_Bool (is_timely (ready s m) e))
-
-  -- so one was due after the old reads
-  pub some_due : (m : Machine) (old mid : List Event) (late later : Event) (rest : List Event)
-      → IsRun s m (old ++ (mid ++ late ∷ later ∷ rest)) → m.tally.due_at + save_interval ≤ late.after
-      → All (λ (e : Event). e.after + save_interval ≤ late.after) old → 1 ≤ due_settles m (old ++ (mid ++ late ∷ []))
-  some_due m [] mid late later rest run low each = due_by m mid late later rest run low
-  some_due m (e ∷ old) mid late later rest run low each =
-      let P : Event → Type 0 = λ (e : Event). e.after + save_interval ≤ late.after in
-      omega (
-        arith,
-        settles_more m e (old ++ (mid ++ late ∷ [])),
-        some_due (move_of s m e).after old mid late later rest
-            (run_rest s m e (old ++ (mid ++ late ∷ later ∷ rest)) run)
-            (due_moment m e late.after low (All-head P e old each)) (All-tail P e old each),
-      )
-
-  -- and each save from the last of these on finishes what the old reads gave
-  abbrev Wanted : Machine → List Event → List Event → Event → Event → List Event → Type 0
-  Wanted m old mid late later rest =
-      (i : ℕ) (p : Snapshot) (byte : ℕ) → given s.sector (reads_of old) x ≡ Some byte
-      → slice_get (snapshots s m (old ++ (mid ++ late ∷ later ∷ rest))) i ≡ Some p
-      → due_settles m (old ++ (mid ++ late ∷ [])) ≤ 1 + i → FinishesIt x p
-
-  -- so is a save of a move and those after it
-  pub by_later : (m : Machine) (e : Event) (old mid : List Event) (late later : Event) (rest : List Event)
-      (Goal : Snapshot → Type 0)
-      → ((i : ℕ) (p : Snapshot)
-      → slice_get (snapshots s (move_of s m e).after (old ++ (mid ++ late ∷ later ∷ rest))) i ≡ Some p
-      → due_settles (move_of s m e).after (old ++ (mid ++ late ∷ [])) ≤ 1 + i → Goal p)
-      → 1 ≤ due_settles (move_of s m e).after (old ++ (mid ++ late ∷ []))
-      → (due : Bool) → (i : ℕ) (p : Snapshot)
-      → slice_get ((if due then snapshot_of (move_of s m e).after ∷ [] else [])
-      ++ snapshots s (move_of s m e).after (old ++ (mid ++ late ∷ later ∷ rest))) i ≡ Some p
-      → settled (map Done (save_of s (if due then Some (snapshot_of (move_of s m e).after) else None)))
-      + due_settles (move_of s m e).after (old ++ (mid ++ late ∷ [])) ≤ 1 + i → Goal p
-  by_later m e old mid late later rest Goal ih some false i p at few = ih i p at (omega (arith, few))
-  by_later m e old mid late later rest Goal ih some true zero p at few =
-      absurd (let no : ⊥ = omega (
-        arith,
-        few,
-        some,
-        save_settled s.names (text_of s.line (snapshot_of (move_of s m e).after)),
-      ) in no)
-  by_later m e old mid late later rest Goal ih some true (suc i) p at few =
-      ih i p at (omega (arith, few, save_settled s.names (text_of s.line (snapshot_of (move_of s m e).after))))
-
-  pub old_finished : (m : Machine) (old mid : List Event) (late later : Event) (rest : List Event) (last : Snapshot)
-      → IsInOrder s m → IsRun s m (old ++ (mid ++ late ∷ later ∷ rest)) → m.tally.due_at + save_interval ≤ late.after
-      → All (λ (e : Event). e.after + save_interval ≤ late.after) old → Wanted m old mid late later rest
-  old_finished m [] mid late later rest last order run low each i p byte gave at few =
-      absurd (never_some byte None refl gave)
-  old_finished m (e ∷ old) mid late later rest last order run low each i p byte gave at few =
-      let P : Event → Type 0 = λ (e : Event). e.after + save_interval ≤ late.after in
-      let n : Machine = (move_of s m e).after in
-      let es : List Event = old ++ (mid ++ late ∷ later ∷ rest) in
-      let run' : IsRun s n es = run_rest s m e es run in
-      let low' : n.tally.due_at + save_interval ≤ late.after = due_moment m e late.after low (All-head P e old each) in
-      let each' : All P old = All-tail P e old each in
-      ⊎_elim
-      (λ (some : (v : ℕ) × (given s.sector (reads_of old) x ≡ Some v)).
-      by_later m e old mid late later rest (FinishesIt x)
-      (λ j q there less. old_finished n old mid late later rest last (run_steps s ok m e es order run).order run' low' each'
-      j q some.0 some.1 there less)
-      (some_due n old mid late later rest run' low' each') (is_due s (move_of s m e)) i p
-      (subst (λ (l : List Snapshot). slice_get l i ≡ Some p) (due_first s m e es (is_due s (move_of s m e)) refl) at)
-      (omega (arith, few, settles_more m e (old ++ (mid ++ late ∷ [])))))
-      (λ (none : given s.sector (reads_of old) x ≡ None).
-      one_of (FinishesIt x) (snapshots s m (e ∷ es)) i p
-      (all_finish s ok x m e es last order run
-      (own_finishes s ok x m e es last order run byte
-      (sym (ap (λ (o : Option ℕ). last_of_both o (own s.sector x e.reading)) none) ∙ gave))) at)
-      (some_or_none (given s.sector (reads_of old) x))
 
   -- ---- by the calls
 

@@ -15,7 +15,7 @@ use Rattle.rescue_rules.proofs.ReadyLemmas.{order_over}
 use Rattle.rescue_safety.specs.Saves.{CallsFinished}
 use Rattle.rescue_safety.specs.Safe.{reads_until, by_then, gives}
 use Rattle.rescue_safety.specs.Rescue.{Rescue, run_of}
-use Rattle.rescue_safety.specs.AskedFor.{AreSeen, Untested}
+use Rattle.rescue_safety.specs.AskedFor.{AreSeen}
 use Rattle.saved_laws.specs.Laws.{NothingSavedIsLost}
 use Rattle.rescue_safety.proofs.BegunLemmas.{writes_in, begun, count_both, count_step}
 use Rattle.rescue_safety.proofs.ClaimLemmas.{Ran, goes_ran, never_some}
@@ -125,5 +125,4 @@ saved_is_found r reads k files before saving after name x byte seen le left is g
     (began_or r k files before saving after name x byte le' left' is' then))
 
 pub nothing_saved_is_lost : NothingSavedIsLost
-nothing_saved_is_lost r k files before saving after name x byte none le left is gave =
-    saved_is_found r r.did.reads k files before saving after name x byte (Untested none refl) le left is gave
+nothing_saved_is_lost = saved_is_found

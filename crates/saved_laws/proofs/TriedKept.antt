@@ -35,16 +35,17 @@ use Rattle.rescue_rules.proofs.ReadyLemmas.{order_ready, order_over, stays_ready
 use Rattle.rescue_rules.proofs.SnapshotLemmas.{one_of}
 use Rattle.rescue_rules.proofs.StatusLemmas.{rest_is, non_tried_stood}
 use Rattle.rescue_rules.proofs.StepLemmas.{Taking, read_takes, rest_marked}
-use Rattle.rescue_safety.specs.Safe.{reads_until}
-use Rattle.saved_laws.specs.Failed.{MarksTried, FailedOf}
-use Rattle.rescue_safety.specs.Rescue.{Rescue}
+use Rattle.rescue_safety.specs.Safe.{reads_until, by_then}
+use Rattle.saved_laws.specs.Failed.{MarksTried, FailedOf, FailedAt}
+use Rattle.rescue_safety.specs.Rescue.{Rescue, run_of}
+use Rattle.rescue_safety.specs.AskedFor.{AreSeen}
 use Rattle.saved_laws.specs.Laws.{FailedIsKept}
 use Rattle.rescue_safety.proofs.BegunLemmas.{writes_in, Past, cut_split, count_both, count_step, write_counted, save_unwritten}
 use Rattle.rescue_safety.proofs.ClaimLemmas.{Ran, goes_ran}
 use Rattle.saved_laws.proofs.FailedLemmas.{calls_by}
 use Rattle.rescue_safety.proofs.FinishedLemmas.{StandsAt, At}
 use Rattle.saved_laws.proofs.NothingLost.{Within, Beyond, split_point, dry_front, save_dry, no_sync, write_unsettled, first_settled, front_writes}
-use Rattle.rescue_safety.proofs.SafeLemmas.{s, g, b, on, ok, goes, over, calls_are, map_is, untested}
+use Rattle.rescue_safety.proofs.SafeLemmas.{s, g, b, on, ok, goes, over, calls_are, map_is, seen_alone}
 use Rattle.rescue_safety.proofs.SaveLemmas.{Made, calls_of_run, goes_made}
 use Rattle.saved_laws.proofs.SavedLemmas.{then_writes, synced, unread_or_stands}
 use Rattle.rescue_safety.proofs.SettleLemmas.{settled, save_settled}
@@ -378,8 +379,13 @@ module _ (r : Rescue) (k : ℕ) (files : List ℕ → Option File) (before savin
       (λ (at : StandsAt (files_before (b r) (s r).names.map) (s r).end). at)
       (unread_or_stands (s r) (files_before (b r)) (g r) (on r) (goes r))
 
-pub failed_is_kept : FailedIsKept
-failed_is_kept r k files before saving after name x none le left is f =
+-- by the reads as seen
+pub failed_is_found : (r : Rescue) (reads : List Reading) (k : ℕ) (files : List ℕ → Option File)
+    (before saving after : List Entry) (name : List ℕ) (x : ℕ) → AreSeen r reads
+    → k ≤ length r.did.call.calls → LeftBy (run_of r reads).past r.did.call.calls k files
+    → take k r.did.call.calls ≡ before ++ Done image_sync ∷ (saving ++ Done (map_settle name) ∷ after)
+    → FailedAt (by_then (run_of r reads) (length before)) x → MarksTried (files r.mapfile) x
+failed_is_found r reads k files before saving after name x seen le left is f =
     let more : List Entry = saving ++ Done (map_settle name) ∷ after in
     let sector : ℕ = r.command.options.sector in
     let le' : k ≤ length (g r).calls = subst (λ (l : List Entry). k ≤ length l) (calls_are r) le in
@@ -389,8 +395,11 @@ failed_is_kept r k files before saving after name x none le left is f =
     let count : writes_in (take (length before + 1) r.did.call.calls) ≡ writes_in before
     = then_writes k before more r.did.call.calls is in
     let f' : FailedOf sector (reads_until sector (writes_in before) (g r).reads) x
-    = subst (λ (rs : List Reading). FailedOf sector (reads_until sector (writes_in before) rs) x) (sym (untested r none))
-    (subst (λ (n : ℕ). FailedOf sector (reads_until sector n r.did.reads) x) count f) in
+    = subst (λ (rs : List Reading). FailedOf sector (reads_until sector (writes_in before) rs) x) (seen_alone r reads seen)
+    (subst (λ (n : ℕ). FailedOf sector (reads_until sector n reads) x) count f) in
     subst (λ (m : List ℕ). MarksTried (files m) x) (map_is r)
     (found_tried r k files before saving after name x le' left' is' f'
     (began_tried r k files before saving after name x le' left' is' f'))
+
+pub failed_is_kept : FailedIsKept
+failed_is_kept = failed_is_found

@@ -1,25 +1,13 @@
 -- How a mapfile marks a position, and the reads that asked for it in vain.
-use Rattle.std.specs.Prelude.{◌≡◌, ◌≢◌, ℕ, suc, ◌+◌, Bool, true, false, List, take, count_by, slice_get, Option, Some}
+use Rattle.std.specs.Prelude.{◌≡◌, ◌≢◌, ℕ, suc, ◌+◌, true, false, List, take, count_by, slice_get, Option, Some}
 use Rattle.block_list.specs.declared.status.Status.{Status}
 use Rattle.block_list.specs.declared.status.Status.TheVariants.{NonTried}
-use Rattle.block_list.specs.Map.{Has}
-use Rattle.mapfile_text.specs.declared.read.Mode.TheVariants.{Tight}
-use Rattle.mapfile_text.specs.declared.state.MapState.{MapState}
-use Rattle.mapfile_text.specs.MapText.{IsMapText}
 use Rattle.faulty_source.specs.Journal.{Reading, is_failed, covers}
 use Rattle.crash_site.specs.Files.{File}
 use Rattle.rescue_rules.specs.MachineLaws.{AsksFor}
 use Rattle.rescue_rules.specs.Stops.{is_write}
+use Rattle.rescue_safety.specs.Finishes.{Says}
 use Rattle.rescue_safety.specs.Safe.{Run, reads_until}
-
--- A text is a map in which the position x has this status.
-pub record Says (text : List ℕ) (status : Status) (x : ℕ) : Type 0 where
-  pub shown : MapState
-  pub first : ℕ
-  pub listed : Bool
-  pub statuses : List Status
-  pub reads : IsMapText text Tight shown first listed statuses
-  pub has : Has statuses status x
 
 -- A mapfile is there, and marks the position x with this status.
 pub record Marks (mapfile : Option File) (status : Status) (x : ℕ) : Type 0 where

@@ -1,6 +1,6 @@
 //! What the definitions mean.
-ghost use Rattle.saved_laws.specs.Examples.{SavesWhatIsOld};
-ghost use Rattle.saved_laws.specs.Laws.{BadWasAsked, ChainKeepsSaved, FailedIsKept, FailedWasAsked, FinishedAtEnd, LossIsBounded, NothingSavedIsLost, ReturnedSavesKeep, SavesOnlyGrow, TriedAtEnd, TriedIsKept};
+ghost use Rattle.saved_laws.specs.Examples.{SavesWhatIsOld, StopFindsWhatIsOld};
+ghost use Rattle.saved_laws.specs.Laws.{BadWasAsked, ChainKeepsFailed, ChainKeepsOld, ChainKeepsSaved, DueSavesHaveReturned, DueSavesReturn, FailedIsKept, FailedWasAsked, FinishedAtEnd, LossIsBounded, LossIsBoundedByDues, NothingSavedIsLost, ReadsWait, ReturnedSavesKeep, SavesOnlyGrow, TriedAtEnd, TriedIsKept};
 
 /// What reads gave whose bytes had begun to be written before a save that returned, every later stop finds finished.
 pub fn nothing_saved_is_lost()
@@ -58,7 +58,42 @@ pub fn a_chain_keeps_what_is_saved()
     ensures { ChainKeepsSaved }
 {}
 
+/// What one run of a chain asked for in vain before a save that returned, each stop after the chain finds tried.
+pub fn a_chain_keeps_what_failed()
+    ensures { ChainKeepsFailed }
+{}
+
+/// What the first mapfile of a chain calls finished or tried, each stop after the chain finds so.
+pub fn a_chain_keeps_what_is_old()
+    ensures { ChainKeepsOld }
+{}
+
+/// If a read follows the first ones, at least as many saves return as came due in these, whatever they kept.
+pub fn due_saves_return()
+    ensures { DueSavesReturn }
+{}
+
+/// Once a later read has begun to be written, at least as many saves have returned as came due in the first reads.
+pub fn due_saves_have_returned()
+    ensures { DueSavesHaveReturned }
+{}
+
+/// Once a save came due after them and a later read has begun to be written, every stop finds finished what reads gave.
+pub fn loss_is_bounded_by_dues()
+    ensures { LossIsBoundedByDues }
+{}
+
+/// A failed call is a rescue's last, and no read came before a write or a save that it was to wait for.
+pub fn reads_wait()
+    ensures { ReadsWait }
+{}
+
 /// A run whose clock goes on by 40 seconds saves what is older.
 pub fn it_saves_what_is_old()
     ensures { SavesWhatIsOld }
+{}
+
+/// A stop within the write after that save finds what it has, and nothing newer.
+pub fn a_stop_finds_what_is_old()
+    ensures { StopFindsWhatIsOld }
 {}
