@@ -2,6 +2,7 @@
 use Rattle.std.proofs.Common.{◌≡◌, ℕ, ◌+◌, ◌<◌, ◌≤◌, ◌^◌, true, false, IsTrue, List, [], ◌∷◌, ◌++◌, length, drop, All, None, refl, sym, ap, ◌∙◌, arith, subst, append-nil}
 use Rattle.std.specs.List.{slice_range}
 use Rattle.std.proofs.lemmas.List.Elements.{All-nil, All-cons, All-append}
+use Rattle.run_options.specs.Settings.{HasPlaces}
 use Rattle.faulty_source.specs.Journal.{Reading, IsFrom}
 use Rattle.faulty_source.specs.SourceState.{SourceState}
 use Rattle.faulty_source.specs.SourceChanges.{Stays as SourceStays, Reads}
@@ -13,6 +14,7 @@ use Rattle.save_resume.proofs.FillLemmas.{keeps_self, keeps_more}
 use Rattle.rescue_console.specs.ClockState.{ClockState, Reads as ReadsClock}
 use Rattle.rescue_console.specs.ConsoleState.{ConsoleState}
 use Rattle.rescue_console.specs.Speaking.{SpeaksOn, out_pieces}
+use Rattle.rescue_console.proofs.SpeakingLemmas.{says_none}
 use Rattle.transfer_token.specs.declared.token.Request.{Request}
 use Rattle.rescue_rules.specs.declared.phase.Phase.{Phase}
 use Rattle.rescue_rules.specs.declared.phase.Phase.TheVariants.{Copying}
@@ -31,11 +33,10 @@ use Rattle.rescue_rules.proofs.ReadyLemmas.{ready_here}
 use Rattle.rescue_rules.proofs.SearchLemmas.{request_seen}
 use Rattle.rescue_domain.specs.Parts.{covers}
 use Rattle.rescue_core.specs.declared.turn.Turn.{Turn}
-use Rattle.rescue_core.specs.Across.{Across, across, ObjectsStay}
-use Rattle.rescue_core.specs.RunState.{RunState, setting_in, passed, HasPlaces}
+use Rattle.rescue_rules.specs.Across.{Across, across, ObjectsStay}
+use Rattle.rescue_core.specs.RunState.{RunState, setting_in, passed}
 use Rattle.rescue_core.specs.Turning.{IsEvent, move_by, Turned, Halted, stepped, move_pieces}
 use Rattle.rescue_core.specs.Closing.{drafting_at_stop}
-use Rattle.rescue_core.proofs.TurnEndLemmas.{says_none}
 use Rattle.rescue_core.proofs.ObjectLemmas.{clock_self, clock_keeps, timed_more, makes_more, says_more}
 use Rattle.copy_passes.specs.Turns.{IsAlike, moved_to, Went, WentUpTo, WentByTurns}
 use Rattle.copy_passes.specs.Copying.{MayCopy}

@@ -1,28 +1,20 @@
 -- What the definitions mean.
-use Rattle.std.specs.Prelude.{◌≡◌, ℕ, Bool, true, false, List, ◌∷◌, length, slice_get, Option, Some}
+use Rattle.std.specs.Prelude.{◌≡◌, ℕ, Bool, false, List, ◌∷◌, length, Option}
 use Rattle.block_list.specs.declared.block.Range.{Range}
 use Rattle.block_list.specs.declared.status.Status.{Status}
 use Rattle.mapfile_text.specs.declared.state.MapState.{MapState}
 use Rattle.save_resume.specs.MapNames.{MapNames}
-use Rattle.rescue_rules.specs.Setting.{Setting, IsSensible}
+use Rattle.rescue_rules.specs.Setting.{Setting}
 use Rattle.rescue_rules.specs.Passes.{Pass}
 use Rattle.rescue_rules.specs.Machine.{Machine, has_request}
-use Rattle.rescue_rules.specs.MachineLaws.{IsInOrder, AsksFor}
-use Rattle.rescue_rules.specs.Step.{Event, is_copying}
-use Rattle.rescue_rules.specs.Moves.{Move, moves, state_after, begun, IsRun}
+use Rattle.rescue_rules.specs.Step.{Event}
+use Rattle.rescue_rules.specs.Moves.{moves, state_after, begun, IsRun}
 use Rattle.rescue_domain.specs.Parts.{covers}
-use Rattle.rescue_core.specs.declared.settings.Settings.{Settings}
-use Rattle.rescue_core.specs.RunState.{RunState, IsSound, Suits, started, run_showing}
+use Rattle.run_options.specs.declared.settings.Settings.{Settings}
+use Rattle.run_options.specs.Settings.{IsSound, Suits}
+use Rattle.rescue_core.specs.RunState.{RunState, started, run_showing}
 use Rattle.copy_passes.specs.Turns.{IsAlike}
 use Rattle.copy_passes.specs.Copying.{MayCopy}
-
--- A position is asked at most once in copying: two moves of copying that ask for it are one.
-abbrev pub CopyingAsksOnce : Type 0
-CopyingAsksOnce = (s : Setting) (m : Machine) (events : List Event) (i j x : ℕ) (v w : Move)
-    → IsSensible s → IsInOrder s m → IsRun s m events
-    → slice_get (moves s m events) i ≡ Some v → slice_get (moves s m events) j ≡ Some w
-    → is_copying v.before ≡ true → is_copying w.before ≡ true → AsksFor v.event.reading x → AsksFor w.event.reading x
-    → i ≡ j
 
 -- alike states have the same runs, by the same moves, which lead to alike states
 pub record GoesAlike (s : Setting) (m n : Machine) (events : List Event) : Type 0 where

@@ -1,6 +1,7 @@
 -- Whole turns of a run, by what the objects tell, and a turn that stopped after them.
 -- For contracts, laws and proofs: no promise uses it.
 use Rattle.std.specs.Prelude.{◌≡◌, ◌+◌, true, false, IsTrue, List, All, Result, IfOk, IfErr, OnOk, None}
+use Rattle.run_options.specs.Settings.{HasPlaces}
 use Rattle.faulty_source.specs.Journal.{IsFrom}
 use Rattle.faulty_source.specs.SourceState.{SourceState}
 use Rattle.faulty_source.specs.SourceChanges.{Stays as SourceStays, Reads}
@@ -20,8 +21,8 @@ use Rattle.rescue_rules.specs.Events.{reads_of, times_of}
 use Rattle.rescue_rules.specs.RunCalls.{run_calls}
 use Rattle.rescue_rules.specs.Lines.{run_lines}
 use Rattle.rescue_rules.specs.Laws.{AreTimes}
-use Rattle.rescue_core.specs.Across.{Across, ObjectsStay}
-use Rattle.rescue_core.specs.RunState.{RunState, setting_in, HasPlaces}
+use Rattle.rescue_rules.specs.Across.{Across, ObjectsStay}
+use Rattle.rescue_core.specs.RunState.{RunState, setting_in}
 use Rattle.rescue_core.specs.Turning.{Halted}
 use Rattle.rescue_core.specs.Closing.{StoppedState, drafting_at_stop}
 

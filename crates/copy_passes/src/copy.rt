@@ -1,10 +1,11 @@
 //! The copying of a rescue: its passes, each of which goes on until it has no request left.
 ghost use Rattle.std.specs.Prelude.{◌≡◌, true, false, IfOk, OnOk};
+ghost use Rattle.run_options.specs.Settings.{HasPlaces};
 ghost use Rattle.rescue_domain.specs.Parts.{covers};
 ghost use Rattle.rescue_rules.specs.Passes.{copying_passes};
 ghost use Rattle.rescue_rules.specs.Machine.{has_request};
-ghost use Rattle.rescue_core.specs.Across.{across};
-ghost use Rattle.rescue_core.specs.RunState.{setting_in, HasPlaces};
+ghost use Rattle.rescue_rules.specs.Across.{across};
+ghost use Rattle.rescue_core.specs.RunState.{setting_in};
 ghost use Rattle.copy_passes.specs.Turns.{TurnsEnd, PhaseEnds};
 ghost use Rattle.copy_passes.specs.Copying.{MayCopy};
 

@@ -1,10 +1,5 @@
 //! What the definitions mean.
-ghost use Rattle.copy_passes.specs.Laws.{AlikeGoAlike, CopyingAsksOnce, NextPassIsAlike, ShownMayCopy, StartMayCopy};
-
-/// A position is asked at most once in copying, whatever the run skips and in whichever direction its passes go.
-pub fn copying_asks_once()
-    ensures { CopyingAsksOnce }
-{}
+ghost use Rattle.copy_passes.specs.Laws.{AlikeGoAlike, NextPassIsAlike, ShownMayCopy, StartMayCopy};
 
 /// States that are alike have the same further runs, by the same moves.
 pub fn alike_go_alike()

@@ -12,7 +12,7 @@ use Rattle.rescue_rules.proofs.GoesLemmas.{broke_cut, front_cut}
 use Rattle.rescue_rules.proofs.MapfileLemmas.{opening_by}
 use Rattle.sweep_rules.specs.SweepOpens.{EndsEarly, InOpening, InLoad}
 use Rattle.sweep_rules.proofs.EndLemmas.{opening_is}
-use Rattle.work_rules.proofs.FrontLemmas.{IsMapRead, load_reads}
+use Rattle.program_promise.proofs.FrontLemmas.{IsMapRead, load_reads}
 
 pub record EarlyCut (s : Setting) (makes : Bool) (calls : List Entry) : Type 0 where
   pub load : List Call

@@ -27,7 +27,7 @@ use Rattle.ddrescue_words.specs.declared.options.Options.{Options}
 use Rattle.ddrescue_words.specs.Command.{Command}
 use Rattle.save_resume.specs.Named.{map_mode}
 use Rattle.task_files.specs.Refusals.{MapfileRefused, PlacesRefused}
-use Rattle.work_rules.specs.Work.{Deeds, WorkStep, Look, Read, Works, with_calls, with_opens}
+use Rattle.program_promise.specs.Work.{Deeds, WorkStep, Look, Read, Works, with_calls, with_opens}
 use Rattle.task_files.specs.Asked.{Maps, setting_asked, setting_of}
 use Rattle.task_files.specs.Maps.{found_in, mapfile_of}
 use Rattle.task_files.specs.Work.{Rescues, RunsOver, rescue_faults, map_rows, load_rows, opened_rows, worked_rows}
@@ -36,8 +36,8 @@ use Rattle.rescue_rules.proofs.MapfileLemmas.{settling_calls, opening_is}
 use Rattle.rescue_rules.proofs.CutLemmas.{Cut, cut_all}
 use Rattle.rescue_rules.proofs.GoesLemmas.{broke_cut}
 use Rattle.rescue_rules.proofs.MapReadLemmas.{cut_reads_by}
-use Rattle.work_rules.proofs.GainLemmas.{lost_after, broke_after}
-use Rattle.work_rules.proofs.FrontLemmas.{IsMapRead, load_reads, broke_in_both, made_both}
+use Rattle.program_promise.proofs.GainLemmas.{lost_after, broke_after}
+use Rattle.program_promise.proofs.FrontLemmas.{IsMapRead, load_reads, broke_in_both, made_both}
 
 -- what a command asks for with these names of a mapfile and its draft, if there is one
 abbrev pub setting_by : Command → Option MapNames → (line : List ℕ) → (end : ℕ) → Maps → Setting

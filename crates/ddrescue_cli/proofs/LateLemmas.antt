@@ -20,8 +20,8 @@ use Rattle.rescue_rules.specs.declared.stop.Stop.{Stop}
 use Rattle.rescue_rules.specs.declared.stop.Stop.TheVariants.{SourceLost as InputLost, Site, LimitMet as Limited, NoMemory as NoRoom}
 use Rattle.rescue_rules.specs.declared.stop.RunEnd.{RunEnd}
 use Rattle.rescue_rules.specs.Work.{EndsBy, Ends, IsSaved, IsUnsaved, IsBroken, end_of}
-use Rattle.work_rules.specs.Work.{Deeds}
-use Rattle.work_rules.proofs.GainLemmas.{broke_named}
+use Rattle.program_promise.specs.Work.{Deeds}
+use Rattle.program_promise.proofs.GainLemmas.{broke_named}
 use Rattle.task_files.specs.declared.ending.Ending.{Ending}
 use Rattle.task_files.specs.declared.ending.Ending.TheVariants.{SiteFault}
 use Rattle.task_files.specs.Work.{Rescues, answer_of}
@@ -88,21 +88,21 @@ call_late call earlier own = record {
   names = λ named later is. own_call named call (let same : named ≡ call = cc in same) own;
 }
 
-stop_late : (stop : Option Stop) (s : Setting) (m : Machine) (spare : ℕ) → EndsBy stop s m spare → IsLate (answer_of (end_of stop))
-stop_late None s m spare by = record { names = λ call earlier is. absurd (cc) }
-stop_late (Some InputLost) s m spare by = record { names = λ call earlier is. absurd (cc) }
-stop_late (Some (Site call)) s m spare by = absurd by
-stop_late (Some (Limited limit)) s m spare by = record { names = λ call earlier is. absurd (cc) }
-stop_late (Some NoRoom) s m spare by = record { names = λ call earlier is. absurd (cc) }
+stop_late : (stop : Option Stop) (s : Setting) (m : Machine) → EndsBy stop s m → IsLate (answer_of (end_of stop))
+stop_late None s m by = record { names = λ call earlier is. absurd (cc) }
+stop_late (Some InputLost) s m by = record { names = λ call earlier is. absurd (cc) }
+stop_late (Some (Site call)) s m by = absurd by
+stop_late (Some (Limited limit)) s m by = record { names = λ call earlier is. absurd (cc) }
+stop_late (Some NoRoom) s m by = record { names = λ call earlier is. absurd (cc) }
 
-ends_late : (s : Setting) (m : Machine) (es : List Event) (spare : ℕ) (calls : List Entry) (end : RunEnd)
-    → Ends s m es spare calls end → IsLate (answer_of end)
-ends_late s m es spare calls end (IsSaved stop by is all) =
-    subst (λ (v : RunEnd). IsLate (answer_of v)) (sym is) (stop_late stop s _ spare by)
-ends_late s m es spare calls end (IsUnsaved stop call by is broke) =
+ends_late : (s : Setting) (m : Machine) (es : List Event) (calls : List Entry) (end : RunEnd)
+    → Ends s m es calls end → IsLate (answer_of end)
+ends_late s m es calls end (IsSaved stop by is all) =
+    subst (λ (v : RunEnd). IsLate (answer_of v)) (sym is) (stop_late stop s _ by)
+ends_late s m es calls end (IsUnsaved stop call by is broke) =
     subst (λ (v : RunEnd). IsLate (answer_of v)) (sym is)
     (call_late call stop (closing_own call s.has_mapfile s.names _ (broke_named call _ _ calls broke)))
-ends_late s m es spare calls end (IsBroken before last call split none is broke) =
+ends_late s m es calls end (IsBroken before last call split is broke) =
     subst (λ (v : RunEnd). IsLate (answer_of v)) (sym is)
     (call_late call None
     (moves_own call s (move_of s (state_after s m before) last)
@@ -113,4 +113,4 @@ pub rescue_late : (s : Setting) (mapfile : Option File) (lines : List (List ℕ)
 rescue_late s mapfile lines e d (opens, (statuses, state, stands, inl unbegun)) =
     subst IsLate (sym unbegun.answer) (record { names = λ call earlier is. absurd (cc) })
 rescue_late s mapfile lines e d (opens, (statuses, state, stands, inr ran)) =
-    subst IsLate (sym ran.answer) (ends_late s _ _ ran.runs.spare d.gain.calls ran.end ran.runs.ends)
+    subst IsLate (sym ran.answer) (ends_late s _ _ d.gain.calls ran.end ran.runs.ends)

@@ -2,20 +2,18 @@
 use Rattle.std.proofs.Common.{◌≡◌, ◌⊎◌, ℕ, Bool, true, false, not, List, [], Some, refl, sym, ◌∙◌, inl, inr, subst, arith}
 use Rattle.faulty_source.proofs.Keeping.{keeps_self}
 use Rattle.option_words.specs.declared.fault.UsageFault.{UsageFault}
-use Rattle.option_words.specs.declared.fault.UsageFault.TheVariants.{PlaceTooLarge}
 use Rattle.rescue_console.specs.ConsoleState.{ConsoleState}
 use Rattle.rescue_console.specs.Speaking.{SpeaksOn, out_pieces}
-use Rattle.work_rules.specs.Work.{Works}
-use Rattle.work_rules.specs.Parts.{only_calls}
+use Rattle.program_promise.specs.Work.{Works}
+use Rattle.program_promise.specs.Parts.{only_calls}
 use Rattle.ddrescue_words.specs.Command.{Command, Task, Sample}
-use Rattle.ddrescue_words.specs.Asking.{IsAsked, IsRefusal, is_quiet}
-use Rattle.program_promise.specs.Kinds.{Wrong}
-use Rattle.program_promise.specs.Rows.{usage_kind}
+use Rattle.ddrescue_words.specs.Asking.{IsAsked, IsRefusal, is_quiet, rescue_grammar}
 use Rattle.program_promise.specs.World.{WorldState, with_console}
 use Rattle.program_promise.specs.Program.{line_by}
 use Rattle.program_promise.specs.Promise.{Worked}
 use Rattle.program_promise.specs.WellMade.{IsWellMade}
 use Rattle.program_promise.specs.Causes.{Changed, changes_of}
+use Rattle.program_promise.proofs.GrammarLemmas.{wrong_by}
 use Rattle.program_promise.proofs.PromiseLemmas.{still}
 use Rattle.program_promise.proofs.SpokenLemmas.{asked_says, none_says, refused_says, starved_says}
 use Rattle.task_files.specs.declared.ending.Ending.{Ending}
@@ -24,16 +22,11 @@ use Rattle.task_files.specs.Answers.{drafting_left, files_of_task, row_of}
 use Rattle.task_files.specs.Refusals.{NamesRefused}
 use Rattle.task_files.specs.Work.{rescue_faults}
 use Rattle.task_sample.specs.Sampled.{Samples, TellsSample, sample_rows}
-use Rattle.ddrescue_cli.specs.Words.{IsTaskFault}
 use Rattle.ddrescue_cli.specs.Tasks.{TaskOutside}
 use Rattle.ddrescue_cli.specs.Ddrescue.{KeepsAs, TaskSaid, rescue_program}
 use Rattle.ddrescue_cli.proofs.RefusalLemmas.{work_fits}
 use Rattle.ddrescue_cli.proofs.StillLemmas.{over_refuses, starves_task, still_done, still_outside}
 use Rattle.ddrescue_cli.proofs.WordFaults.{words_give}
-
-usage_wrong : (fault : UsageFault) → IsTaskFault fault → usage_kind fault ≡ Wrong fault
-usage_wrong PlaceTooLarge has = absurd has
-usage_wrong fault has = refl
 
 idle_keeps : (e : Ending) → drafting_left e ≡ false → (w : WorldState) → w.site.is_drafting ≡ false → KeepsAs e w w
 idle_keeps e whole w none = record {
@@ -43,15 +36,13 @@ idle_keeps e whole w none = record {
   clock = record { scheduled = refl; schedule = refl };
 }
 
-pub rescue_made : IsWellMade rescue_program
+pub rescue_made : IsWellMade rescue_program (λ w. w.site.is_drafting ≡ false) (λ fault. Usage fault)
 rescue_made = record {
   memory = refl;
   memory_idle = record { also = tt; keeps = idle_keeps NoMemory refl };
-  wrong = usage_wrong;
-  wrong_idle = λ fault has. record { also = tt; keeps = idle_keeps (Usage fault) refl };
+  wrong = wrong_by rescue_grammar words_give;
+  wrong_idle = λ fault. record { also = tt; keeps = idle_keeps (Usage fault) refl };
   faults = record { memory = λ v. v; input = λ v. v; call = λ call v. v };
-  reads = λ fault never. never;
-  gives = words_give;
   starves = λ task line w begins. still_done task line NoMemory w (starves_task task);
   work = λ task line e old new done. work_fits task line done.outside e done.did done.work;
 }

@@ -12,7 +12,7 @@ use Rattle.rescue_rules.specs.Laws.{AreThreeNames, AreTimes}
 use Rattle.rescue_rules.proofs.StopsLemmas.{rescue_stops_by}
 use Rattle.sweep_rules.specs.Sweep.{Swept}
 use Rattle.sweep_rules.specs.SweepLaws.{AreGiven}
-use Rattle.work_rules.specs.Work.{Works}
+use Rattle.program_promise.specs.Work.{Works}
 use Rattle.ddrescue_words.specs.Command.{Command, Rescue, Fill, Generate}
 use Rattle.ddrescue_words.specs.Asking.{AreInLimits, HasMapfile}
 use Rattle.program_promise.specs.World.{WorldState, with_console}
@@ -52,8 +52,8 @@ outside_with o top buffer pieces swept = record {
 
 -- the console is no matter of what is outside
 pub over_beside : (c : Command) (AreMaps : Found → Maps → Type 0) (old new : WorldState) (o : Outside) (top : ℕ)
-    (buffer : List ℕ) (pieces : List Swept) (swept : RunEnd) → Agrees c (across old new) o → AreAskedFor c o.maps
-    → AreMaps o.found o.maps → IsMapEnd o.found.mapfile top
+    (buffer : List ℕ) (pieces : List Swept) (swept : RunEnd) → Agrees c (across old new) o.found o.end o.maps o.did
+    → AreAskedFor c o.maps → AreMaps o.found o.maps → IsMapEnd o.found.mapfile top
     → AgreesOver c AreMaps (outside_with o top buffer pieces swept) o.did old (with_console new old.console)
 over_beside c AreMaps old new o top buffer pieces swept a asked are tops = record {
   agrees = record {

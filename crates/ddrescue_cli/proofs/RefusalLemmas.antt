@@ -10,8 +10,8 @@ use Rattle.rescue_rules.specs.declared.stop.RunEnd.{RunEnd}
 use Rattle.rescue_rules.specs.declared.stop.RunEnd.TheVariants.{Stopped as RunStopped}
 use Rattle.rescue_rules.specs.Setting.{Setting}
 use Rattle.sweep_rules.specs.Sweep.{Sweeper, Swept}
-use Rattle.work_rules.specs.Work.{Deeds, WorkStep, Take, Look, Open, Works}
-use Rattle.work_rules.proofs.AnswerLemmas.{Stops, IsRefused, Starved, Unopened, Broken, Refused, Came, Stopped, Went, came}
+use Rattle.program_promise.specs.Work.{Deeds, WorkStep, Take, Look, Open, Works}
+use Rattle.program_promise.proofs.AnswerLemmas.{Stops, IsRefused, Starved, Unopened, Broken, Refused, Came, Stopped, Went, came}
 use Rattle.program_promise.specs.Kinds.{Asked, Brought, Failed, IsWorkKind}
 use Rattle.ddrescue_words.specs.Options.{cluster_of}
 use Rattle.ddrescue_words.specs.Command.{Command, Task, Rescue, Fill, Generate, Sample}

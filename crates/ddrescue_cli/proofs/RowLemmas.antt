@@ -11,7 +11,7 @@ use Rattle.rescue_rules.specs.Setting.{Setting}
 use Rattle.rescue_rules.specs.declared.stop.Stop.TheVariants.{NoMemory as NoRoom}
 use Rattle.rescue_rules.specs.declared.stop.RunEnd.{RunEnd}
 use Rattle.rescue_rules.specs.declared.stop.RunEnd.TheVariants.{Stopped}
-use Rattle.work_rules.specs.Work.{Deeds, WorkStep, Look}
+use Rattle.program_promise.specs.Work.{Deeds, WorkStep, Look}
 use Rattle.ddrescue_words.specs.Command.{Command}
 use Rattle.task_files.specs.declared.ending.Ending.{Ending}
 use Rattle.task_files.specs.declared.ending.Which.TheVariants.{DomainMap, TestMap}

@@ -7,8 +7,8 @@ use Rattle.rescue_rules.specs.StopsBy.{saves_of}
 use Rattle.rescue_rules.specs.declared.stop.Stop.TheVariants.{NoMemory as NoRoom}
 use Rattle.rescue_rules.specs.declared.stop.RunEnd.TheVariants.{Stopped as RunStopped}
 use Rattle.faulty_source.specs.Journal.{IsFrom}
-use Rattle.work_rules.specs.Work.{IsIdle, Works}
-use Rattle.work_rules.specs.Parts.{only_calls}
+use Rattle.program_promise.specs.Work.{IsIdle, Works}
+use Rattle.program_promise.specs.Parts.{only_calls}
 use Rattle.ddrescue_words.specs.Command.{Command, Task, Rescue, Fill, Generate, Sample}
 use Rattle.ddrescue_words.specs.Asking.{sample_command}
 use Rattle.program_promise.specs.World.{WorldState}

@@ -18,8 +18,8 @@ use Rattle.sweep_rules.specs.Sweep.{Sweeper, Swept}
 use Rattle.sweep_rules.specs.SweepWork.{Sweeps, sweep_opening}
 use Rattle.sweep_rules.specs.SweepOpens.{EndsEarly, InOpening, InLoad, OpensOrEnds}
 use Rattle.sweep_rules.proofs.EndLemmas.{opening_is}
-use Rattle.work_rules.specs.Work.{Deeds, WorkStep, Read, Look, Works, IsIdle, with_calls}
-use Rattle.work_rules.proofs.GainLemmas.{lost_after, broke_after}
+use Rattle.program_promise.specs.Work.{Deeds, WorkStep, Read, Look, Works, IsIdle, with_calls}
+use Rattle.program_promise.proofs.GainLemmas.{lost_after, broke_after}
 use Rattle.ddrescue_words.specs.declared.options.Options.{Options}
 use Rattle.task_files.specs.declared.ending.Ending.{Ending}
 use Rattle.task_files.specs.declared.ending.Ending.TheVariants.{NoOutput}

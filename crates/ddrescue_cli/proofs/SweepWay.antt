@@ -14,8 +14,8 @@ use Rattle.rescue_rules.specs.Work.{Gain, AreMapReads}
 use Rattle.rescue_rules.proofs.CutLemmas.{Cut, cut_all, cut_past}
 use Rattle.rescue_rules.proofs.GoesLemmas.{broke_cut}
 use Rattle.sweep_rules.specs.Sweep.{Sweeper, Swept, filler, generator}
-use Rattle.work_rules.specs.Work.{Deeds, WorkStep, Take, Look, Open, Works, with_calls, with_opens}
-use Rattle.work_rules.proofs.FrontLemmas.{IsMapRead, load_reads, made_both}
+use Rattle.program_promise.specs.Work.{Deeds, WorkStep, Take, Look, Open, Works, with_calls, with_opens}
+use Rattle.program_promise.proofs.FrontLemmas.{IsMapRead, load_reads, made_both}
 use Rattle.ddrescue_words.specs.Options.{cluster_of}
 use Rattle.ddrescue_words.specs.Command.{Command}
 use Rattle.task_files.specs.declared.ending.Ending.{Ending}

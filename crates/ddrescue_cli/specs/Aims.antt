@@ -4,7 +4,7 @@ use Rattle.std.specs.Prelude.{◌≡◌, ⊤, true, is_some, ℕ, Bool, List}
 use Rattle.ddrescue_words.specs.Command.{Command, Task, Rescue, Fill, Generate}
 use Rattle.ddrescue_cli.specs.declared.aim.Aim.{Aim}
 use Rattle.ddrescue_cli.specs.declared.aim.Aim.TheVariants.{Rescue as ToRescue, Fill as ToFill, Generate as ToGenerate}
-use Rattle.rescue_core.specs.Across.{Across}
+use Rattle.rescue_rules.specs.Across.{Across}
 use Rattle.task_files.specs.declared.ending.Ending.{Ending}
 use Rattle.task_files.specs.Steps.{Worked}
 use Rattle.task_sweeps.specs.SweepSteps.{WorkedFill, WorkedGenerate}

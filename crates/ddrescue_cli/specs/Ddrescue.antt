@@ -1,6 +1,6 @@
 -- `ddrescue` as a program, and its promise. What an object tells is its own: the forms in memory tell all, those for
 -- real files their counts and what is open.
-use Rattle.std.specs.Prelude.{◌≡◌, ℕ, Bool, false, List}
+use Rattle.std.specs.Prelude.{◌≡◌, ℕ, Bool, List}
 use Rattle.faulty_source.specs.SourceChanges.{Keeps as SourceKeeps}
 use Rattle.crash_site.specs.SiteChanges.{Keeps as SiteKeeps}
 use Rattle.rescue_console.specs.ClockState.{Keeps as ClockKeeps}
@@ -11,13 +11,12 @@ use Rattle.program_promise.specs.Program.{Program, line_by}
 use Rattle.program_promise.specs.Promise.{DoneFor}
 use Rattle.program_promise.specs.Spoken.{SpokenPromise, IsSaid}
 use Rattle.task_files.specs.declared.ending.Ending.{Ending}
-use Rattle.task_files.specs.declared.ending.Ending.TheVariants.{Usage}
 use Rattle.task_files.specs.Answers.{drafting_left, row_of}
 use Rattle.task_files.specs.Names.{program_name}
 use Rattle.task_files.specs.Work.{rescue_faults}
 use Rattle.ddrescue_cli.specs.Told.{Told}
 use Rattle.ddrescue_cli.specs.Tasks.{TaskOutside, LeavesAs, TaskAgrees, TaskRuns, task_rows}
-use Rattle.ddrescue_cli.specs.Words.{FitsTask, IsTaskFault}
+use Rattle.ddrescue_cli.specs.Words.{FitsTask}
 
 -- What was told before stays. A draft is left begun exactly if an append to it failed, or its sync. (A file of its name
 -- may be left after any failed call of a save.)
@@ -27,21 +26,18 @@ pub record KeepsAs (e : Ending) (old new : WorldState) : Type 0 where
   pub site : SiteKeeps old.site new.site
   pub clock : ClockKeeps old.clock new.clock
 
--- No draft is begun before the call.
+-- Its work is that of a task, by what its words ask for.
 abbrev pub rescue_program : Program Task Ending TaskOutside
 rescue_program = record {
   name = program_name;
   grammar = rescue_grammar;
-  HasFault = IsTaskFault;
   row = row_of;
-  wrong = λ fault. Usage fault;
   faults = rescue_faults;
   Fits = FitsTask;
   rows = task_rows;
   Run = TaskRuns;
   Agrees = TaskAgrees;
   Leaves = LeavesAs;
-  Begins = λ w. w.site.is_drafting ≡ false;
   Keeps = KeepsAs;
 }
 

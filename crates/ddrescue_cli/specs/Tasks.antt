@@ -5,11 +5,10 @@ use Rattle.crash_site.specs.SiteState.{SiteState}
 use Rattle.rescue_rules.specs.declared.stop.RunEnd.{RunEnd}
 use Rattle.rescue_rules.specs.Setting.{Setting}
 use Rattle.rescue_rules.specs.StopsBy.{RescueStopsBy}
-use Rattle.sweep_rules.specs.Sweep.{Swept, filler, generator}
+use Rattle.sweep_rules.specs.Sweep.{Swept, generator}
 use Rattle.sweep_rules.specs.SweepLaws.{AreGiven}
-use Rattle.work_rules.specs.Work.{Deeds, WorkStep, Works}
-use Rattle.work_rules.specs.Parts.{only_calls}
-use Rattle.ddrescue_words.specs.Options.{cluster_of}
+use Rattle.program_promise.specs.Work.{Deeds, WorkStep}
+use Rattle.program_promise.specs.Parts.{only_calls}
 use Rattle.ddrescue_words.specs.Command.{Command, Task, Rescue, Fill, Generate, Sample}
 use Rattle.program_promise.specs.World.{WorldState}
 use Rattle.task_files.specs.declared.ending.Ending.{Ending}
@@ -17,10 +16,9 @@ use Rattle.task_files.specs.declared.ending.Ending.TheVariants.{NoMemory}
 use Rattle.task_files.specs.Asked.{Maps, setting_of}
 use Rattle.task_files.specs.Maps.{Found, AreAskedFor, AreMapsIn}
 use Rattle.task_files.specs.Outside.{Outside, Agrees}
-use Rattle.task_files.specs.Work.{Rescues, files_rows, rescue_faults, rescue_rows}
+use Rattle.task_files.specs.Work.{Rescues, rescue_rows}
 use Rattle.task_sample.specs.Sampled.{Samples, sample_rows}
-use Rattle.task_sweeps.specs.Pattern.{ThenPattern}
-use Rattle.task_sweeps.specs.Modes.{AreMapsOfSweep, IsMapEnd, FillStops, GenerateStops, ThenSweep, fill_rows, fill_setting, generate_rows}
+use Rattle.task_sweeps.specs.Modes.{AreMapsOfSweep, IsMapEnd, FillStops, GenerateStops, ThenFill, ThenSweep, fill_rows, fill_setting, generate_rows}
 use Rattle.ddrescue_cli.specs.Told.{calls_of}
 use Rattle.ddrescue_cli.specs.ToldParts.{across}
 
@@ -60,10 +58,7 @@ task_rows (Sample kib quiet) o = sample_rows
 abbrev pub TaskRuns : Task → (line : List ℕ) → TaskOutside → Ending → Deeds → Type 0
 TaskRuns (Rescue c) line o = Rescues (asked_by c line o) o.found.mapfile o.lines
 TaskRuns (Fill types c) line o =
-    let s = filling_by c line o in
-    ThenPattern (cluster_of c.options) o.end o.buffer
-    (Works rescue_faults (files_rows true c o.found o.top)
-    (ThenSweep s (filler s types o.buffer) o.found.mapfile o.pieces o.swept o.lines))
+    ThenFill types c o.found o.end o.top (filling_by c line o) o.buffer o.pieces o.swept o.lines
 TaskRuns (Generate c) line o =
     let s = asked_by c line o in ThenSweep s (generator s) o.found.mapfile o.pieces o.swept o.lines
 TaskRuns (Sample kib quiet) line o = Samples kib o.lines
@@ -71,7 +66,7 @@ TaskRuns (Sample kib quiet) line o = Samples kib o.lines
 -- Files agree with all that is told of them, with maps if the words ask for them, which are what the files are.
 pub record AgreesOver (c : Command) (AreMaps : Found → Maps → Type 0) (o : TaskOutside) (did : Deeds)
     (old new : WorldState) : Type 0 where
-  pub agrees : Agrees c (across old new) (with_did o did)
+  pub agrees : Agrees c (across old new) o.found o.end o.maps did
   pub asked_maps : AreAskedFor c o.maps
   pub are_maps : AreMaps o.found o.maps
   pub tops : IsMapEnd o.found.mapfile o.top

@@ -4,7 +4,7 @@ use Rattle.option_words.specs.Words.{command_line}
 use Rattle.crash_site.specs.Files.{File}
 use Rattle.crash_site.specs.SiteState.{files_in}
 use Rattle.rescue_rules.specs.Setting.{Setting}
-use Rattle.rescue_core.specs.Across.{Across, across as across_states}
+use Rattle.rescue_rules.specs.Across.{Across, across as across_states}
 use Rattle.ddrescue_words.specs.Command.{Command}
 use Rattle.program_promise.specs.World.{WorldState}
 use Rattle.task_files.specs.Names.{program_name}

@@ -1,23 +1,11 @@
--- Which faults the words of `ddrescue` may have, and which answers a task may have by its words.
-use Rattle.std.specs.Prelude.{◌≡◌, ◌≢◌, ◌⊎◌, ⊤, Option, Some, None}
-use Rattle.option_words.specs.declared.fault.WordFault.TheVariants.{NoMemory as WordNoMemory}
-use Rattle.option_words.specs.declared.fault.UsageFault.{UsageFault}
-use Rattle.option_words.specs.declared.fault.UsageFault.TheVariants.{Word, BadValue, Conflict, Modes, Operands, PlaceTooLarge}
+-- Which answers a task may have by its words.
+use Rattle.std.specs.Prelude.{◌≡◌, ◌≢◌, ◌⊎◌, Option, Some, None}
 use Rattle.ddrescue_words.specs.Command.{Command, Task, Rescue, Fill, Generate, Sample}
 use Rattle.program_promise.specs.declared.operand.Operand.{Operand}
 use Rattle.task_files.specs.declared.ending.Ending.{Ending}
 use Rattle.task_files.specs.declared.ending.Ending.TheVariants.{Done, SameName, NoMemory}
 use Rattle.task_files.specs.Names.{first_same_with_optional_map}
 use Rattle.task_files.specs.Asked.{names_by}
-
--- Two modes are a conflict. Lack of memory is no fault of words, and a place is checked later.
-abbrev pub IsTaskFault : UsageFault → Type 0
-IsTaskFault (Word fault) = fault ≢ WordNoMemory
-IsTaskFault (BadValue n) = ⊤
-IsTaskFault (Conflict n) = ⊤
-IsTaskFault (Modes given) = ⊥
-IsTaskFault (Operands given) = ⊤
-IsTaskFault PlaceTooLarge = ⊥
 
 -- the first two files of a command that have the same name, in the order infile, outfile, mapfile, draft
 abbrev pub same_of : Command → Option (Operand × Operand)

@@ -17,11 +17,11 @@ use Rattle.rescue_rules.specs.Step.{Event, limit_met}
 use Rattle.rescue_rules.specs.Moves.{state_after}
 use Rattle.rescue_rules.specs.Work.{Gain, Ends, IsSaved, IsUnsaved, IsBroken}
 use Rattle.rescue_rules.proofs.LimitLemmas.{none_met}
-use Rattle.work_rules.specs.Work.{Deeds}
+use Rattle.program_promise.specs.Work.{Deeds}
 use Rattle.program_promise.specs.Kinds.{Failed}
 use Rattle.program_promise.specs.Causes.{changes_of}
-use Rattle.work_rules.specs.Verdicts.{AreVerdicts}
-use Rattle.work_rules.proofs.VerdictLemmas.{goes_to_run}
+use Rattle.program_promise.specs.Verdicts.{AreVerdicts}
+use Rattle.program_promise.proofs.VerdictLemmas.{goes_to_run}
 use Rattle.ddrescue_words.specs.declared.options.Options.{Options}
 use Rattle.ddrescue_words.specs.Command.{Command, Rescue}
 use Rattle.task_files.specs.declared.ending.Ending.{Ending}
@@ -46,48 +46,48 @@ pub no_faults : AreVerdicts rescue_faults IsNoFault
 no_faults = record { memory = λ v. v.room refl; input = λ v. v.opened refl; call = λ call v. v.call call None refl }
 
 -- a run that ended at a limit has met it
-limit_of : (s : Setting) (m : Machine) (events : List Event) (spare : ℕ) (calls : List Entry) (end : RunEnd) (limit : Limit)
-    → end ≡ Stopped (Limited limit) → Ends s m events spare calls end → limit_met s (state_after s m events) ≡ Some limit
-limit_of s m events spare calls end limit is (IsSaved None by same all) =
+limit_of : (s : Setting) (m : Machine) (events : List Event) (calls : List Entry) (end : RunEnd) (limit : Limit)
+    → end ≡ Stopped (Limited limit) → Ends s m events calls end → limit_met s (state_after s m events) ≡ Some limit
+limit_of s m events calls end limit is (IsSaved None by same all) =
     absurd (let no : Stopped (Limited limit) ≡ Finished = sym is ∙ same in cc)
-limit_of s m events spare calls end limit is (IsSaved (Some InputLost) by same all) =
+limit_of s m events calls end limit is (IsSaved (Some InputLost) by same all) =
     absurd (let no : Stopped (Limited limit) ≡ Stopped InputLost = sym is ∙ same in cc)
-limit_of s m events spare calls end limit is (IsSaved (Some (Site call)) by same all) = absurd by
-limit_of s m events spare calls end limit is (IsSaved (Some (Limited other)) by same all) =
+limit_of s m events calls end limit is (IsSaved (Some (Site call)) by same all) = absurd by
+limit_of s m events calls end limit is (IsSaved (Some (Limited other)) by same all) =
     let one : Stopped (Limited limit) ≡ Stopped (Limited other) = sym is ∙ same in
     let alike : other ≡ limit = cc in
-    by.0 ∙ ap Some alike
-limit_of s m events spare calls end limit is (IsSaved (Some NoRoom) by same all) =
+    by ∙ ap Some alike
+limit_of s m events calls end limit is (IsSaved (Some NoRoom) by same all) =
     absurd (let no : Stopped (Limited limit) ≡ Stopped NoRoom = sym is ∙ same in cc)
-limit_of s m events spare calls end limit is (IsUnsaved stop call by same broke) =
+limit_of s m events calls end limit is (IsUnsaved stop call by same broke) =
     absurd (let no : Stopped (Limited limit) ≡ SaveFailed call stop = sym is ∙ same in cc)
-limit_of s m events spare calls end limit is (IsBroken before last call split none same broke) =
+limit_of s m events calls end limit is (IsBroken before last call split same broke) =
     absurd (let no : Stopped (Limited limit) ≡ Stopped (Site call) = sym is ∙ same in cc)
 
 -- how a run ends by itself
-ends_itself : (o : Options) (s : Setting) (m : Machine) (events : List Event) (spare : ℕ) (calls : List Entry) (e : Ending)
-    (end : RunEnd) → s.limits ≡ o.limits → e ≡ answer_of end → Ends s m events spare calls end → IsNoFault e
+ends_itself : (o : Options) (s : Setting) (m : Machine) (events : List Event) (calls : List Entry) (e : Ending)
+    (end : RunEnd) → s.limits ≡ o.limits → e ≡ answer_of end → Ends s m events calls end → IsNoFault e
     → IsDoneOrLimited o e
-ends_itself o s m events spare calls e Finished set is ends v = record { ends = inl is; unlimited = λ none. is }
-ends_itself o s m events spare calls e (Stopped InputLost) set is ends v = absurd (v.kept is)
-ends_itself o s m events spare calls e (Stopped (Site call)) set is ends v = absurd (v.call call None is)
-ends_itself o s m events spare calls e (Stopped (Limited limit)) set is ends v = record {
+ends_itself o s m events calls e Finished set is ends v = record { ends = inl is; unlimited = λ none. is }
+ends_itself o s m events calls e (Stopped InputLost) set is ends v = absurd (v.kept is)
+ends_itself o s m events calls e (Stopped (Site call)) set is ends v = absurd (v.call call None is)
+ends_itself o s m events calls e (Stopped (Limited limit)) set is ends v = record {
   ends = inr (limit, is);
   unlimited = λ none.
       let met : limit_met s (state_after s m events) ≡ Some limit =
-      limit_of s m events spare calls (Stopped (Limited limit)) limit refl ends in
+      limit_of s m events calls (Stopped (Limited limit)) limit refl ends in
       let no : None ≡ Some limit = sym (none_met s (state_after s m events) (set ∙ none)) ∙ met in
       absurd (cc);
 }
-ends_itself o s m events spare calls e (Stopped NoRoom) set is ends v = absurd (v.room is)
-ends_itself o s m events spare calls e (SaveFailed call earlier) set is ends v = absurd (v.call call earlier is)
+ends_itself o s m events calls e (Stopped NoRoom) set is ends v = absurd (v.room is)
+ends_itself o s m events calls e (SaveFailed call earlier) set is ends v = absurd (v.call call earlier is)
 
 ran_itself : (o : Options) (s : Setting) (statuses : List Status) (state : Option MapState) (lines : List (List ℕ))
     (e : Ending) (g : Gain) → s.limits ≡ o.limits → RunsOver s statuses state lines e g → IsNoFault e
     → IsDoneOrLimited o e
 ran_itself o s statuses state lines e g set (inl unbegun) v = absurd (v.room unbegun.answer)
 ran_itself o s statuses state lines e g set (inr ran) v =
-    ends_itself o s _ _ ran.runs.spare g.calls e ran.end set ran.answer ran.runs.ends v
+    ends_itself o s _ _ g.calls e ran.end set ran.answer ran.runs.ends v
 
 -- where nothing is refused an answer of no fault is that of a run
 passed_itself : (t : Told) (c : Command) (p : TaskDone (Rescue c) t) → NothingIsRefused c (with_did p.outside p.did) → IsNoFault t.answer

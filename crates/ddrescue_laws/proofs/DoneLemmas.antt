@@ -1,6 +1,6 @@
 -- What is there after the answer of a rescue.
 use Rattle.ddrescue_cli.proofs.RefusalLemmas.{undone}
-use Rattle.work_rules.proofs.AnswerLemmas.{IsLoadIf, Passed, passed}
+use Rattle.program_promise.proofs.AnswerLemmas.{IsLoadIf, Passed, passed}
 use Rattle.std.proofs.Common.{◌≡◌, ℕ, ◌+◌, ◌-◌, ◌≤◌, zero, suc, Bool, true, false, IsTrue, if◌then◌else◌, refl, List, [], ◌++◌, ◌∷◌, map, filter, length, take, drop, Option, Some, None, option_map, sym, ◌∙◌, ap, subst, arith, inl, inr, ⊎_elim}
 use Rattle.std.specs.List.{count_by, slice_get}
 use Rattle.std.proofs.Math.Seq.{take-length}
@@ -52,17 +52,17 @@ use Rattle.ddrescue_cli.proofs.AskedLemmas.{sensible_to}
 use Rattle.ddrescue_cli.specs.Tasks.{with_did}
 use Rattle.ddrescue_cli.specs.Told.{Told, calls_before}
 use Rattle.ddrescue_cli.specs.ToldParts.{files_of, asked_of}
-use Rattle.work_rules.specs.Work.{Deeds, Works, with_calls, with_opens}
+use Rattle.program_promise.specs.Work.{Deeds, Works, with_calls, with_opens}
 use Rattle.task_files.specs.Maps.{Found, found_in, mapfile_of}
 use Rattle.task_files.specs.Outside.{Outside}
 use Rattle.task_files.specs.Work.{answer_of, Rescues, RunsOver, rescue_faults, rescue_rows, worked_rows, barrier_of}
 use Rattle.ddrescue_cli.specs.Ddrescue.{TaskDone, Ddrescue}
 use Rattle.ddrescue_laws.specs.Laws.{outside_by, setting_promised, done_by, HoldsAtEnd, LeavesRescued, DoneIsSaved, machine_reached}
-use Rattle.trim_scrape.proofs.EndingLemmas.{run_ends_well}
+use Rattle.run_laws.proofs.EndingLemmas.{run_ends_well}
 use Rattle.ddrescue_laws.proofs.OutputLemmas.{holds_whole}
 use Rattle.ddrescue_cli.proofs.GoesLemmas.{setting_by, opened, settled}
 use Rattle.ddrescue_laws.proofs.CountLemmas.{dues, run_entries, settles_once_more, publishes_each}
-use Rattle.work_rules.proofs.FrontLemmas.{IsMapRead, load_reads, reads_stand, made_both}
+use Rattle.program_promise.proofs.FrontLemmas.{IsMapRead, load_reads, reads_stand, made_both}
 use Rattle.ddrescue_laws.proofs.ReadLemmas.{settles_after, publishes_after, barrier_after}
 
 -- the files as they read after all calls that a record gained
@@ -125,14 +125,14 @@ answer_done end (Some (Site call)) is same = absurd (let no : Done ≡ SiteFault
 answer_done end (Some (Limited limit)) is same = absurd (let no : Done ≡ LimitMet limit = is ∙ ap answer_of same in cc)
 answer_done end (Some NoRoom) is same = absurd (let no : Done ≡ NoMemory = is ∙ ap answer_of same in cc)
 
-pub saved_ends : (s : Setting) (m : Machine) (events : List Event) (spare : ℕ) (calls : List Entry) (end : RunEnd)
-    → Done ≡ answer_of end → Ends s m events spare calls end → SavedRun s m events calls
-saved_ends s m events spare calls end is (RunSaved stop ends same all) =
-    let P : Option Stop → Type 0 = λ o. EndsBy o s (state_after s m events) spare in
-    record { over = (subst P (answer_done end stop is same) ends).0; all = all }
-saved_ends s m events spare calls end is (IsUnsaved stop call ends same broke) =
+pub saved_ends : (s : Setting) (m : Machine) (events : List Event) (calls : List Entry) (end : RunEnd)
+    → Done ≡ answer_of end → Ends s m events calls end → SavedRun s m events calls
+saved_ends s m events calls end is (RunSaved stop ends same all) =
+    let P : Option Stop → Type 0 = λ o. EndsBy o s (state_after s m events) in
+    record { over = subst P (answer_done end stop is same) ends; all = all }
+saved_ends s m events calls end is (IsUnsaved stop call ends same broke) =
     absurd (let no : Done ≡ SiteFault call stop = is ∙ ap answer_of same in cc)
-saved_ends s m events spare calls end is (IsBroken before last call split none same broke) =
+saved_ends s m events calls end is (IsBroken before last call split same broke) =
     absurd (let no : Done ≡ SiteFault call None = is ∙ ap answer_of same in cc)
 
 -- the calls of a run, and of its end
@@ -151,7 +151,7 @@ done_over s statuses state lines e g is (inl unbegun) = absurd (let no : Done �
 done_over s statuses state lines e g is (inr ran) = record {
   run = ran.runs.run;
   reads = timed g.reads (drop 1 g.times) (omega (arith, ran.runs.times, length-drop 1 g.times));
-  saved = saved_ends s (begins s statuses state g) (events_in g) ran.runs.spare g.calls ran.end (is ∙ ran.answer)
+  saved = saved_ends s (begins s statuses state g) (events_in g) g.calls ran.end (is ∙ ran.answer)
       ran.runs.ends;
 }
 

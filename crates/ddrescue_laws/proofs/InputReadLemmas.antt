@@ -27,9 +27,9 @@ use Rattle.rescue_rules.specs.Beginning.{first_pass, goes_on_from, shown_at_firs
 use Rattle.rescue_rules.specs.Events.{began_at, reads_of}
 use Rattle.rescue_rules.specs.Work.{Runs, events_in}
 use Rattle.rescue_rules.proofs.ReadyLemmas.{order_over}
-use Rattle.trim_scrape.specs.Bounds.{AskFew}
-use Rattle.trim_scrape.proofs.BoundLemmas.{run_asks_few}
-use Rattle.trim_scrape.proofs.EndingLemmas.{run_ends_well}
+use Rattle.run_laws.specs.Bounds.{AskFew}
+use Rattle.run_laws.proofs.BoundLemmas.{run_asks_few}
+use Rattle.run_laws.proofs.EndingLemmas.{run_ends_well}
 use Rattle.save_resume.specs.MapNames.{names_of}
 use Rattle.option_words.specs.Words.{command_line}
 use Rattle.ddrescue_words.specs.Command.{Command, Rescue}
@@ -45,8 +45,8 @@ use Rattle.task_files.specs.Outside.{Outside, HasGainedReads}
 use Rattle.ddrescue_cli.specs.Ddrescue.{TaskDone}
 use Rattle.ddrescue_laws.specs.Laws.{ReadsAreARun}
 use Rattle.task_files.specs.Work.{Rescues, rescue_faults, rescue_rows, worked_rows, answer_of}
-use Rattle.work_rules.specs.Work.{Deeds, Works}
-use Rattle.work_rules.proofs.AnswerLemmas.{FindNone, Came, Stopped, Went, came}
+use Rattle.program_promise.specs.Work.{Deeds, Works}
+use Rattle.program_promise.proofs.AnswerLemmas.{FindNone, Came, Stopped, Went, came}
 use Rattle.ddrescue_cli.proofs.AskedLemmas.{sensible_to}
 use Rattle.ddrescue_cli.proofs.LateLemmas.{IsLate, rescue_late}
 use Rattle.task_files.proofs.OpenedLemmas.{none_seen}
@@ -148,7 +148,7 @@ run_so o test s s' mapfile e lines d ok none (opens, (statuses, state, stands, i
     let reads : reads_of (events_in d.gain) ≡ d.gain.reads =
     timed d.gain.reads (drop 1 d.gain.times) (omega (arith, runs.times, length-drop 1 d.gain.times)) in
     let over : e ≡ Done → has_ended o (state_after o m (events_in d.gain)) ≡ true =
-    λ done. (saved_ends o m (events_in d.gain) runs.spare d.gain.calls end (sym done ∙ is) runs.ends).over in
+    λ done. (saved_ends o m (events_in d.gain) d.gain.calls end (sym done ∙ is) runs.ends).over in
     record {
       statuses = statuses;
       state = state;

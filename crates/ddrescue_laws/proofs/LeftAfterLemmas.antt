@@ -31,13 +31,13 @@ use Rattle.task_files.specs.Outside.{Outside}
 use Rattle.task_files.specs.Work.{Rescues, answer_of, rescue_faults, rescue_rows, barrier_of}
 use Rattle.ddrescue_cli.specs.Ddrescue.{TaskDone}
 use Rattle.ddrescue_laws.specs.Laws.{FilesAreLeft}
-use Rattle.work_rules.proofs.FrontLemmas.{load_reads, reads_stand, broken_stands}
-use Rattle.work_rules.specs.Work.{Deeds, Look, Read, Works}
-use Rattle.work_rules.specs.Holds.{Holds, after_calls}
-use Rattle.work_rules.proofs.HoldsLemmas.{holds, holds_more}
+use Rattle.program_promise.proofs.FrontLemmas.{load_reads, reads_stand, broken_stands}
+use Rattle.program_promise.specs.Work.{Deeds, Look, Read, Works}
+use Rattle.program_promise.specs.Holds.{Holds, after_calls}
+use Rattle.program_promise.proofs.HoldsLemmas.{holds, holds_more}
 use Rattle.save_resume.specs.Saving.{IsNameIn}
 use Rattle.rescue_rules.proofs.SaveStages.{put_own}
-use Rattle.work_rules.proofs.GainLemmas.{broke_named}
+use Rattle.program_promise.proofs.GainLemmas.{broke_named}
 use Rattle.ddrescue_cli.proofs.RowLemmas.{EndsRun, rescue_ends, after_domain, after_mapfile, after_test, open_call, of_barrier}
 use Rattle.ddrescue_cli.proofs.LateLemmas.{IsRunCall, IsLate, rescue_late}
 

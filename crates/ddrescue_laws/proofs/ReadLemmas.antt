@@ -7,7 +7,7 @@ use Rattle.rescue_rules.specs.Work.{AreMapReads}
 use Rattle.rescue_rules.specs.Stops.{is_sync, is_settle, has_barrier}
 use Rattle.rescue_rules.specs.StopsBy.{is_publish}
 use Rattle.rescue_rules.proofs.CutLemmas.{add, tally, tally_is}
-use Rattle.work_rules.proofs.FrontLemmas.{IsMapRead}
+use Rattle.program_promise.proofs.FrontLemmas.{IsMapRead}
 
 -- a test that no such read passes
 record LeavesOut (f : Entry → Bool) : Type 0 where

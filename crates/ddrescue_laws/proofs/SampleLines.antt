@@ -2,7 +2,7 @@
 use Rattle.std.proofs.Common.{◌≡◌, ℕ, List, [], ◌∷◌, inl, inr, sym, ap, ◌∙◌}
 use Rattle.rescue_sample.specs.Sample.{sample_size}
 use Rattle.rescue_sample.proofs.RunLemmas.{one_line}
-use Rattle.work_rules.specs.Work.{Deeds, Works}
+use Rattle.program_promise.specs.Work.{Deeds, Works}
 use Rattle.ddrescue_words.specs.Command.{Sample}
 use Rattle.task_files.specs.declared.ending.Ending.{Ending}
 use Rattle.task_files.specs.declared.ending.Ending.TheVariants.{Done, NoMemory}

@@ -3,8 +3,8 @@ use Rattle.std.proofs.Common.{◌≡◌, ℕ, Option, None, sym, ◌∙◌, inl,
 use Rattle.crash_site.specs.declared.site.SiteCall.{SiteCall}
 use Rattle.crash_site.specs.declared.site.SiteCall.TheVariants.{ImageRead, MapRead, MapRemove}
 use Rattle.rescue_rules.specs.declared.stop.Stop.{Stop}
-use Rattle.work_rules.specs.Work.{Deeds, Works}
-use Rattle.work_rules.proofs.AnswerLemmas.{IsCalled, Starved, Unopened, Broken, Refused, Came, Stopped, Went, came}
+use Rattle.program_promise.specs.Work.{Deeds, Works}
+use Rattle.program_promise.proofs.AnswerLemmas.{IsCalled, Starved, Unopened, Broken, Refused, Came, Stopped, Went, came}
 use Rattle.ddrescue_words.specs.Command.{Command, Rescue}
 use Rattle.task_files.specs.declared.ending.Ending.{Ending}
 use Rattle.task_files.specs.declared.ending.Ending.TheVariants.{SameName, SourceFault, SiteFault, NoMemory}

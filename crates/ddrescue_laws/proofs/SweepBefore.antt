@@ -17,8 +17,8 @@ use Rattle.rescue_rules.specs.RunCalls.{closing_calls}
 use Rattle.rescue_rules.specs.Deeds.{save_of}
 use Rattle.sweep_rules.specs.Sweep.{Sweeper, Sweep, Swept, filler, generator, after_pieces, due_save, sweep_end}
 use Rattle.sweep_rules.specs.SweepWork.{SweepEnds, IsSaved, IsUnsaved, IsCut, IsBroken, lost_call, sweep_calls}
-use Rattle.work_rules.specs.Work.{Deeds, Faults, WorkStep, Take, Look, Open, Make, Read, Works, with_calls, with_opens}
-use Rattle.work_rules.proofs.GainLemmas.{broke_named}
+use Rattle.program_promise.specs.Work.{Deeds, Faults, WorkStep, Take, Look, Open, Make, Read, Works, with_calls, with_opens}
+use Rattle.program_promise.proofs.GainLemmas.{broke_named}
 use Rattle.ddrescue_words.specs.Options.{cluster_of}
 use Rattle.ddrescue_words.specs.Command.{Command}
 use Rattle.task_files.specs.declared.ending.Ending.{Ending}

@@ -10,9 +10,9 @@ use Rattle.rescue_rules.specs.declared.stop.RunEnd.{RunEnd}
 use Rattle.rescue_rules.specs.Setting.{Setting}
 use Rattle.sweep_rules.specs.Sweep.{Sweeper, Sweep, Swept, filler, generator}
 use Rattle.sweep_rules.specs.SweepWork.{SweepEnds, IsSaved, IsUnsaved, IsCut, IsBroken, lost_call}
-use Rattle.work_rules.specs.Work.{Deeds, Works}
-use Rattle.work_rules.specs.Verdicts.{RefuseNothing}
-use Rattle.work_rules.proofs.VerdictLemmas.{goes_to_run}
+use Rattle.program_promise.specs.Work.{Deeds, Works}
+use Rattle.program_promise.specs.Verdicts.{RefuseNothing}
+use Rattle.program_promise.proofs.VerdictLemmas.{goes_to_run}
 use Rattle.ddrescue_words.specs.Options.{cluster_of}
 use Rattle.ddrescue_words.specs.Command.{Command, Fill, Generate}
 use Rattle.task_files.specs.declared.ending.Ending.{Ending}

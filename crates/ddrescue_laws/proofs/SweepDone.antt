@@ -19,9 +19,9 @@ use Rattle.rescue_rules.proofs.MapfileLemmas.{opening_by}
 use Rattle.sweep_rules.specs.Sweep.{Sweeper, Sweep, Swept, filler, generator, IsSweep, IsSweptOut, sweep_over, after_pieces, sweep_end}
 use Rattle.sweep_rules.specs.SweepStops.{has_swept_out}
 use Rattle.sweep_rules.specs.SweepWork.{SweepEnds, IsSaved, IsUnsaved, IsCut, IsBroken}
-use Rattle.work_rules.specs.Work.{Deeds, WorkStep, Works, with_calls, with_opens}
-use Rattle.work_rules.proofs.AnswerLemmas.{Stops, IsRefused, Starved, Unopened, Broken, Refused, Passed, passed}
-use Rattle.work_rules.proofs.FrontLemmas.{made_both}
+use Rattle.program_promise.specs.Work.{Deeds, WorkStep, Works, with_calls, with_opens}
+use Rattle.program_promise.proofs.AnswerLemmas.{Stops, IsRefused, Starved, Unopened, Broken, Refused, Passed, passed}
+use Rattle.program_promise.proofs.FrontLemmas.{made_both}
 use Rattle.ddrescue_words.specs.Options.{cluster_of}
 use Rattle.ddrescue_words.specs.Command.{Command}
 use Rattle.task_files.specs.declared.ending.Ending.{Ending}

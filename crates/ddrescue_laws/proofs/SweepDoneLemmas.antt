@@ -22,7 +22,7 @@ use Rattle.sweep_rules.specs.Sweep.{Sweeper, Sweep, Swept, filler, generator, sw
 use Rattle.sweep_rules.specs.SweepLaws.{AreGiven}
 use Rattle.sweep_rules.specs.SweepStops.{AreFilled, FillPromise, has_swept_out, pieces_before}
 use Rattle.sweep_rules.proofs.SweepLemmas.{filled_map_stands, generates_what_is_held}
-use Rattle.work_rules.proofs.FrontLemmas.{load_reads}
+use Rattle.program_promise.proofs.FrontLemmas.{load_reads}
 use Rattle.ddrescue_words.specs.Options.{cluster_of}
 use Rattle.ddrescue_words.specs.Command.{Command, Fill, Generate}
 use Rattle.ddrescue_words.specs.Asking.{HasMapfile}

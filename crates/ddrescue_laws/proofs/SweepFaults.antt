@@ -17,9 +17,9 @@ use Rattle.rescue_rules.specs.RunCalls.{closing_calls}
 use Rattle.rescue_rules.specs.Deeds.{save_of}
 use Rattle.sweep_rules.specs.Sweep.{Sweeper, Sweep, Swept, filler, generator, after_pieces, due_save, sweep_end}
 use Rattle.sweep_rules.specs.SweepWork.{SweepEnds, IsSaved, IsUnsaved, IsCut, IsBroken, lost_call, sweep_calls}
-use Rattle.work_rules.specs.Work.{Deeds, WorkStep, Works}
-use Rattle.work_rules.proofs.AnswerLemmas.{IsCalled, IsRefused, Starved, Unopened, Broken, Refused, Came, Stopped, Went, came}
-use Rattle.work_rules.proofs.GainLemmas.{broke_named}
+use Rattle.program_promise.specs.Work.{Deeds, WorkStep, Works}
+use Rattle.program_promise.proofs.AnswerLemmas.{IsCalled, IsRefused, Starved, Unopened, Broken, Refused, Came, Stopped, Went, came}
+use Rattle.program_promise.proofs.GainLemmas.{broke_named}
 use Rattle.ddrescue_words.specs.Options.{cluster_of}
 use Rattle.ddrescue_words.specs.Command.{Command, Fill, Generate}
 use Rattle.task_files.specs.declared.ending.Ending.{Ending}

@@ -19,7 +19,7 @@ use Rattle.rescue_rules.proofs.MapfileLemmas.{opening_by}
 use Rattle.rescue_rules.proofs.SaveStages.{put_own}
 use Rattle.save_resume.specs.Resuming.{barrier_calls}
 use Rattle.sweep_rules.specs.Sweep.{Sweeper, Swept, filler, generator}
-use Rattle.work_rules.proofs.FrontLemmas.{reads_stand}
+use Rattle.program_promise.proofs.FrontLemmas.{reads_stand}
 use Rattle.ddrescue_words.specs.Command.{Command, Fill, Generate}
 use Rattle.ddrescue_words.specs.Asking.{AskTask}
 use Rattle.ddrescue_words.proofs.CommandLemmas.{reading_asks}

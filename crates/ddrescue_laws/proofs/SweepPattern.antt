@@ -8,8 +8,8 @@ use Rattle.faulty_source.specs.Journal.{Reading, IsFrom}
 use Rattle.rescue_rules.specs.declared.stop.RunEnd.{RunEnd}
 use Rattle.rescue_rules.specs.Setting.{Setting}
 use Rattle.sweep_rules.specs.Sweep.{Swept}
-use Rattle.work_rules.specs.Work.{Deeds}
-use Rattle.work_rules.proofs.AnswerLemmas.{Passed, passed}
+use Rattle.program_promise.specs.Work.{Deeds}
+use Rattle.program_promise.proofs.AnswerLemmas.{Passed, passed}
 use Rattle.ddrescue_words.specs.Options.{cluster_of}
 use Rattle.ddrescue_words.specs.Command.{Command}
 use Rattle.task_files.specs.declared.ending.Ending.{Ending}

@@ -6,10 +6,10 @@ use Rattle.save_resume.specs.Named.{map_mode}
 use Rattle.rescue_rules.specs.declared.stop.RunEnd.{RunEnd}
 use Rattle.rescue_rules.specs.Setting.{Setting}
 use Rattle.sweep_rules.specs.Sweep.{Sweeper, Swept, filler, generator}
-use Rattle.work_rules.specs.Work.{Deeds, Works}
-use Rattle.work_rules.specs.Verdicts.{IsOnce, RefuseOnce, AreVerdicts}
-use Rattle.work_rules.proofs.VerdictLemmas.{one_verdict}
-use Rattle.work_rules.proofs.PartLemmas.{works_as}
+use Rattle.program_promise.specs.Work.{Deeds, Works}
+use Rattle.program_promise.specs.Verdicts.{IsOnce, RefuseOnce, AreVerdicts}
+use Rattle.program_promise.proofs.VerdictLemmas.{one_verdict}
+use Rattle.program_promise.proofs.PartLemmas.{works_as}
 use Rattle.ddrescue_words.specs.Options.{cluster_of}
 use Rattle.ddrescue_words.specs.Command.{Command}
 use Rattle.task_files.specs.declared.ending.Ending.{Ending}

@@ -12,10 +12,10 @@ use Rattle.rescue_rules.specs.declared.stop.Stop.TheVariants.{SourceLost as Inpu
 use Rattle.rescue_rules.specs.declared.stop.RunEnd.{RunEnd}
 use Rattle.rescue_rules.specs.declared.stop.RunEnd.TheVariants.{Done as Finished, Stopped, SaveFailed}
 use Rattle.rescue_rules.specs.Work.{Gain}
-use Rattle.work_rules.specs.Work.{Deeds, WorkStep}
-use Rattle.work_rules.specs.Verdicts.{IsOnce, RefuseOnce, AreVerdicts}
-use Rattle.work_rules.proofs.PartLemmas.{works_as}
-use Rattle.work_rules.proofs.VerdictLemmas.{one_verdict}
+use Rattle.program_promise.specs.Work.{Deeds, WorkStep}
+use Rattle.program_promise.specs.Verdicts.{IsOnce, RefuseOnce, AreVerdicts}
+use Rattle.program_promise.proofs.PartLemmas.{works_as}
+use Rattle.program_promise.proofs.VerdictLemmas.{one_verdict}
 use Rattle.ddrescue_words.specs.declared.options.Options.{Options}
 use Rattle.ddrescue_words.specs.Command.{Command}
 use Rattle.program_promise.specs.declared.operand.Operand.{Operand}

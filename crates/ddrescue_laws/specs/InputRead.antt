@@ -14,8 +14,8 @@ use Rattle.rescue_rules.specs.Step.{Event}
 use Rattle.rescue_rules.specs.Moves.{state_after, has_ended, IsRun}
 use Rattle.rescue_rules.specs.Beginning.{machine_over}
 use Rattle.rescue_rules.specs.Events.{reads_of}
-use Rattle.trim_scrape.specs.Bounds.{AskFew}
-use Rattle.trim_scrape.specs.Endings.{EndsWell}
+use Rattle.run_laws.specs.Bounds.{AskFew}
+use Rattle.run_laws.specs.Endings.{EndsWell}
 use Rattle.task_files.specs.declared.ending.Ending.{Ending}
 use Rattle.task_files.specs.declared.ending.Ending.TheVariants.{Done, SourceLost, SiteFault, LimitMet, NoMemory}
 use Rattle.task_files.specs.Maps.{seen_through}

@@ -13,14 +13,14 @@ use Rattle.rescue_rules.specs.Start.{Stands}
 use Rattle.rescue_rules.specs.Machine.{Machine}
 use Rattle.rescue_rules.specs.Moves.{state_after, has_ended, IsRun}
 use Rattle.rescue_rules.specs.Given.{given}
-use Rattle.trim_scrape.specs.Endings.{EndsWell}
+use Rattle.run_laws.specs.Endings.{EndsWell}
 use Rattle.rescue_rules.specs.Held.{Held}
 use Rattle.rescue_rules.specs.Snapshots.{text_of, finished_snapshot}
 use Rattle.rescue_rules.specs.Work.{Gain, begins, events_in, mapfile_in}
 use Rattle.rescue_rules.specs.Stops.{has_barrier}
 use Rattle.rescue_rules.specs.StopsBy.{IsKept}
-use Rattle.work_rules.specs.Work.{Deeds, Works}
-use Rattle.work_rules.specs.Verdicts.{RefuseNothing}
+use Rattle.program_promise.specs.Work.{Deeds, Works}
+use Rattle.program_promise.specs.Verdicts.{RefuseNothing}
 use Rattle.ddrescue_words.specs.Command.{Command, Rescue, Sample}
 use Rattle.ddrescue_words.specs.Asking.{Asks, AskSample}
 use Rattle.rescue_rules.specs.declared.stop.Limit.{Limit}

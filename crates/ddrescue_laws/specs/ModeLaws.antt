@@ -17,8 +17,8 @@ use Rattle.rescue_rules.specs.Snapshots.{text_of}
 use Rattle.sweep_rules.specs.Sweep.{Sweeper, Swept, filler, generator, sweep_over, after_pieces, sweep_end, IsSweep, IsSweptOut}
 use Rattle.sweep_rules.specs.SweepLaws.{AreGiven}
 use Rattle.sweep_rules.specs.SweepStops.{AreFilled}
-use Rattle.work_rules.specs.Work.{Deeds}
-use Rattle.work_rules.specs.Verdicts.{RefuseNothing}
+use Rattle.program_promise.specs.Work.{Deeds}
+use Rattle.program_promise.specs.Verdicts.{RefuseNothing}
 use Rattle.ddrescue_words.specs.Command.{Command, Fill, Generate}
 use Rattle.ddrescue_words.specs.Asking.{AskTask}
 use Rattle.task_files.specs.declared.ending.Ending.{Ending}

@@ -12,7 +12,7 @@ use Rattle.ddrescuelog_words.specs.Modes.{creates, removes_map}
 use Rattle.ddrescuelog_words.specs.Command.{Command}
 use Rattle.option_words.specs.declared.fault.UsageFault.{UsageFault}
 use Rattle.option_words.specs.declared.fault.UsageFault.TheVariants.{PlaceTooLarge}
-use Rattle.work_rules.specs.Work.{Deeds, Take, Look}
+use Rattle.program_promise.specs.Work.{Deeds, Take, Look}
 use Rattle.program_promise.specs.Kinds.{AtPut, Kind, Asked, Failed}
 use Rattle.program_promise.specs.Causes.{Changed, changes_of}
 use Rattle.program_promise.specs.Printing.{PutsByKind}

@@ -8,16 +8,16 @@ use Rattle.crash_site.specs.Calls.{Call, Entry, Done as Returned, map_read}
 use Rattle.crash_site.specs.declared.site.SiteCall.TheVariants.{MapRead}
 use Rattle.save_resume.specs.Loading.{piece_size}
 use Rattle.save_resume.specs.Named.{map_mode}
-use Rattle.work_rules.specs.Work.{Deeds, WorkStep, Take, Look, Open, Make, Read, Works}
-use Rattle.work_rules.proofs.FrontLemmas.{IsMapRead, load_reads}
-use Rattle.work_rules.proofs.ReadLemmas.{AreReads, both_are, maps_are, maps_broke, same_reads}
+use Rattle.program_promise.specs.Work.{Deeds, WorkStep, Take, Look, Open, Make, Read, Works}
+use Rattle.program_promise.proofs.FrontLemmas.{IsMapRead, load_reads}
+use Rattle.program_promise.proofs.ReadLemmas.{AreReads, both_are, maps_are, maps_broke, same_reads}
 use Rattle.ddrescuelog_words.specs.Modes.{mapfile_mode}
 use Rattle.ddrescuelog_words.specs.Command.{Command}
 use Rattle.ddrescuelog_cli.specs.declared.ending.Which.{Which}
 use Rattle.ddrescuelog_cli.specs.declared.ending.Which.TheVariants.{DomainMap, RunMap, OtherMap}
 use Rattle.ddrescuelog_cli.specs.declared.ending.LogEnding.{LogEnding}
 use Rattle.ddrescuelog_cli.specs.declared.ending.LogEnding.TheVariants.{Done, SiteFault, NoMemory}
-use Rattle.work_rules.specs.Parts.{only_calls}
+use Rattle.program_promise.specs.Parts.{only_calls}
 use Rattle.ddrescuelog_cli.specs.Modes.{log_faults, EndsAs}
 use Rattle.ddrescuelog_cli.specs.Maps.{Found, Maps}
 use Rattle.ddrescuelog_cli.specs.Refusals.{IfNamed, MapIsRefused, MapIsThere}

@@ -2,9 +2,9 @@
 use Rattle.std.proofs.Common.{◌≡◌, ℕ, Bool, true, false, List, [], ◌∷◌, Option, refl, sym, inl, inr, subst}
 use Rattle.block_list.specs.declared.status.Status.{Status}
 use Rattle.crash_site.specs.Files.{File}
-use Rattle.work_rules.specs.Work.{Deeds, with_calls, Take, Look, Works}
-use Rattle.work_rules.specs.Verdicts.{RefuseNothing}
-use Rattle.work_rules.proofs.VerdictLemmas.{goes_to_run}
+use Rattle.program_promise.specs.Work.{Deeds, with_calls, Take, Look, Works}
+use Rattle.program_promise.specs.Verdicts.{RefuseNothing}
+use Rattle.program_promise.proofs.VerdictLemmas.{goes_to_run}
 use Rattle.option_words.specs.declared.fault.UsageFault.TheVariants.{PlaceTooLarge}
 use Rattle.program_promise.specs.Kinds.{Kind, Asked, Starved}
 use Rattle.ddrescuelog_words.specs.declared.mode.LogMode.{LogMode}

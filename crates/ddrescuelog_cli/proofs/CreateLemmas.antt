@@ -19,20 +19,20 @@ use Rattle.save_resume.specs.Named.{IsMapOf, map_mode, HasStatuses}
 use Rattle.save_resume.specs.Saving.{save_calls, publish_calls, IsNameIn, Saves}
 use Rattle.map_algebra.specs.Numbers.{list_limit, numbers_in}
 use Rattle.rescue_rules.specs.Beginning.{nothing_shown}
-use Rattle.work_rules.specs.Work.{Deeds, Works, Make}
+use Rattle.program_promise.specs.Work.{Deeds, Works, Make}
 use Rattle.ddrescuelog_words.specs.declared.mode.LogMode.TheVariants.{Create}
 use Rattle.ddrescuelog_words.specs.Modes.{creates, has_other}
 use Rattle.ddrescuelog_words.specs.Command.{Command, AreInLimits}
 use Rattle.save_resume.proofs.NamedLemmas.{map_is_one}
-use Rattle.work_rules.proofs.LoadLemmas.{by_tells}
-use Rattle.work_rules.proofs.GainLemmas.{GainsBroken, broke_gains, broke_named}
+use Rattle.program_promise.proofs.LoadLemmas.{by_tells}
+use Rattle.program_promise.proofs.GainLemmas.{GainsBroken, broke_gains, broke_named}
 use Rattle.ddrescuelog_cli.specs.declared.ending.LogEnding.{LogEnding}
 use Rattle.ddrescuelog_cli.specs.declared.ending.LogEnding.TheVariants.{Done, SiteFault, FeedFault, NoMemory}
 use Rattle.ddrescuelog_cli.specs.Maps.{Found, Maps, AreMapsOf, AreAskedFor, found_in, shape_of}
 use Rattle.ddrescuelog_cli.specs.Modes.{looks_at_places, log_faults, OnlyAnswers, EndsCreated, EndsAs}
 use Rattle.ddrescuelog_cli.specs.Refusals.{ListRefused}
 use Rattle.ddrescuelog_cli.specs.Results.{IsCreated, map_text}
-use Rattle.work_rules.specs.Parts.{only_calls}
+use Rattle.program_promise.specs.Parts.{only_calls}
 use Rattle.ddrescuelog_cli.specs.Work.{WorksOver}
 use Rattle.ddrescuelog_cli.specs.Answers.{TakenBefore, AllTaken}
 use Rattle.ddrescuelog_cli.specs.After.{FeedLeft}

@@ -21,7 +21,7 @@ use Rattle.map_algebra.specs.declared.combine.Op.{Op}
 use Rattle.map_algebra.specs.Change.{changed_map}
 use Rattle.map_algebra.specs.Combine.{combined_map}
 use Rattle.map_algebra.specs.Listing.{listed}
-use Rattle.map_algebra.specs.Summary.{summary_of}
+use Rattle.map_counts.specs.Summary.{summary_of}
 use Rattle.ddrescuelog_words.specs.declared.mode.LogMode.{LogMode}
 use Rattle.ddrescuelog_words.specs.declared.mode.LogMode.TheVariants.{Change, Combine, Complete, ListBlocks, Summarize}
 use Rattle.ddrescuelog_words.specs.Command.{Command}
@@ -31,8 +31,8 @@ use Rattle.ddrescuelog_cli.specs.declared.ending.LogEnding.TheVariants.{Done, Us
 use Rattle.ddrescuelog_cli.specs.Modes.{looks_at_places, prints, puts_pieces, text_of, EndsPrinted, EndsAs}
 use Rattle.ddrescuelog_cli.specs.Maps.{Maps, shape_of, domain_of}
 use Rattle.ddrescuelog_cli.specs.Results.{map_text, number_line, summary_text}
-use Rattle.work_rules.specs.Parts.{only_calls}
-use Rattle.work_rules.proofs.PartLemmas.{idle}
+use Rattle.program_promise.specs.Parts.{only_calls}
+use Rattle.program_promise.proofs.PartLemmas.{idle}
 use Rattle.ddrescuelog_cli.specs.Work.{PlacesRefused, WorksOver}
 use Rattle.ddrescuelog_cli.specs.Printing.{PutsAs, PutsInPieces, PutsPieces}
 use Rattle.ddrescuelog_cli.specs.Steps.{IsLoadedAs, HasFound, printed_as}

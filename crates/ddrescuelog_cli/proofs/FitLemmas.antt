@@ -14,7 +14,7 @@ use Rattle.crash_site.specs.CallsMade.{call_name, BrokeAt}
 use Rattle.save_resume.specs.MapNames.{MapNames, names_of}
 use Rattle.save_resume.specs.Named.{map_mode}
 use Rattle.save_resume.specs.Saving.{fill_calls, save_calls}
-use Rattle.work_rules.specs.Work.{Deeds, with_calls, Take, Look, Make, Works}
+use Rattle.program_promise.specs.Work.{Deeds, with_calls, Take, Look, Make, Works}
 use Rattle.ddrescuelog_words.specs.declared.mode.LogMode.{LogMode}
 use Rattle.ddrescuelog_words.specs.declared.mode.LogMode.TheVariants.{Create, Test, Compare}
 use Rattle.ddrescuelog_words.specs.Modes.{creates, removes_map, mapfile_mode}

@@ -8,7 +8,7 @@ use Rattle.crash_site.specs.declared.site.SiteCall.TheVariants.{MapRead}
 use Rattle.crash_site.specs.Files.{File}
 use Rattle.crash_site.specs.Calls.{Entry}
 use Rattle.crash_site.specs.CallsMade.{BrokeAt}
-use Rattle.work_rules.specs.Work.{Deeds, WorkStep, Take, Look, Open, Make, Read, Works}
+use Rattle.program_promise.specs.Work.{Deeds, WorkStep, Take, Look, Open, Make, Read, Works}
 use Rattle.program_promise.specs.Kinds.{Kind, Asked}
 use Rattle.ddrescuelog_words.specs.declared.mode.LogMode.{LogMode}
 use Rattle.ddrescuelog_words.specs.declared.mode.LogMode.TheVariants.{Create, Test, Compare}

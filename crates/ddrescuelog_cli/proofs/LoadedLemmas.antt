@@ -5,14 +5,14 @@ use Rattle.block_list.specs.declared.status.Status.{Status}
 use Rattle.block_list.specs.Tiled.{Tiled, statuses_in}
 use Rattle.mapfile_text.specs.declared.read.Mode.{Mode}
 use Rattle.mapfile_text.specs.declared.read.Mode.TheVariants.{Tight}
-use Rattle.mapfile_text.specs.declared.read.ReadMap.{ReadMap}
+use Rattle.mapfile_reader.specs.declared.read.ReadMap.{ReadMap}
 use Rattle.crash_site.specs.Files.{File, file_named}
 use Rattle.crash_site.specs.Calls.{Entry, Done as Returned}
 use Rattle.crash_site.specs.SiteState.{SiteState, files_in}
 use Rattle.crash_site.specs.SiteChanges.{Stays}
 use Rattle.save_resume.specs.Named.{map_mode, HasStatuses}
 use Rattle.save_resume.specs.Resuming.{IsReadAs}
-use Rattle.work_rules.specs.Work.{WorkStep}
+use Rattle.program_promise.specs.Work.{WorkStep}
 use Rattle.ddrescuelog_words.specs.Modes.{creates, mapfile_mode}
 use Rattle.ddrescuelog_words.specs.Command.{Command}
 use Rattle.ddrescuelog_cli.specs.declared.ending.Which.{Which}
@@ -22,11 +22,11 @@ use Rattle.ddrescuelog_cli.specs.declared.ending.LogEnding.{LogEnding}
 use Rattle.ddrescuelog_cli.specs.declared.ending.LogEnding.TheVariants.{NoMemory}
 use Rattle.ddrescuelog_cli.specs.Modes.{log_faults}
 use Rattle.ddrescuelog_cli.specs.Maps.{Found, found_in, AreMapsOf, AreAskedFor}
-use Rattle.work_rules.specs.Parts.{Did, only_calls, WentThrough, StoppedIn}
+use Rattle.program_promise.specs.Parts.{Did, only_calls, WentThrough, StoppedIn}
 use Rattle.ddrescuelog_cli.specs.Work.{map_rows, named_rows}
 use Rattle.ddrescuelog_cli.specs.Steps.{ReadsMap, statuses_or_none, ReadsNamed, maps_read, IsLoadedAs, LoadsMaps, ReadCause}
-use Rattle.work_rules.proofs.PartLemmas.{stopped_more, through_then, through_both}
-use Rattle.work_rules.proofs.ReadLemmas.{AreReads}
+use Rattle.program_promise.proofs.PartLemmas.{stopped_more, through_then, through_both}
+use Rattle.program_promise.proofs.ReadLemmas.{AreReads}
 use Rattle.ddrescuelog_cli.proofs.ReadLemmas.{stopped_reads, through_reads, files_stand}
 use Rattle.ddrescuelog_cli.proofs.MapsLemmas.{NamedBy, shown_is_one, has_named}
 

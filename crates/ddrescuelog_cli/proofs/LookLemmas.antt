@@ -16,9 +16,9 @@ use Rattle.crash_site.specs.SiteState.{SiteState, files_in}
 use Rattle.crash_site.proofs.LawLemmas.{after-append}
 use Rattle.save_resume.specs.Loading.{piece_size}
 use Rattle.save_resume.specs.Named.{map_mode}
-use Rattle.work_rules.specs.Work.{Deeds, Works}
+use Rattle.program_promise.specs.Work.{Deeds, Works}
 use Rattle.ddrescuelog_words.specs.Command.{Command}
-use Rattle.work_rules.proofs.LoadLemmas.{by_tells}
+use Rattle.program_promise.proofs.LoadLemmas.{by_tells}
 use Rattle.ddrescuelog_cli.specs.declared.ending.Which.{Which}
 use Rattle.ddrescuelog_cli.specs.declared.ending.Which.TheVariants.{DomainMap, OtherMap}
 use Rattle.ddrescuelog_cli.specs.declared.ending.LogEnding.{LogEnding}
@@ -26,11 +26,11 @@ use Rattle.ddrescuelog_cli.specs.declared.ending.LogEnding.TheVariants.{Exists, 
 use Rattle.ddrescuelog_cli.specs.Modes.{log_faults}
 use Rattle.ddrescuelog_cli.specs.Maps.{Found, found_in}
 use Rattle.ddrescuelog_cli.specs.Refusals.{MapIsThere}
-use Rattle.work_rules.specs.Parts.{only_calls, WentThrough, StoppedIn}
+use Rattle.program_promise.specs.Parts.{only_calls, WentThrough, StoppedIn}
 use Rattle.ddrescuelog_cli.specs.Work.{map_rows, named_rows, SaysIfThere, UnlessThere, WorksOver, WorksAs}
 use Rattle.ddrescuelog_cli.specs.Steps.{ReadsNamed}
 use Rattle.ddrescuelog_cli.specs.Creating.{IsFree, AsksIfThere, Looks}
-use Rattle.work_rules.proofs.PartLemmas.{stopped_more, through_then}
+use Rattle.program_promise.proofs.PartLemmas.{stopped_more, through_then}
 
 -- ---- the question
 

@@ -20,13 +20,13 @@ use Rattle.ddrescuelog_words.specs.Command.{Command}
 use Rattle.program_promise.specs.Kinds.{AtCall, Failed as FailedKind}
 use Rattle.ddrescuelog_cli.specs.declared.ending.LogEnding.{LogEnding}
 use Rattle.ddrescuelog_cli.specs.Answers.{row_of}
-use Rattle.work_rules.specs.Parts.{only_calls}
-use Rattle.work_rules.proofs.SpareLemmas.{AllSpare, spared, save_spares}
+use Rattle.program_promise.specs.Parts.{only_calls}
+use Rattle.program_promise.proofs.SpareLemmas.{AllSpare, spared, save_spares}
 use Rattle.ddrescuelog_cli.specs.Modes.{EndsSaved, EndsAs, removal_calls}
 use Rattle.ddrescuelog_cli.specs.Maps.{Found, Maps}
 use Rattle.ddrescuelog_cli.specs.Stops.{IsChanging}
 use Rattle.ddrescuelog_cli.specs.Work.{LogWorks}
-use Rattle.work_rules.proofs.ReadLemmas.{reads_leave}
+use Rattle.program_promise.proofs.ReadLemmas.{reads_leave}
 use Rattle.ddrescuelog_cli.proofs.AfterReadsLemmas.{AfterReads, IsShort, after_works}
 use Rattle.ddrescuelog_cli.proofs.StopsLemmas.{none_more, reads_run}
 

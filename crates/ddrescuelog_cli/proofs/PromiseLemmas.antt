@@ -7,20 +7,20 @@ use Rattle.option_words.specs.declared.fault.UsageFault.TheVariants.{BadValue, M
 use Rattle.option_words.specs.Grammar.{unless_empty}
 use Rattle.option_words.specs.Values.{empty_operand}
 use Rattle.program_promise.specs.World.{WorldState, Told}
-use Rattle.program_promise.specs.Kinds.{IsWorkKind, Wrong}
+use Rattle.program_promise.specs.Kinds.{IsWorkKind}
 use Rattle.program_promise.specs.WellMade.{IsWellMade}
 use Rattle.program_promise.specs.Promise.{IsDone, Nothing, Message, Says}
-use Rattle.program_promise.proofs.GrammarLemmas.{IsRefusedBy, refused_by}
+use Rattle.program_promise.proofs.GrammarLemmas.{Gives, wrong_by}
 use Rattle.program_promise.proofs.PromiseLemmas.{asked, keeps_promises}
 use Rattle.program_promise.specs.Rows.{usage_kind}
 use Rattle.ddrescuelog_words.specs.declared.mode.LogMode.{LogMode}
 use Rattle.ddrescuelog_words.specs.declared.options.LogOptions.{LogOptions}
 use Rattle.ddrescuelog_words.specs.Options.{options_in}
-use Rattle.ddrescuelog_words.specs.Command.{Command, IsAsked, is_too_long, modes_given, command_by, command_in, size_word, unless_too_long, with_mode, with_operand}
+use Rattle.ddrescuelog_words.specs.Command.{Command, IsAsked, is_too_long, modes_given, command_by, log_grammar, size_word, unless_too_long, with_mode, with_operand}
 use Rattle.save_resume.proofs.FillLemmas.{keeps_self}
 use Rattle.ddrescuelog_cli.specs.declared.ending.LogEnding.{LogEnding}
 use Rattle.ddrescuelog_cli.specs.declared.ending.LogEnding.TheVariants.{Usage, NoMemory}
-use Rattle.ddrescuelog_cli.specs.Answers.{FitsCommand, FitsUsage, IsModeFault, drafting_left, row_of}
+use Rattle.ddrescuelog_cli.specs.Answers.{FitsCommand, FitsUsage, drafting_left, row_of}
 use Rattle.ddrescuelog_cli.specs.Ddrescuelog.{LogKeeps, LogWorked, log_program}
 use Rattle.ddrescuelog_cli.specs.Laws.{LogKeepsPromises}
 use Rattle.ddrescuelog_cli.proofs.AfterLemmas.{feed_keeps}
@@ -28,10 +28,6 @@ use Rattle.ddrescuelog_cli.proofs.FitLemmas.{answers_fit}
 use Rattle.ddrescuelog_cli.proofs.WorkedLemmas.{starved_done}
 
 -- ---- the faults that words may have
-
--- what was read is refused for such a fault, if it is
-abbrev Gives : Result Command UsageFault → Type 0
-Gives r = IsRefusedBy IsModeFault r
 
 operand_gives : (words : List (List ℕ)) (items : List Item) (o : LogOptions) (m : LogMode) (operands : List ℕ)
     → Gives (with_operand words items o m operands)
@@ -44,7 +40,7 @@ mode_gives : (words : List (List ℕ)) (items : List Item) (o : LogOptions) (m :
 mode_gives words items o None operands = tt
 mode_gives words items o (Some m) operands =
     cond_both (nat_eq (modes_given items) 1) (with_operand words items o m operands) (Err (Modes (modes_given items)))
-    Gives (λ on. operand_gives words items o m operands) (λ off. tt)
+    (Gives {C = Command}) (λ on. operand_gives words items o m operands) (λ off. tt)
 
 filled_gives : (e : Option ℕ) (r : Result Command UsageFault) → Gives r → Gives (unless_empty e r)
 filled_gives None (Err f) gives = gives
@@ -54,7 +50,7 @@ filled_gives (Some n) (Ok c) gives = tt
 
 short_gives : (n : ℕ) (r : Result Command UsageFault) → Gives r → Gives (unless_too_long n r)
 short_gives n (Err f) gives = gives
-short_gives n (Ok c) gives = cond_both (is_too_long c) (Err (BadValue n)) (Ok c) Gives (λ on. tt) (λ off. tt)
+short_gives n (Ok c) gives = cond_both (is_too_long c) (Err (BadValue n)) (Ok c) (Gives {C = Command}) (λ on. tt) (λ off. tt)
 
 words_give : (words : List (List ℕ)) (items : List Item) (r : Result LogOptions ℕ) (operands : List ℕ)
     → Gives (command_by words items r operands)
@@ -75,10 +71,6 @@ fits_work : (e : LogEnding) (c : Command) → FitsCommand e c → IsWorkKind (ro
 fits_work (Usage fault) c fits = usage_works fault c fits
 fits_work e c fits = tt
 
-wrong_is : (fault : UsageFault) → IsModeFault fault → usage_kind fault ≡ Wrong fault
-wrong_is PlaceTooLarge has = absurd has
-wrong_is _ has = refl
-
 -- nothing was done
 abbrev Idle : LogEnding → Type 0
 Idle e = (w : WorldState) → w.site.is_drafting ≡ false → LogKeeps e w w
@@ -87,17 +79,14 @@ still : (e : LogEnding) → drafting_left e ≡ false → Idle e
 still e none w begins =
     record { site = keeps_self w.site; feed_ = feed_keeps w.feed_; image = refl; draft = begins ∙ sym none }
 
-pub log_made : IsWellMade log_program
+pub log_made : IsWellMade log_program (λ w. w.site.is_drafting ≡ false) (λ fault. Usage fault)
 log_made = record {
   memory = refl;
   memory_idle = record { also = tt; keeps = still NoMemory refl };
-  wrong = wrong_is;
-  wrong_idle = λ fault has. record { also = tt; keeps = still (Usage fault) refl };
+  wrong = wrong_by log_grammar
+      (λ words items operands. words_give words items (options_in words items) operands);
+  wrong_idle = λ fault. record { also = tt; keeps = still (Usage fault) refl };
   faults = record { memory = λ v. v; input = λ v. v; call = λ call v. v };
-  reads = λ fault never. never;
-  gives = λ words items operands fault is.
-      refused_by IsModeFault (command_in words items operands) fault
-      (words_give words items (options_in words items) operands) is;
   starves = λ c line w begins. starved_done c line w;
   work = λ c line e old new done.
       let fits : FitsCommand e c =

@@ -7,11 +7,11 @@ use Rattle.crash_site.specs.Folder.{Folder, after}
 use Rattle.crash_site.specs.SiteState.{SiteState, files_in}
 use Rattle.crash_site.proofs.LawLemmas.{after-append}
 use Rattle.rescue_rules.specs.Work.{AreMapReads}
-use Rattle.work_rules.specs.Work.{Deeds, WorkStep, Take, Look, Open, Make, Read, Works, with_calls}
-use Rattle.work_rules.proofs.FrontLemmas.{load_reads}
-use Rattle.work_rules.proofs.ReadLemmas.{AreReads, same_reads, maps_are, maps_then, maps_broke, reads_leave}
+use Rattle.program_promise.specs.Work.{Deeds, WorkStep, Take, Look, Open, Make, Read, Works, with_calls}
+use Rattle.program_promise.proofs.FrontLemmas.{load_reads}
+use Rattle.program_promise.proofs.ReadLemmas.{AreReads, same_reads, maps_are, maps_then, maps_broke, reads_leave}
 use Rattle.ddrescuelog_cli.specs.declared.ending.LogEnding.{LogEnding}
-use Rattle.work_rules.specs.Parts.{only_calls, WentThrough, StoppedIn}
+use Rattle.program_promise.specs.Parts.{only_calls, WentThrough, StoppedIn}
 use Rattle.ddrescuelog_cli.specs.Modes.{log_faults}
 
 -- ---- rows

@@ -11,20 +11,20 @@ use Rattle.crash_site.specs.Calls.{Entry, Done as Returned, map_remove, map_sett
 use Rattle.crash_site.specs.CallsMade.{Lost, BrokeAt}
 use Rattle.crash_site.specs.SiteState.{SiteState}
 use Rattle.save_resume.specs.Saving.{IsNameIn}
-use Rattle.work_rules.specs.Work.{Deeds}
+use Rattle.program_promise.specs.Work.{Deeds}
 use Rattle.ddrescuelog_words.specs.declared.mode.LogMode.TheVariants.{Test}
 use Rattle.ddrescuelog_words.specs.Command.{Command}
-use Rattle.work_rules.proofs.LoadLemmas.{by_tells}
+use Rattle.program_promise.proofs.LoadLemmas.{by_tells}
 use Rattle.ddrescuelog_cli.specs.declared.ending.LogEnding.{LogEnding}
 use Rattle.ddrescuelog_cli.specs.declared.ending.LogEnding.TheVariants.{Done, SiteFault}
 use Rattle.ddrescuelog_cli.specs.declared.load.LoadedMaps.{LoadedMaps}
 use Rattle.ddrescuelog_cli.specs.Maps.{Maps, domain_of}
 use Rattle.ddrescuelog_cli.specs.Modes.{looks_at_places, EndsAs, IsNotDone, removal_calls}
-use Rattle.work_rules.specs.Parts.{only_calls}
+use Rattle.program_promise.specs.Parts.{only_calls}
 use Rattle.ddrescuelog_cli.specs.Work.{WorksOver}
 use Rattle.ddrescuelog_cli.specs.Steps.{IsLoadedAs}
 use Rattle.ddrescuelog_cli.specs.Removing.{RemovesDone}
-use Rattle.work_rules.proofs.GainLemmas.{GainsBroken, broke_gains}
+use Rattle.program_promise.proofs.GainLemmas.{GainsBroken, broke_gains}
 use Rattle.ddrescuelog_cli.proofs.CallLemmas.{Broken, broken_at}
 
 over_remove : (c : Command) (line list : List ℕ) (m : Maps) (e : LogEnding) (d : Deeds) → c.mode ≡ Test true

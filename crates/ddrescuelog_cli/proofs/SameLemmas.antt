@@ -10,9 +10,9 @@ use Rattle.mapfile_text.specs.MapText.{text_limit}
 use Rattle.mapfile_text.proofs.MapOrFault.{is_map_or_has_fault}
 use Rattle.crash_site.specs.Files.{File}
 use Rattle.save_resume.specs.Named.{IsMapOf, map_mode}
-use Rattle.work_rules.specs.Work.{Deeds, with_calls, WorkStep, Take, Look, Open, Make, Read, Works}
-use Rattle.work_rules.specs.Verdicts.{RefuseNothing}
-use Rattle.work_rules.proofs.VerdictLemmas.{one_verdict}
+use Rattle.program_promise.specs.Work.{Deeds, with_calls, WorkStep, Take, Look, Open, Make, Read, Works}
+use Rattle.program_promise.specs.Verdicts.{RefuseNothing}
+use Rattle.program_promise.proofs.VerdictLemmas.{one_verdict}
 use Rattle.ddrescuelog_words.specs.declared.mode.LogMode.{LogMode}
 use Rattle.ddrescuelog_words.specs.declared.mode.LogMode.TheVariants.{Create}
 use Rattle.ddrescuelog_words.specs.Modes.{creates, mapfile_mode}

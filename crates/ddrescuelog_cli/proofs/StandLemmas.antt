@@ -6,7 +6,7 @@ use Rattle.crash_site.specs.Left.{MayShow}
 use Rattle.crash_site.specs.SiteState.{SiteState}
 use Rattle.crash_site.proofs.LawLemmas.{left_past}
 use Rattle.save_resume.specs.SaveStops.{disk_of}
-use Rattle.work_rules.proofs.ReadLemmas.{AreReads, reads_at}
+use Rattle.program_promise.proofs.ReadLemmas.{AreReads, reads_at}
 use Rattle.ddrescuelog_cli.specs.Stops.{LeavesAll}
 
 pub leave_all : (site : SiteState) (calls : List Entry) → AreReads calls → LeavesAll site calls

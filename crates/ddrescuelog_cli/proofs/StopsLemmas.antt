@@ -18,7 +18,7 @@ use Rattle.save_resume.specs.MapNames.{names_of}
 use Rattle.save_resume.specs.Saving.{save_calls}
 use Rattle.save_resume.specs.SaveStops.{disk_of, text_file, Old, New, IsSaved, IsEmptyDraft, LeftAt, CouldBefore}
 use Rattle.rescue_rules.proofs.BeforeLemmas.{or_found, look_shown}
-use Rattle.work_rules.specs.Work.{IsIdle}
+use Rattle.program_promise.specs.Work.{IsIdle}
 use Rattle.ddrescuelog_words.specs.declared.mode.LogMode.{LogMode}
 use Rattle.ddrescuelog_words.specs.declared.mode.LogMode.TheVariants.{Create, Test, Compare}
 use Rattle.ddrescuelog_words.specs.Modes.{creates}
@@ -26,11 +26,11 @@ use Rattle.ddrescuelog_words.specs.Command.{Command}
 use Rattle.map_algebra.specs.Compare.{IsDoneIn}
 use Rattle.map_algebra.specs.Numbers.{numbers_in}
 use Rattle.save_resume.proofs.NameLemmas.{apart_draft}
-use Rattle.work_rules.proofs.ReadLemmas.{AreReads, reads_keep, reads_until, same_reads}
-use Rattle.work_rules.proofs.SavedLemmas.{HasSaved, stops_by_save, saved_by, save_after}
+use Rattle.program_promise.proofs.ReadLemmas.{AreReads, reads_keep, reads_until, same_reads}
+use Rattle.program_promise.proofs.SavedLemmas.{HasSaved, stops_by_save, saved_by, save_after}
 use Rattle.ddrescuelog_cli.specs.declared.ending.LogEnding.{LogEnding}
 use Rattle.ddrescuelog_cli.specs.declared.ending.LogEnding.TheVariants.{Done, NotDone, ListTooLong}
-use Rattle.work_rules.specs.Parts.{only_calls}
+use Rattle.program_promise.specs.Parts.{only_calls}
 use Rattle.ddrescuelog_cli.specs.Modes.{EndsPrinted, EndsSaved, EndsCreated, EndsAs, removal_calls, Replaces}
 use Rattle.ddrescuelog_cli.specs.Maps.{Found, Maps, domain_of, shape_of}
 use Rattle.ddrescuelog_cli.specs.Refusals.{ListRefused}

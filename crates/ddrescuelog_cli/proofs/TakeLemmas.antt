@@ -3,7 +3,7 @@ use Rattle.std.proofs.Common.{◌≡◌, ◌⊎◌, ℕ, ◌<◌, Bool, IsTrue, 
 use Rattle.fault_count.specs.Counts.{Rose}
 use Rattle.map_algebra.specs.Numbers.{list_limit}
 use Rattle.rescue_console.specs.FeedState.{FeedState, Keeps}
-use Rattle.work_rules.proofs.LoadLemmas.{by_tells}
+use Rattle.program_promise.proofs.LoadLemmas.{by_tells}
 use Rattle.ddrescuelog_cli.specs.declared.ending.LogEnding.{LogEnding}
 use Rattle.ddrescuelog_cli.specs.declared.ending.LogEnding.TheVariants.{ListTooLong, FeedFault, NoMemory}
 use Rattle.ddrescuelog_cli.specs.After.{FeedLeft}

@@ -7,9 +7,9 @@ use Rattle.mapfile_text.specs.declared.read.Mode.TheVariants.{Tight}
 use Rattle.crash_site.specs.Files.{File}
 use Rattle.save_resume.specs.Named.{map_mode}
 use Rattle.save_resume.proofs.AnswerLemmas.{refused_for_one}
-use Rattle.work_rules.specs.Work.{Deeds, Take, Look, Make, Works}
-use Rattle.work_rules.specs.Verdicts.{IsOnce, RefuseOnce, AreVerdicts}
-use Rattle.work_rules.proofs.VerdictLemmas.{one_verdict}
+use Rattle.program_promise.specs.Work.{Deeds, Take, Look, Make, Works}
+use Rattle.program_promise.specs.Verdicts.{IsOnce, RefuseOnce, AreVerdicts}
+use Rattle.program_promise.proofs.VerdictLemmas.{one_verdict}
 use Rattle.ddrescuelog_words.specs.declared.mode.LogMode.{LogMode}
 use Rattle.ddrescuelog_words.specs.declared.mode.LogMode.TheVariants.{Create, Test, Compare}
 use Rattle.map_algebra.specs.Numbers.{numbers_in}

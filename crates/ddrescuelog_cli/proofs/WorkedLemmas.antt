@@ -6,7 +6,7 @@ use Rattle.crash_site.specs.SiteChanges.{Stays, Keeps as SiteKeeps}
 use Rattle.rescue_console.specs.FeedState.{FeedState}
 use Rattle.rescue_console.specs.ConsoleState.{ConsoleState}
 use Rattle.mapfile_text.specs.HeadingLines.{HeadingLines}
-use Rattle.work_rules.specs.Work.{IsOnlyCalls, Take}
+use Rattle.program_promise.specs.Work.{IsOnlyCalls, Take}
 use Rattle.program_promise.specs.World.{WorldState}
 use Rattle.program_promise.specs.Program.{line_by}
 use Rattle.program_promise.specs.Promise.{DoneFor}
@@ -19,7 +19,7 @@ use Rattle.ddrescuelog_cli.specs.declared.ending.LogEnding.TheVariants.{NoMemory
 use Rattle.ddrescuelog_cli.specs.Modes.{prints, puts_pieces, text_of, log_faults}
 use Rattle.ddrescuelog_cli.specs.Maps.{Found, Maps, found_in, AreMapsOf, AreAskedFor}
 use Rattle.ddrescuelog_cli.specs.Outside.{Outside}
-use Rattle.work_rules.specs.Parts.{only_calls}
+use Rattle.program_promise.specs.Parts.{only_calls}
 use Rattle.ddrescuelog_cli.specs.Work.{read_rows, WorksOver, LogWorks, WorksAs}
 use Rattle.ddrescuelog_cli.specs.Answers.{TakesFeed}
 use Rattle.ddrescuelog_cli.specs.After.{FeedLeft, SiteLeft}
@@ -30,8 +30,8 @@ use Rattle.ddrescuelog_cli.specs.Stops.{OnlyReads, LeavesFiles, LeavesAll}
 use Rattle.ddrescuelog_cli.specs.Steps.{ReadCause, LoadsMaps, IsLoadedAs, HasFound}
 use Rattle.ddrescuelog_cli.specs.Worked.{FeedAfter, Ran}
 use Rattle.ddrescuelog_cli.specs.Ddrescuelog.{LogWorked, handed, log_program}
-use Rattle.work_rules.proofs.PartLemmas.{stopped_more, through_then}
-use Rattle.work_rules.proofs.ReadLemmas.{AreReads}
+use Rattle.program_promise.proofs.PartLemmas.{stopped_more, through_then}
+use Rattle.program_promise.proofs.ReadLemmas.{AreReads}
 use Rattle.ddrescuelog_cli.proofs.ReadLemmas.{files_stand}
 use Rattle.ddrescuelog_cli.proofs.StandLemmas.{leave_all}
 use Rattle.ddrescuelog_cli.proofs.StopsLemmas.{stops_safely, works_read}

@@ -7,7 +7,6 @@ use Rattle.crash_site.specs.declared.site.SiteCall.{SiteCall}
 use Rattle.crash_site.specs.declared.site.SiteCall.TheVariants.{ImageOpen, ImageRead, ImageWrite, ImageSync, MapRead, DraftBegin, DraftAppend, DraftSync, DraftPublish, MapSettle, MapRemove}
 use Rattle.rescue_console.specs.FeedState.{FeedState}
 use Rattle.save_resume.specs.Saving.{drafting_after_fault}
-use Rattle.option_words.specs.declared.fault.WordFault.TheVariants.{NoMemory as WordNoMemory}
 use Rattle.option_words.specs.declared.fault.UsageFault.{UsageFault}
 use Rattle.option_words.specs.declared.fault.UsageFault.TheVariants.{Word, BadValue, Conflict, Modes, Operands, PlaceTooLarge}
 use Rattle.console_texts.specs.Texts.{error_text, fault_text, at_line, message_of}
@@ -62,15 +61,6 @@ text_of_ending e = (row_of e).text
 -- the message on standard error for an answer
 abbrev pub message : LogEnding → List ℕ
 message e = message_of program_name (text_of_ending e)
-
--- the faults that words may have; no options conflict, and lack of memory is no fault of words
-abbrev pub IsModeFault : UsageFault → Type 0
-IsModeFault (Word fault) = fault ≢ WordNoMemory
-IsModeFault (BadValue n) = ⊤
-IsModeFault (Conflict n) = ⊥
-IsModeFault (Modes given) = ⊤
-IsModeFault (Operands given) = ⊤
-IsModeFault PlaceTooLarge = ⊥
 
 -- ---- the command
 

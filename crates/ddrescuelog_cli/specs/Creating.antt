@@ -15,7 +15,7 @@ use Rattle.save_resume.specs.Named.{map_mode, HasStatuses}
 use Rattle.save_resume.specs.Saving.{save_calls}
 use Rattle.map_algebra.specs.Create.{created_map}
 use Rattle.map_algebra.specs.Numbers.{list_limit, numbers_in}
-use Rattle.work_rules.specs.Work.{Make, Works}
+use Rattle.program_promise.specs.Work.{Make, Works}
 use Rattle.ddrescuelog_words.specs.declared.options.LogOptions.{LogOptions}
 use Rattle.ddrescuelog_words.specs.Command.{Command}
 use Rattle.ddrescuelog_cli.specs.declared.ending.LogEnding.{LogEnding}
@@ -24,7 +24,7 @@ use Rattle.ddrescuelog_cli.specs.Modes.{log_faults, OnlyAnswers}
 use Rattle.ddrescuelog_cli.specs.Maps.{Found, Maps, found_in, AreMapsOf, AreAskedFor, shape_of}
 use Rattle.ddrescuelog_cli.specs.Refusals.{MapIsThere, ListRefused}
 use Rattle.ddrescuelog_cli.specs.Results.{ListEndsAt}
-use Rattle.work_rules.specs.Parts.{only_calls}
+use Rattle.program_promise.specs.Parts.{only_calls}
 use Rattle.ddrescuelog_cli.specs.Work.{SaysIfThere, UnlessThere, WorksOver, WorksAs}
 use Rattle.ddrescuelog_cli.specs.Steps.{ReadCause}
 use Rattle.ddrescuelog_cli.specs.After.{FeedLeft}

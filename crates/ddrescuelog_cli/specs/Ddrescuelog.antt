@@ -1,12 +1,12 @@
 -- `ddrescuelog` as a program, and its promise.
-use Rattle.std.specs.Prelude.{◌≡◌, ◌≢◌, ◌⊎◌, ℕ, Bool, true, false, IsTrue, List}
+use Rattle.std.specs.Prelude.{◌≡◌, ◌≢◌, ◌⊎◌, ℕ, Bool, true, IsTrue, List}
 use Rattle.crash_site.specs.SiteState.{SiteState, files_in}
 use Rattle.crash_site.specs.SiteChanges.{Keeps as SiteKeeps}
 use Rattle.rescue_console.specs.FeedState.{FeedState, Keeps as FeedKeeps}
 use Rattle.rescue_console.specs.ConsoleState.{ConsoleState}
 use Rattle.save_resume.specs.MapNames.{names_of}
 use Rattle.save_resume.specs.SaveStops.{IsEmptyDraft}
-use Rattle.work_rules.specs.Work.{Deeds}
+use Rattle.program_promise.specs.Work.{Deeds}
 use Rattle.program_promise.specs.World.{WorldState, no_clock, no_source, Told}
 use Rattle.program_promise.specs.Kinds.{AtCall, Failed}
 use Rattle.program_promise.specs.Program.{Program}
@@ -14,13 +14,12 @@ use Rattle.program_promise.specs.Promise.{IsDone, Promise, Worked}
 use Rattle.ddrescuelog_words.specs.Modes.{creates}
 use Rattle.ddrescuelog_words.specs.Command.{Command, log_grammar}
 use Rattle.ddrescuelog_cli.specs.declared.ending.LogEnding.{LogEnding}
-use Rattle.ddrescuelog_cli.specs.declared.ending.LogEnding.TheVariants.{Usage}
 use Rattle.ddrescuelog_cli.specs.Names.{program_name}
 use Rattle.ddrescuelog_cli.specs.Modes.{prints, puts_pieces, text_of, log_faults}
 use Rattle.ddrescuelog_cli.specs.Outside.{Agrees, Outside}
 use Rattle.ddrescuelog_cli.specs.Work.{RunsAs, first_rows}
 use Rattle.ddrescuelog_cli.specs.Stops.{IsChanging, StopsSafely, OnlyReads, LeavesFiles, LeavesAll}
-use Rattle.ddrescuelog_cli.specs.Answers.{FitsCommand, IsModeFault, TakesFeed, drafting_left, row_of}
+use Rattle.ddrescuelog_cli.specs.Answers.{FitsCommand, TakesFeed, drafting_left, row_of}
 use Rattle.ddrescuelog_cli.specs.Printing.{PutsAs, PutsInPieces}
 
 -- what it is handed: files, a feed and a console
@@ -64,21 +63,18 @@ pub record LogKeeps (e : LogEnding) (old new : WorldState) : Type 0 where
   pub image : new.site.is_open ≡ old.site.is_open
   pub draft : new.site.is_drafting ≡ drafting_left e
 
--- The program is called with no draft begun. Its work finds the maps and the list outside of it.
+-- Its work finds the maps and the list outside of it.
 abbrev pub log_program : Program Command LogEnding Outside
 log_program = record {
   name = program_name;
   grammar = log_grammar;
-  HasFault = IsModeFault;
   row = row_of;
-  wrong = λ fault. Usage fault;
   faults = log_faults;
   Fits = λ c e. FitsCommand e c;
   rows = λ c o. first_rows (creates c.mode) c o.found;
   Run = λ c line o. RunsAs (creates c.mode) c o.line o.list o.found o.maps;
   Agrees = Agrees;
   Leaves = LeavesAs;
-  Begins = λ w. w.site.is_drafting ≡ false;
   Keeps = LogKeeps;
 }
 

@@ -7,8 +7,8 @@ use Rattle.mapfile_text.specs.declared.read.Mode.TheVariants.{Tight}
 use Rattle.crash_site.specs.SiteState.{files_in}
 use Rattle.save_resume.specs.SaveStops.{text_file}
 use Rattle.map_algebra.specs.Create.{created_map}
-use Rattle.work_rules.specs.Work.{Deeds, WorkStep}
-use Rattle.work_rules.specs.Verdicts.{RefuseNothing}
+use Rattle.program_promise.specs.Work.{Deeds, WorkStep}
+use Rattle.program_promise.specs.Verdicts.{RefuseNothing}
 use Rattle.program_promise.specs.Kinds.{Kind, Asked, Brought, Wrong, Failed, Starved}
 use Rattle.program_promise.specs.Program.{line_by}
 use Rattle.program_promise.specs.World.{Told}

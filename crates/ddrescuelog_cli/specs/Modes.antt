@@ -11,8 +11,8 @@ use Rattle.map_algebra.specs.Combine.{combined_map}
 use Rattle.map_algebra.specs.Compare.{IsDoneIn, IsOpenIn, AgreeIn, DifferIn, FinishAlikeIn, FinishUnlikeIn}
 use Rattle.map_algebra.specs.Listing.{listed}
 use Rattle.map_algebra.specs.Numbers.{numbers_in}
-use Rattle.map_algebra.specs.Summary.{summary_of}
-use Rattle.work_rules.specs.Work.{Deeds, IsIdle, Faults, Look, Make, Works}
+use Rattle.map_counts.specs.Summary.{summary_of}
+use Rattle.program_promise.specs.Work.{Deeds, IsIdle, Faults, Look, Make, Works}
 use Rattle.ddrescuelog_words.specs.declared.mode.LogMode.{LogMode}
 use Rattle.ddrescuelog_words.specs.declared.mode.LogMode.TheVariants.{Change, Combine, Complete, ListBlocks, Create, Test, Compare, Summarize}
 use Rattle.ddrescuelog_words.specs.Command.{Command}

@@ -1,7 +1,7 @@
 -- What the work of `ddrescuelog` finds outside of it, and how that agrees with what the objects tell.
 use Rattle.std.specs.Prelude.{◌≡◌, ℕ, IsTrue, List, ◌++◌}
 use Rattle.crash_site.specs.SiteState.{files_in}
-use Rattle.work_rules.specs.Work.{Deeds, IsOnlyCalls}
+use Rattle.program_promise.specs.Work.{Deeds, IsOnlyCalls}
 use Rattle.program_promise.specs.World.{WorldState}
 use Rattle.ddrescuelog_words.specs.Command.{Command}
 use Rattle.ddrescuelog_cli.specs.Maps.{Found, Maps, found_in, AreMapsOf, AreAskedFor}

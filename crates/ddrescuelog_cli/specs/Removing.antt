@@ -5,7 +5,7 @@ use Rattle.crash_site.specs.SiteState.{SiteState}
 use Rattle.ddrescuelog_words.specs.Command.{Command}
 use Rattle.ddrescuelog_cli.specs.declared.ending.LogEnding.{LogEnding}
 use Rattle.ddrescuelog_cli.specs.Maps.{Maps}
-use Rattle.work_rules.specs.Parts.{only_calls}
+use Rattle.program_promise.specs.Parts.{only_calls}
 use Rattle.ddrescuelog_cli.specs.Work.{WorksOver}
 
 -- A removal ends as the work over these maps does, with calls that are the site's own if it tells.

@@ -9,7 +9,7 @@ use Rattle.mapfile_text.specs.declared.state.MapState.{MapState}
 use Rattle.mapfile_text.specs.declared.state.Current.TheVariants.{Copying}
 use Rattle.mapfile_text.specs.Printed.{with_newline, printed, current_symbol}
 use Rattle.block_list.specs.declared.areas.Count.{Count}
-use Rattle.map_algebra.specs.declared.summary.Summary.{Summary}
+use Rattle.map_counts.specs.declared.summary.Summary.{Summary}
 use Rattle.map_algebra.specs.Listing.{Wanted}
 use Rattle.map_algebra.specs.Blocks.{IsEndOfBlocks}
 use Rattle.map_algebra.specs.Create.{created_map}

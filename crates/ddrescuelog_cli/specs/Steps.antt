@@ -6,7 +6,7 @@ use Rattle.block_list.specs.Tiled.{Tiled, statuses_in}
 use Rattle.mapfile_text.specs.declared.read.Mode.{Mode}
 use Rattle.mapfile_text.specs.declared.read.MapError.{MapError}
 use Rattle.mapfile_text.specs.declared.read.MapError.TheVariants.{NoMemory as OutOfMemory}
-use Rattle.mapfile_text.specs.declared.read.ReadMap.{ReadMap}
+use Rattle.mapfile_reader.specs.declared.read.ReadMap.{ReadMap}
 use Rattle.mapfile_text.specs.declared.heading.Program.TheVariants.{Ddrescuelog}
 use Rattle.mapfile_text.specs.HeadingLines.{HeadingLines}
 use Rattle.rescue_console.specs.ConsoleState.{ConsoleState}
@@ -17,7 +17,7 @@ use Rattle.crash_site.specs.Calls.{Entry}
 use Rattle.crash_site.specs.SiteState.{SiteState, files_in}
 use Rattle.save_resume.specs.Named.{HasStatuses}
 use Rattle.save_resume.specs.Resuming.{IsReadAs}
-use Rattle.work_rules.specs.Work.{Take}
+use Rattle.program_promise.specs.Work.{Take}
 use Rattle.ddrescuelog_words.specs.Command.{Command}
 use Rattle.ddrescuelog_cli.specs.declared.ending.Which.{Which}
 use Rattle.ddrescuelog_cli.specs.declared.load.LoadedMaps.{LoadedMaps}
@@ -26,7 +26,7 @@ use Rattle.ddrescuelog_cli.specs.declared.ending.LogEnding.TheVariants.{Done, No
 use Rattle.ddrescuelog_cli.specs.Maps.{Found, Maps, found_in, AreMapsOf, AreAskedFor, domain_of}
 use Rattle.ddrescuelog_cli.specs.Modes.{text_of, prints, puts_pieces, log_faults}
 use Rattle.ddrescuelog_cli.specs.Printing.{PutsAs, PutsInPieces}
-use Rattle.work_rules.specs.Parts.{DidPart, only_calls, StoppedIn, WentThrough}
+use Rattle.program_promise.specs.Parts.{DidPart, only_calls, StoppedIn, WentThrough}
 use Rattle.ddrescuelog_cli.specs.Work.{map_rows, read_rows, WorksOver}
 
 -- what the read of a map that is named did

@@ -15,7 +15,7 @@ use Rattle.save_resume.specs.Named.{map_mode}
 use Rattle.option_words.specs.declared.fault.UsageFault.TheVariants.{PlaceTooLarge}
 use Rattle.rescue_domain.specs.Domain.{whole_domain}
 use Rattle.rescue_domain.specs.Places.{IsAnyBeyond}
-use Rattle.work_rules.specs.Work.{Deeds, IsOnlyCalls, with_calls, WorkStep, Take, Look, Read, Works}
+use Rattle.program_promise.specs.Work.{Deeds, IsOnlyCalls, with_calls, WorkStep, Take, Look, Read, Works}
 use Rattle.ddrescuelog_words.specs.Modes.{creates, mapfile_mode}
 use Rattle.ddrescuelog_words.specs.Command.{Command}
 use Rattle.ddrescuelog_cli.specs.declared.ending.Which.{Which}

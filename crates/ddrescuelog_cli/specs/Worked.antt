@@ -7,7 +7,7 @@ use Rattle.ddrescuelog_words.specs.Command.{Command}
 use Rattle.ddrescuelog_cli.specs.declared.ending.LogEnding.{LogEnding}
 use Rattle.ddrescuelog_cli.specs.Modes.{prints, puts_pieces, text_of}
 use Rattle.ddrescuelog_cli.specs.Outside.{Agrees, Outside}
-use Rattle.work_rules.specs.Parts.{only_calls}
+use Rattle.program_promise.specs.Parts.{only_calls}
 use Rattle.ddrescuelog_cli.specs.Work.{LogWorks}
 use Rattle.ddrescuelog_cli.specs.Answers.{TakesFeed}
 use Rattle.ddrescuelog_cli.specs.After.{feed_count}

@@ -2,7 +2,7 @@
 ghost use Rattle.std.specs.Prelude.{◌≡◌, ℕ, true, false, length};
 ghost use Rattle.rescue_domain.specs.Parts.{covers};
 ghost use Rattle.rescue_domain.specs.Domain.{whole_domain};
-ghost use Rattle.map_algebra.specs.At.{IsWithinMap};
+ghost use Rattle.map_counts.specs.At.{IsWithinMap};
 ghost use Rattle.ddrescuelog_words.specs.Modes.{creates, has_other, removes_map};
 ghost use Rattle.ddrescuelog_words.specs.Command.{AreInLimits, told_by};
 ghost use Rattle.ddrescuelog_cli.specs.Maps.{Maps};
@@ -20,7 +20,7 @@ use ddrescuelog_words::mode::LogMode;
 use map_algebra::change::change_types;
 use map_algebra::combine::combine;
 use map_algebra::compare::{is_done, same, same_finished};
-use map_algebra::summary::Summary;
+use map_counts::summary::Summary;
 use mapfile_text::heading::Heading;
 use rescue_console::console::Console;
 use std::alloc::Global;

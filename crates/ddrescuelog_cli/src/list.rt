@@ -3,7 +3,7 @@ ghost use Rattle.std.specs.Prelude.{◌≡◌, ◌⊎◌, ℕ, ◌<◌, ◌≤�
 ghost use Rattle.rescue_domain.specs.Parts.{covers};
 ghost use Rattle.rescue_domain.specs.Domain.{whole_domain};
 ghost use Rattle.rescue_domain.specs.Places.{AreAllPlaced, IsAnyBeyond};
-ghost use Rattle.map_algebra.specs.At.{IsWithinMap};
+ghost use Rattle.map_counts.specs.At.{IsWithinMap};
 ghost use Rattle.map_algebra.specs.Listing.{listed, wanted_of};
 ghost use Rattle.ddrescuelog_cli.specs.Maps.{shape_of};
 ghost use Rattle.ddrescuelog_cli.specs.Results.{number_line};

@@ -1,7 +1,7 @@
 //! Removes a mapfile that is done.
 ghost use Rattle.std.specs.Prelude.{◌≡◌, true};
 ghost use Rattle.rescue_domain.specs.Parts.{covers};
-ghost use Rattle.map_algebra.specs.At.{IsWithinMap};
+ghost use Rattle.map_counts.specs.At.{IsWithinMap};
 ghost use Rattle.ddrescuelog_words.specs.Command.{told_by};
 ghost use Rattle.ddrescuelog_cli.specs.Maps.{Maps};
 ghost use Rattle.ddrescuelog_cli.specs.Steps.{IsLoadedAs};

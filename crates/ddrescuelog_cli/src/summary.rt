@@ -7,7 +7,7 @@ use crate::pieces::Buffer;
 use block_list::areas::Count;
 use block_list::status::Status;
 use console_texts::message::{Message, add, add_number};
-use map_algebra::summary::Summary;
+use map_counts::summary::Summary;
 use mapfile_text::state::MapState;
 
 /// How a status is called.

@@ -1,8 +1,9 @@
 //! The line after the message: why an answer came, by the file that the arguments name. After the search there may
 //! be a line on reads past the kernel's cache.
 use ddrescuepart_cli::ending::PartEnding;
-use ddrescuepart_words::command::{ROWS, read_command};
-use faulty_source::file::FileSource;
+use ddrescuepart_words::command::{Command, read_command};
+use file_source::file::FileSource;
+use option_words::asked::read_asked;
 use option_words::words::Words;
 use partition_domain::stop::Refusal;
 use program_advice::cause::{Cause, Hint, Named, Role, Stream};
@@ -18,7 +19,6 @@ fn manual() -> Manual {
         usage: "ddrescuepart [-q] infile number; 'man ddrescuepart' lists the options and names the version",
         option: "an option of this program; 'man ddrescuepart' lists them",
         operand: "a file's name, or the number of a partition from 1 to 132",
-        rows: &ROWS,
     }
 }
 
@@ -62,9 +62,9 @@ pub fn advise(
     source: &FileSource,
     put: Option<io::Error>,
 ) -> Option<Line> {
-    let command = match read_command(rt.alloc(), words) {
+    let command: Command<'_> = match read_asked(rt.alloc(), words) {
         Ok(command) => command,
-        Err(error) => return line_on_words(PROGRAM, rt.alloc(), words, error, manual()),
+        Err(refusal) => return line_on_words(PROGRAM, words, refusal, manual()),
     };
     if command.quiet {
         return None;

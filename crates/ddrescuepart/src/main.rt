@@ -3,7 +3,7 @@
 
 use advice::{advise, line_after};
 use ddrescuepart_cli::part::ddrescuepart;
-use faulty_source::file::FileSource;
+use file_source::file::FileSource;
 use program_advice::put::put_line;
 use program_start::status::status_of;
 use program_start::streams::{ClosedStream, fill_streams};

@@ -1,7 +1,7 @@
 -- Nothing else is answered than what the records bring, a refusal, a failure or want of memory; and a disk brings one
 -- verdict at most.
 use Rattle.std.proofs.Common.{◌≡◌, ℕ, List, [], Option, Some, None, refl, sym, ap, ◌∙◌, inl, inr, subst}
-use Rattle.work_rules.specs.Work.{Deeds}
+use Rattle.program_promise.specs.Work.{Deeds}
 use Rattle.program_promise.specs.Kinds.{Starved}
 use Rattle.program_promise.proofs.PromiseLemmas.{keeps_promises}
 use Rattle.partition_domain.specs.declared.stop.Refusal.{Refusal}

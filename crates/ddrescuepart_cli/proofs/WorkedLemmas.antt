@@ -11,7 +11,7 @@ use Rattle.faulty_source.specs.SourceChanges.{AnswersOpen, OpensBySchedule, Stay
 use Rattle.faulty_source.proofs.Keeping.{keeps_more, keeps_self}
 use Rattle.rescue_console.specs.declared.console.Channel.TheVariants.{Out}
 use Rattle.rescue_console.specs.ConsoleState.{ConsoleState, Puts, PutsPart}
-use Rattle.work_rules.specs.Work.{Deeds, Opened, Unopened}
+use Rattle.program_promise.specs.Work.{Deeds, Opened, Unopened}
 use Rattle.program_promise.specs.World.{WorldState}
 use Rattle.program_promise.specs.Printing.{PutsText}
 use Rattle.program_promise.specs.Program.{line_by}
@@ -24,7 +24,7 @@ use Rattle.partition_domain.specs.Reads.{AreNext, HasPart, losses_after, records
 use Rattle.partition_domain.specs.Steps.{Searched}
 use Rattle.partition_domain.proofs.ReadLemmas.{few_reads}
 use Rattle.ddrescuepart_words.specs.Command.{Command}
-use Rattle.work_rules.proofs.PartLemmas.{no_deeds}
+use Rattle.program_promise.proofs.PartLemmas.{no_deeds}
 use Rattle.ddrescuepart_cli.specs.declared.ending.PartEnding.{PartEnding}
 use Rattle.ddrescuepart_cli.specs.declared.ending.PartEnding.TheVariants.{Done, SourceFault, ConsoleFault, NoMemory}
 use Rattle.ddrescuepart_cli.specs.Answers.{AnswersBy, ending_of, row_of}

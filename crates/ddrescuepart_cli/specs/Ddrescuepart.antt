@@ -4,13 +4,11 @@ use Rattle.faulty_source.specs.SourceState.{SourceState}
 use Rattle.faulty_source.specs.SourceChanges.{Keeps}
 use Rattle.rescue_console.specs.ConsoleState.{ConsoleState}
 use Rattle.program_promise.specs.World.{WorldState, no_clock, no_feed, no_site, Told}
-use Rattle.program_promise.specs.WordFaults.{IsPlainFault}
 use Rattle.program_promise.specs.Printing.{PutsText}
 use Rattle.program_promise.specs.Program.{Program}
 use Rattle.program_promise.specs.Promise.{IsDone, Promise, Worked}
 use Rattle.ddrescuepart_words.specs.Command.{Command, part_grammar}
 use Rattle.ddrescuepart_cli.specs.declared.ending.PartEnding.{PartEnding}
-use Rattle.ddrescuepart_cli.specs.declared.ending.PartEnding.TheVariants.{Usage}
 use Rattle.ddrescuepart_cli.specs.Names.{program_name}
 use Rattle.ddrescuepart_cli.specs.Answers.{row_of}
 use Rattle.ddrescuepart_cli.specs.Work.{Agrees, ReadsPart, part_faults, part_rows, text_of}
@@ -26,9 +24,7 @@ abbrev pub part_program : Program Command PartEnding ℕ
 part_program = record {
   name = program_name;
   grammar = part_grammar;
-  HasFault = IsPlainFault;
   row = row_of;
-  wrong = λ fault. Usage fault;
   faults = part_faults;
   Fits = λ c e. ⊤;
   rows = λ c length. part_rows c;
@@ -36,7 +32,6 @@ part_program = record {
   Agrees = λ c length did old new. Agrees length did old.source new.source;
   Leaves = λ c line length e did old new.
       PutsText (row_of e).kind (text_of c line length did) old.console new.console;
-  Begins = λ w. ⊤;
   Keeps = λ e old new. Keeps old.source new.source;
 }
 

@@ -1,6 +1,6 @@
 -- What the definitions mean.
 use Rattle.std.specs.Prelude.{◌≡◌, ◌≢◌, ℕ, List}
-use Rattle.work_rules.specs.Work.{Deeds}
+use Rattle.program_promise.specs.Work.{Deeds}
 use Rattle.program_promise.specs.World.{Told}
 use Rattle.program_promise.specs.WellMade.{IsVerdict as IsVerdictOf}
 use Rattle.program_promise.specs.Laws.{KeepsPromises, NothingFailed}

@@ -1,8 +1,8 @@
 -- The work of `ddrescuepart`: memory is taken, the input is opened, and then records are read.
 use Rattle.std.specs.Prelude.{◌≡◌, ℕ, ◌≤◌, IsTrue, List, [], ◌∷◌, ◌++◌, length, All, Option, Some, None}
 use Rattle.faulty_source.specs.SourceState.{SourceState}
-use Rattle.work_rules.specs.Work.{Deeds, Faults, WorkStep, Take, Open, Works}
-use Rattle.work_rules.specs.Opens.{AreOpens}
+use Rattle.program_promise.specs.Work.{Deeds, Faults, WorkStep, Take, Open, Works}
+use Rattle.program_promise.specs.Opens.{AreOpens}
 use Rattle.partition_domain.specs.declared.table.Partition.{Partition}
 use Rattle.partition_domain.specs.Part.{partition_of}
 use Rattle.partition_domain.specs.DomainMap.{domain_text}

@@ -1,8 +1,8 @@
 //! The line after the message: why an answer came, by the file that the arguments name.
-use crash_site::folder::FolderSite;
 use ddrescueplan_cli::ending::PlanEnding;
-use ddrescueplan_words::command::read_command;
-use ddrescueplan_words::options::ROWS;
+use ddrescueplan_words::command::Command;
+use folder_site::folder::FolderSite;
+use option_words::asked::read_asked;
 use option_words::words::Words;
 use program_advice::cause::{Cause, Fact, Hint, Named, Role, Stream};
 use program_advice::files::stream_cause;
@@ -18,7 +18,6 @@ fn manual() -> Manual {
         usage: "ddrescueplan [options] length testmap; 'man ddrescueplan' lists the options and names the version",
         option: "an option of this program; 'man ddrescueplan' lists them",
         operand: "a length up to 1Ti (4Ki is 4096, 4k is 4000), or a file's name",
-        rows: &ROWS,
     }
 }
 
@@ -59,9 +58,9 @@ pub fn advise(
     site: &FolderSite,
     put: Option<io::Error>,
 ) -> Option<Line> {
-    let command = match read_command(rt.alloc(), words) {
+    let command: Command<'_> = match read_asked(rt.alloc(), words) {
         Ok(command) => command,
-        Err(error) => return line_on_words(PROGRAM, rt.alloc(), words, error, manual()),
+        Err(refusal) => return line_on_words(PROGRAM, words, refusal, manual()),
     };
     if command.options.rescue.quiet {
         return None;

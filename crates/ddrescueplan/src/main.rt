@@ -2,8 +2,8 @@
 #![tactic(auto)]
 
 use advice::advise;
-use crash_site::folder::FolderSite;
 use ddrescueplan_cli::plan::ddrescueplan;
+use folder_site::folder::FolderSite;
 use program_advice::put::put_line;
 use program_start::status::status_of;
 use program_start::streams::{ClosedStream, fill_streams};

@@ -8,10 +8,10 @@ use Rattle.block_list.specs.declared.status.Status.{Status}
 use Rattle.block_list.specs.declared.status.Status.TheVariants.{Finished}
 use Rattle.block_list.specs.Status.{same}
 use Rattle.rescue_domain.proofs.SizeLemmas.{one_if}
-use Rattle.map_algebra.specs.At.{status_at}
-use Rattle.map_algebra.specs.Summary.{summary_of}
+use Rattle.map_counts.specs.At.{status_at}
+use Rattle.map_counts.specs.Summary.{summary_of}
 use Rattle.map_algebra.proofs.MapLemmas.{finished_at}
-use Rattle.map_algebra.proofs.SummaryLemmas.{count_first}
+use Rattle.map_counts.proofs.SummaryLemmas.{count_first}
 use Rattle.ddrescueshow_cli.specs.Picture.{line_of}
 use Rattle.ddrescueshow_cli.specs.Laws.{AllIsFinishedAt100}
 

@@ -6,7 +6,7 @@ use Rattle.std.proofs.lemmas.List.Sums.{fails_before_first, passes_at_first}
 use Rattle.std.proofs.lemmas.Bool.{eqb-true, eqb-false}
 use Rattle.std.proofs.lemmas.Bool.Decides.{eqb_tells}
 use Rattle.mapfile_text.specs.Lines.{is_newline}
-use Rattle.mapfile_text.proofs.LineLemmas.{position-some, position-none}
+use Rattle.mapfile_reader.proofs.LineLemmas.{position-some, position-none}
 use Rattle.std.proofs.lemmas.List.Elements.{All-append, All-nil}
 use Rattle.std.proofs.lemmas.Grind.{flat_map-append}
 use Rattle.fault_count.specs.Counts.{raised}

@@ -2,7 +2,7 @@
 use Rattle.std.proofs.Common.{◌≡◌, ℕ, true, false, IsTrue, List, [], Option, Some, None, Ok, Err, refl, sym, inl, inr, append-nil}
 use Rattle.block_list.specs.Tiled.{Tiled}
 use Rattle.mapfile_text.specs.declared.read.Mode.{Mode}
-use Rattle.mapfile_text.specs.declared.read.ReadMap.{ReadMap}
+use Rattle.mapfile_reader.specs.declared.read.ReadMap.{ReadMap}
 use Rattle.crash_site.specs.Files.{File}
 use Rattle.crash_site.specs.SiteState.{SiteState, files_in}
 use Rattle.save_resume.specs.declared.named.NamedFault.{NamedFault}
@@ -11,7 +11,7 @@ use Rattle.save_resume.specs.Named.{IsMapOf, LoadsNamed, IsNamedAs, NamedCounts}
 use Rattle.save_resume.specs.Resuming.{IsReadAs, IsOfFile, LoadEnded}
 use Rattle.rescue_console.specs.ConsoleState.{ConsoleState}
 use Rattle.program_promise.specs.Causes.{Changed, none_rises}
-use Rattle.work_rules.proofs.LoadedLemmas.{AnswersNamed, reads_alone, read_passes, read_is_map, went_through, named_stopped as stopped}
+use Rattle.program_promise.proofs.LoadedLemmas.{AnswersNamed, reads_alone, read_passes, read_is_map, went_through, named_stopped as stopped}
 use Rattle.program_promise.specs.World.{handed}
 use Rattle.ddrescueshow_cli.specs.declared.ending.Which.{Which}
 use Rattle.ddrescueshow_cli.specs.declared.ending.ShowEnding.{ShowEnding}

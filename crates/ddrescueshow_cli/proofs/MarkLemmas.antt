@@ -6,8 +6,8 @@ use Rattle.block_list.specs.declared.status.Status.{Status}
 use Rattle.block_list.specs.declared.status.Status.TheVariants.{NonTried, NonTrimmed, NonScraped, BadSector, Finished}
 use Rattle.block_list.specs.Status.{same}
 use Rattle.block_list.proofs.StretchLemmas.{same_self}
-use Rattle.map_algebra.specs.At.{status_at}
-use Rattle.map_algebra.specs.Summary.{has_status}
+use Rattle.map_counts.specs.At.{status_at}
+use Rattle.map_counts.specs.Summary.{has_status}
 use Rattle.ddrescueshow_cli.specs.Cells.{begin_of, end_of, has_some, worst_by}
 use Rattle.ddrescueshow_cli.specs.Laws.{HasAsBad, MarksHideNothing, badness, badness_of}
 

@@ -1,59 +1,30 @@
 -- The program is well made: its rows agree with its grammar and with its work. And maps lead to one verdict at most.
-use Rattle.std.proofs.Common.{◌≡◌, ℕ, Bool, false, List, [], ◌∷◌, ◌++◌, Option, Some, None, Result, Ok, Err, refl, sym, ap, ◌∙◌, inl, inr, subst}
+use Rattle.std.proofs.Common.{◌≡◌, ℕ, Bool, false, List, [], ◌∷◌, ◌++◌, Option, Some, None, refl, sym, ap, ◌∙◌, inl, inr, subst}
+use Rattle.std.specs.Bool.{⊤}
 use Rattle.mapfile_text.specs.declared.read.MapError.{MapError}
 use Rattle.mapfile_text.specs.declared.read.Mode.{Mode}
 use Rattle.mapfile_text.specs.declared.read.Mode.TheVariants.{Tight}
 use Rattle.crash_site.specs.Files.{File}
 use Rattle.save_resume.specs.Named.{map_mode}
 use Rattle.save_resume.proofs.AnswerLemmas.{not_there, refused_for_one}
-use Rattle.option_words.specs.declared.fault.UsageFault.{UsageFault}
-use Rattle.option_words.specs.declared.reading.Item.{Item}
-use Rattle.option_words.specs.Values.{empty_operand}
-use Rattle.option_words.specs.Grammar.{unless_empty}
 use Rattle.save_resume.proofs.FillLemmas.{site_stays}
-use Rattle.work_rules.specs.Work.{Deeds, Take, WorkStep, Works}
-use Rattle.work_rules.specs.Verdicts.{IsOnce}
+use Rattle.program_promise.specs.Work.{Deeds, Take, WorkStep, Works}
+use Rattle.program_promise.specs.Verdicts.{IsOnce}
 use Rattle.program_promise.specs.World.{WorldState}
 use Rattle.program_promise.specs.Kinds.{IsWorkKind}
-use Rattle.program_promise.specs.WordFaults.{IsPlainFault}
 use Rattle.program_promise.specs.WellMade.{IsWellMade}
 use Rattle.program_promise.specs.Promise.{IsDone}
-use Rattle.program_promise.proofs.GrammarLemmas.{IsRefusedBy, refused_by}
 use Rattle.program_promise.proofs.PromiseLemmas.{asked, keeps_promises}
-use Rattle.ddrescueshow_words.specs.declared.options.ShowOptions.{ShowOptions}
-use Rattle.ddrescueshow_words.specs.Options.{options_in}
-use Rattle.ddrescueshow_words.specs.Command.{Command, IsAsked, command_by, command_in, command_with}
+use Rattle.ddrescueshow_words.specs.Command.{Command, IsAsked}
 use Rattle.ddrescueshow_cli.specs.declared.ending.Which.{Which}
 use Rattle.ddrescueshow_cli.specs.declared.ending.Which.TheVariants.{RunMap, DomainMap}
 use Rattle.ddrescueshow_cli.specs.declared.ending.ShowEnding.{ShowEnding}
-use Rattle.ddrescueshow_cli.specs.declared.ending.ShowEnding.TheVariants.{Done, MapRefused}
+use Rattle.ddrescueshow_cli.specs.declared.ending.ShowEnding.TheVariants.{Usage, Done, MapRefused}
 use Rattle.ddrescueshow_cli.specs.Answers.{row_of}
 use Rattle.ddrescueshow_cli.specs.Work.{Found, MapIsRefused, PutsAll, ShowWorks, map_rows, show_faults}
 use Rattle.ddrescueshow_cli.specs.Ddrescueshow.{ShowWorked, show_program}
 use Rattle.ddrescueshow_cli.specs.Laws.{HasOneVerdict, IsVerdict, ShowKeepsPromises}
 use Rattle.ddrescueshow_cli.proofs.WorkedLemmas.{starved_done}
-
--- ---- the faults that words may have
-
-operands_give : (words : List (List ℕ)) (items : List Item) (o : ShowOptions) (operands : List ℕ)
-    → IsRefusedBy IsPlainFault (command_with words items o operands)
-operands_give words items o [] = tt
-operands_give words items o (n ∷ []) = tt
-operands_give words items o (n ∷ k ∷ more) = tt
-
-unless_gives : (n : Option ℕ) (r : Result Command UsageFault) → IsRefusedBy IsPlainFault r
-    → IsRefusedBy IsPlainFault (unless_empty n r)
-unless_gives None (Ok c) gives = tt
-unless_gives (Some n) (Ok c) gives = tt
-unless_gives None (Err f) gives = gives
-unless_gives (Some n) (Err f) gives = gives
-
-command_gives : (words : List (List ℕ)) (items : List Item) (r : Result ShowOptions ℕ) (operands : List ℕ)
-    → IsRefusedBy IsPlainFault (command_by words items r operands)
-command_gives words items (Err n) operands = tt
-command_gives words items (Ok o) operands =
-    unless_gives (empty_operand words operands) (command_with words items o operands)
-    (operands_give words items o operands)
 
 -- ---- the answers of work
 
@@ -94,17 +65,13 @@ work_answers c found e d (inr (inr (fits, w))) =
     (map_rows DomainMap (map_mode c.options.loose) c.domain_map found.domain ++ Take ∷ []) e d
     (λ x v. read_works DomainMap (map_mode c.options.loose) c.domain_map found.domain (Take ∷ []) e x (last_works e) v) w
 
-pub show_made : (terminal : Bool) → IsWellMade (show_program terminal)
+pub show_made : (terminal : Bool) → IsWellMade (show_program terminal) (λ w. ⊤) (λ fault. Usage fault)
 show_made terminal = record {
   memory = refl;
   memory_idle = record { also = tt; keeps = λ w begins. site_stays w.site };
-  wrong = λ fault has. refl;
-  wrong_idle = λ fault has. record { also = tt; keeps = λ w begins. site_stays w.site };
+  wrong = λ words fault refused. refl;
+  wrong_idle = λ fault. record { also = tt; keeps = λ w begins. site_stays w.site };
   faults = record { memory = λ v. v; input = λ v. v; call = λ call v. v };
-  reads = λ fault never. never;
-  gives = λ words items operands fault is.
-      refused_by IsPlainFault (command_in words items operands) fault
-      (command_gives words items (options_in words items) operands) is;
   starves = λ c line w begins. starved_done terminal c line w;
   work = λ c line e old new done. (work_answers c done.outside e done.did done.work, tt);
 }

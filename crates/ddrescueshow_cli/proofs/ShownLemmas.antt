@@ -8,7 +8,7 @@ use Rattle.block_list.specs.declared.status.Status.{Status}
 use Rattle.rescue_domain.specs.Domain.{in_map, is_below, whole_domain}
 use Rattle.rescue_domain.specs.Finished.{is_finished_at}
 use Rattle.rescue_domain.specs.Parts.{covers}
-use Rattle.map_algebra.specs.At.{IsWithinMap}
+use Rattle.map_counts.specs.At.{IsWithinMap}
 use Rattle.ddrescueshow_words.specs.Command.{Command}
 use Rattle.ddrescueshow_cli.specs.declared.form.Form.{Form}
 use Rattle.ddrescueshow_cli.specs.declared.frame.Frame.{Frame}

@@ -12,9 +12,9 @@ use Rattle.crash_site.specs.SiteState.{SiteState}
 use Rattle.crash_site.proofs.LawLemmas.{after-append, left_past}
 use Rattle.save_resume.specs.Named.{map_mode}
 use Rattle.save_resume.specs.SaveStops.{CouldBefore, disk_of}
-use Rattle.work_rules.specs.Work.{Deeds, Take, WorkStep, Works}
-use Rattle.work_rules.proofs.FrontLemmas.{load_reads}
-use Rattle.work_rules.proofs.ReadLemmas.{AreReads, maps_are, maps_broke, maps_then, reads_at, reads_leave, same_reads}
+use Rattle.program_promise.specs.Work.{Deeds, Take, WorkStep, Works}
+use Rattle.program_promise.proofs.FrontLemmas.{load_reads}
+use Rattle.program_promise.proofs.ReadLemmas.{AreReads, maps_are, maps_broke, maps_then, reads_at, reads_leave, same_reads}
 use Rattle.program_promise.specs.World.{WorldState, Told}
 use Rattle.program_promise.specs.Promise.{Says, Nothing, Message}
 use Rattle.ddrescueshow_words.specs.Command.{Command}

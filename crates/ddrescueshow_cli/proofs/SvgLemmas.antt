@@ -12,8 +12,8 @@ use Rattle.block_list.specs.declared.areas.Count.{Count}
 use Rattle.block_list.specs.declared.status.Status.{Status}
 use Rattle.block_list.specs.declared.status.Status.TheVariants.{NonTried, NonTrimmed, NonScraped, BadSector, Finished}
 use Rattle.block_list.specs.Areas.{begins_area}
-use Rattle.map_algebra.specs.declared.summary.Summary.{Summary}
-use Rattle.map_algebra.specs.Summary.{has_status, summary_of}
+use Rattle.map_counts.specs.declared.summary.Summary.{Summary}
+use Rattle.map_counts.specs.Summary.{has_status, summary_of}
 use Rattle.ddrescueshow_words.specs.Command.{AreInLimits}
 use Rattle.ddrescueshow_words.specs.declared.options.ShowOptions.{ShowOptions}
 use Rattle.ddrescueshow_cli.specs.declared.form.Form.TheVariants.{Svg}

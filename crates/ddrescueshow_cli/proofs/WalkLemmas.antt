@@ -6,8 +6,8 @@ use Rattle.std.proofs.Math.Path.{fun_ext}
 use Rattle.block_list.specs.declared.status.Status.{Status}
 use Rattle.block_list.specs.Status.{same}
 use Rattle.rescue_domain.specs.Stretch.{IsConstant}
-use Rattle.map_algebra.specs.At.{status_at}
-use Rattle.map_algebra.specs.Summary.{has_status}
+use Rattle.map_counts.specs.At.{status_at}
+use Rattle.map_counts.specs.Summary.{has_status}
 use Rattle.ddrescueshow_cli.specs.declared.cells.Seen.{Seen}
 use Rattle.ddrescueshow_cli.specs.Cells.{has_some, is_seen, worst_by}
 

@@ -11,15 +11,15 @@ use Rattle.save_resume.specs.Named.{map_mode}
 use Rattle.rescue_console.specs.declared.console.Channel.TheVariants.{Out}
 use Rattle.rescue_console.specs.ConsoleState.{ConsoleState, Puts, PutsPart}
 use Rattle.save_resume.proofs.FillLemmas.{site_stays}
-use Rattle.work_rules.specs.Work.{IsIdle, Take, WorkStep, Works}
-use Rattle.work_rules.specs.Parts.{only_calls, WentThrough}
-use Rattle.work_rules.proofs.FrontLemmas.{load_reads}
-use Rattle.work_rules.proofs.PartLemmas.{stopped_more, through_then, idle}
+use Rattle.program_promise.specs.Work.{IsIdle, Take, WorkStep, Works}
+use Rattle.program_promise.specs.Parts.{only_calls, WentThrough}
+use Rattle.program_promise.proofs.FrontLemmas.{load_reads}
+use Rattle.program_promise.proofs.PartLemmas.{stopped_more, through_then, idle}
 use Rattle.program_promise.specs.World.{WorldState, handed}
 use Rattle.program_promise.specs.Causes.{Changed, changes_of}
 use Rattle.program_promise.specs.Promise.{DoneFor}
 use Rattle.ddrescueshow_words.specs.Command.{Command}
-use Rattle.work_rules.proofs.ReadLemmas.{AllReads, files_stand}
+use Rattle.program_promise.proofs.ReadLemmas.{AllReads, files_stand}
 use Rattle.ddrescueshow_cli.specs.declared.ending.Which.{Which}
 use Rattle.ddrescueshow_cli.specs.declared.ending.Which.TheVariants.{RunMap, DomainMap}
 use Rattle.ddrescueshow_cli.specs.declared.ending.ShowEnding.{ShowEnding}

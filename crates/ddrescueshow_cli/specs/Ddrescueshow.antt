@@ -2,12 +2,10 @@
 use Rattle.std.specs.Prelude.{⊤, ℕ, Bool, List}
 use Rattle.crash_site.specs.SiteChanges.{Stays}
 use Rattle.program_promise.specs.World.{WorldState, Told}
-use Rattle.program_promise.specs.WordFaults.{IsPlainFault}
 use Rattle.program_promise.specs.Program.{Program}
 use Rattle.program_promise.specs.Promise.{IsDone, Promise, Worked}
 use Rattle.ddrescueshow_words.specs.Command.{Command, show_grammar}
 use Rattle.ddrescueshow_cli.specs.declared.ending.ShowEnding.{ShowEnding}
-use Rattle.ddrescueshow_cli.specs.declared.ending.ShowEnding.TheVariants.{Usage}
 use Rattle.ddrescueshow_cli.specs.Names.{program_name}
 use Rattle.ddrescueshow_cli.specs.Answers.{row_of}
 use Rattle.ddrescueshow_cli.specs.Work.{Agrees, Found, LeavesAs, PutsAll, show_faults, show_rows}
@@ -18,16 +16,13 @@ abbrev pub show_program : (terminal : Bool) → Program Command ShowEnding Found
 show_program terminal = record {
   name = program_name;
   grammar = show_grammar;
-  HasFault = IsPlainFault;
   row = row_of;
-  wrong = λ fault. Usage fault;
   faults = show_faults;
   Fits = λ c e. ⊤;
   rows = show_rows;
   Run = λ c line found. PutsAll;
   Agrees = λ c found did old new. Agrees c found did old.site new.site;
   Leaves = λ c line found e did old new. LeavesAs terminal c found e old.console new.console;
-  Begins = λ w. ⊤;
   Keeps = λ e old new. Stays old.site new.site;
 }
 

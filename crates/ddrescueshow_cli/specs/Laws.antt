@@ -6,14 +6,14 @@ use Rattle.block_list.specs.declared.status.Status.TheVariants.{NonTried, NonTri
 use Rattle.crash_site.specs.Files.{File}
 use Rattle.crash_site.specs.Left.{MayBeLeft}
 use Rattle.crash_site.specs.SiteState.{SiteState, files_in}
-use Rattle.map_algebra.specs.At.{status_at}
+use Rattle.map_counts.specs.At.{status_at}
 use Rattle.map_algebra.specs.Compare.{IsDoneIn}
-use Rattle.map_algebra.specs.Summary.{summary_of}
+use Rattle.map_counts.specs.Summary.{summary_of}
 use Rattle.save_resume.specs.SaveStops.{CouldBefore}
 use Rattle.program_promise.specs.World.{Told}
 use Rattle.program_promise.specs.Kinds.{IsVerdictKind}
 use Rattle.program_promise.specs.Laws.{KeepsPromises}
-use Rattle.work_rules.specs.Work.{Deeds}
+use Rattle.program_promise.specs.Work.{Deeds}
 use Rattle.ddrescueshow_words.specs.Command.{AreInLimits, Asks, Command}
 use Rattle.ddrescueshow_words.specs.declared.options.Coloring.TheVariants.{Auto}
 use Rattle.ddrescueshow_words.specs.declared.options.ShowOptions.{ShowOptions}

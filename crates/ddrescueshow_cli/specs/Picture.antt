@@ -5,8 +5,8 @@ use Rattle.std.specs.List.{flat_map, range_with_len}
 use Rattle.block_list.specs.declared.areas.Count.{Count}
 use Rattle.block_list.specs.declared.status.Status.{Status}
 use Rattle.block_list.specs.declared.status.Status.TheVariants.{NonTried, NonTrimmed, NonScraped, BadSector, Finished}
-use Rattle.map_algebra.specs.declared.summary.Summary.{Summary}
-use Rattle.map_algebra.specs.Summary.{summary_of}
+use Rattle.map_counts.specs.declared.summary.Summary.{Summary}
+use Rattle.map_counts.specs.Summary.{summary_of}
 use Rattle.ddrescueshow_words.specs.declared.options.Coloring.{Coloring}
 use Rattle.ddrescueshow_words.specs.declared.options.Coloring.TheVariants.{Auto, Always, Never}
 use Rattle.ddrescueshow_words.specs.declared.options.ShowOptions.{ShowOptions}

@@ -6,7 +6,7 @@ use Rattle.crash_site.specs.SiteState.{SiteState, files_in}
 use Rattle.crash_site.specs.Files.{file_named}
 use Rattle.save_resume.specs.Named.{IsMapOf, HasStatuses}
 use Rattle.rescue_console.specs.ConsoleState.{ConsoleState}
-use Rattle.work_rules.specs.Parts.{DidPart}
+use Rattle.program_promise.specs.Parts.{DidPart}
 use Rattle.program_promise.specs.Causes.{Changed, changes_of}
 use Rattle.ddrescueshow_words.specs.Command.{Command}
 use Rattle.program_promise.specs.World.{handed}

@@ -11,7 +11,7 @@ use Rattle.save_resume.specs.Resuming.{IsRefusedFor}
 use Rattle.rescue_console.specs.declared.console.Channel.TheVariants.{Out}
 use Rattle.rescue_console.specs.ConsoleState.{ConsoleState, Puts, PutsPart}
 use Rattle.rescue_domain.specs.Domain.{in_map, whole_domain}
-use Rattle.work_rules.specs.Work.{Deeds, IsIdle, Faults, WorkStep, Take, Look, Read, Works}
+use Rattle.program_promise.specs.Work.{Deeds, IsIdle, Faults, WorkStep, Take, Look, Read, Works}
 use Rattle.program_promise.specs.Printing.{PutsByKind}
 use Rattle.ddrescueshow_words.specs.declared.options.ShowOptions.{ShowOptions}
 use Rattle.ddrescueshow_words.specs.Command.{Command}

@@ -7,7 +7,7 @@ ghost use Rattle.ddrescueshow_cli.specs.Cells.{is_seen, worst, worst_by};
 
 use block_list::status::Status;
 use block_list::tiles::Tiles;
-use map_algebra::pieces::{DomainPiece, Nearby, piece_at};
+use map_counts::pieces::{DomainPiece, Nearby, piece_at};
 use rescue_domain::domain::Domain;
 
 /// Which statuses were seen.

@@ -5,7 +5,7 @@ ghost use Rattle.ddrescueshow_cli.specs.Picture.{bad_text, figures_text, line_of
 use crate::text::{add, add_number};
 use block_list::areas::Count;
 use block_list::tiles::NoMemory;
-use map_algebra::summary::Summary;
+use map_counts::summary::Summary;
 
 /// What of a size is rescued, in hundredths of a percent.
 pub(crate) fn share(rescued: u64, size: u64) -> u64

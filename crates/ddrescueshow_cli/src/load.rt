@@ -7,7 +7,7 @@ ghost use Rattle.ddrescueshow_cli.specs.Steps.{ReadCause, ReadsMap, ReadsNamed};
 use crate::ending::{ShowEnding, Which};
 use block_list::plain_tiles::PlainTiles;
 use crash_site::site::Site;
-use mapfile_text::read::ReadMap;
+use mapfile_reader::read::ReadMap;
 use save_resume::named::load_named;
 use std::alloc::Global;
 

@@ -2,7 +2,7 @@
 ghost use Rattle.std.specs.Prelude.{◌≡◌, ◌<◌, ◌≤◌, ◌++◌, flat_map, length, IfOk, OnOk};
 ghost use Rattle.std.specs.List.{range_with_len};
 ghost use Rattle.rescue_domain.specs.Parts.{covers};
-ghost use Rattle.map_algebra.specs.At.{IsWithinMap};
+ghost use Rattle.map_counts.specs.At.{IsWithinMap};
 ghost use Rattle.ddrescueshow_cli.specs.Cells.{IsFrame, rows_in};
 ghost use Rattle.ddrescueshow_cli.specs.Picture.{end_text, foot_text, front_text, head_text, line_of, picture_text, row_text};
 
@@ -14,8 +14,8 @@ use crate::subject::Subject;
 use crate::svg::{add_svg_foot, add_svg_front, add_svg_head};
 use crate::text::{add, add_padded};
 use block_list::tiles::{NoMemory, Tiles};
-use map_algebra::pieces::Nearby;
-use map_algebra::summary::Summary;
+use map_counts::pieces::Nearby;
+use map_counts::summary::Summary;
 use std::alloc::Global;
 
 /// Adds how a picture begins.

@@ -9,7 +9,7 @@ use crate::frame::Frame;
 use crate::text::{add, add_bytes, add_number};
 use block_list::status::Status;
 use block_list::tiles::NoMemory;
-use map_algebra::summary::Summary;
+use map_counts::summary::Summary;
 
 /// What the characters mean.
 const LEGEND: &str =

@@ -13,7 +13,7 @@ use crate::svg::add_rect;
 use crate::text::add_bytes;
 use block_list::status::Status;
 use block_list::tiles::{NoMemory, Tiles};
-use map_algebra::pieces::Nearby;
+use map_counts::pieces::Nearby;
 
 /// Cells of a row that show the same, from one on.
 #[derive(Clone, Copy, Debug, PartialEq, Eq)]

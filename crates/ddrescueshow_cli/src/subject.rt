@@ -7,7 +7,7 @@ use crate::cells::worst;
 use crate::frame::Frame;
 use block_list::status::Status;
 use block_list::tiles::Tiles;
-use map_algebra::pieces::Nearby;
+use map_counts::pieces::Nearby;
 use rescue_domain::domain::Domain;
 
 /// What a picture is drawn from: a map, those of its positions that are shown, and the cells that divide them.

@@ -11,7 +11,7 @@ use crate::runs::Run;
 use crate::text::{add, add_number};
 use block_list::status::Status;
 use block_list::tiles::NoMemory;
-use map_algebra::summary::Summary;
+use map_counts::summary::Summary;
 
 /// How the statuses without a pattern are filled.
 const STYLE: &str =

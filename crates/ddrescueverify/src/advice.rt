@@ -1,11 +1,11 @@
 //! The line after the message: why an answer came, by the files that the arguments name. After the comparison there
 //! may be a line on reads past the kernel's cache.
-use crash_site::folder::FolderSite;
 use crash_site::site::SiteCall;
 use ddrescueverify_cli::ending::VerifyEnding;
 use ddrescueverify_words::command::{Command, read_command};
-use ddrescueverify_words::options::ROWS;
-use faulty_source::file::FileSource;
+use file_source::file::FileSource;
+use folder_site::folder::FolderSite;
+use option_words::asked::read_asked;
 use option_words::words::Words;
 use program_advice::cause::{Cause, Fact, Hint, Named, Role, Stream};
 use program_advice::direct::cached_line;
@@ -27,7 +27,6 @@ fn manual() -> Manual {
         usage: USAGE,
         option: "an option of this program; 'man ddrescueverify' lists them",
         operand: "a file's name",
-        rows: &ROWS,
     }
 }
 
@@ -124,9 +123,9 @@ pub fn advise(
     site: &FolderSite,
     put: Option<io::Error>,
 ) -> Option<Line> {
-    let command = match read_command(rt.alloc(), words) {
+    let command: Command<'_> = match read_asked(rt.alloc(), words) {
         Ok(command) => command,
-        Err(error) => return line_on_words(PROGRAM, rt.alloc(), words, error, manual()),
+        Err(refusal) => return line_on_words(PROGRAM, words, refusal, manual()),
     };
     if command.options.quiet {
         return None;

@@ -2,9 +2,9 @@
 #![tactic(auto)]
 
 use advice::{advise, line_after};
-use crash_site::folder::FolderSite;
 use ddrescueverify_cli::verify::ddrescueverify;
-use faulty_source::file::FileSource;
+use file_source::file::FileSource;
+use folder_site::folder::FolderSite;
 use kernel_devices::identity::OpenInput;
 use program_advice::put::put_line;
 use program_start::status::status_of;

@@ -11,10 +11,10 @@ use Rattle.option_words.specs.declared.fault.UsageFault.TheVariants.{Word, BadVa
 use Rattle.save_resume.specs.MapNames.{names_of}
 use Rattle.save_resume.specs.Saving.{save_calls}
 use Rattle.save_resume.proofs.AnswerLemmas.{none_says_nothing, refused_for_one}
-use Rattle.work_rules.specs.Work.{Deeds, Make, Works}
-use Rattle.work_rules.specs.Verdicts.{IsOnce, RefuseOnce}
-use Rattle.work_rules.proofs.AnswerLemmas.{Stopped, Went, came}
-use Rattle.work_rules.proofs.VerdictLemmas.{goes_to_run}
+use Rattle.program_promise.specs.Work.{Deeds, Make, Works}
+use Rattle.program_promise.specs.Verdicts.{IsOnce, RefuseOnce}
+use Rattle.program_promise.proofs.AnswerLemmas.{Stopped, Went, came}
+use Rattle.program_promise.proofs.VerdictLemmas.{goes_to_run}
 use Rattle.program_promise.specs.Kinds.{Starved}
 use Rattle.program_promise.proofs.PromiseLemmas.{keeps_promises}
 use Rattle.program_promise.specs.Rows.{usage_kind}

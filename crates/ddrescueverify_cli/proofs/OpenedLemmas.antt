@@ -19,11 +19,11 @@ use Rattle.save_resume.specs.Saving.{save_calls}
 use Rattle.save_resume.specs.Resuming.{barrier_calls}
 use Rattle.rescue_rules.specs.Start.{Stands}
 use Rattle.rescue_rules.specs.Work.{AreMapReads}
-use Rattle.work_rules.specs.Work.{Opened as IsOpened, Unopened, Deeds, WorkStep, Take, Look as LookAt, Make, Works}
-use Rattle.work_rules.specs.Parts.{only_calls, WentThrough}
-use Rattle.work_rules.specs.Holds.{after_entries, after_open}
-use Rattle.work_rules.proofs.FrontLemmas.{load_reads, reads_stand}
-use Rattle.work_rules.proofs.PartLemmas.{stopped_more, through_then, grew_both}
+use Rattle.program_promise.specs.Work.{Opened as IsOpened, Unopened, Deeds, WorkStep, Take, Look as LookAt, Make, Works}
+use Rattle.program_promise.specs.Parts.{only_calls, WentThrough}
+use Rattle.program_promise.specs.Holds.{after_entries, after_open}
+use Rattle.program_promise.proofs.FrontLemmas.{load_reads, reads_stand}
+use Rattle.program_promise.proofs.PartLemmas.{stopped_more, through_then, grew_both}
 use Rattle.rescue_verify.specs.declared.tally.Tally.{Tally}
 use Rattle.rescue_verify.specs.Across.{across}
 use Rattle.rescue_verify.specs.Looks.{Look, reads_of, seen_in, look_calls}
@@ -31,7 +31,7 @@ use Rattle.rescue_verify.specs.Verified.{judged_by}
 use Rattle.rescue_verify.specs.Comparing.{Comparison, tally_of, Compares}
 use Rattle.ddrescueverify_words.specs.declared.options.VerifyOptions.{VerifyOptions}
 use Rattle.ddrescueverify_words.specs.Command.{Command}
-use Rattle.work_rules.specs.Opens.{AreOpens}
+use Rattle.program_promise.specs.Opens.{AreOpens}
 use Rattle.ddrescueverify_cli.specs.declared.ending.VerifyEnding.{VerifyEnding}
 use Rattle.ddrescueverify_cli.specs.declared.ending.VerifyEnding.TheVariants.{NoOutput, SourceFault}
 use Rattle.ddrescueverify_cli.specs.declared.open.LoadedMap.{LoadedMap}

@@ -12,10 +12,10 @@ use Rattle.crash_site.proofs.LawLemmas.{after-append, failed_other}
 use Rattle.crash_site.proofs.AlongLemmas.{WentOn, all_go, broke_goes, made_goes}
 use Rattle.save_resume.specs.MapNames.{MapNames, names_of, HasOwnDraft}
 use Rattle.save_resume.specs.Saving.{save_calls}
-use Rattle.work_rules.specs.Work.{Deeds, Works}
-use Rattle.work_rules.proofs.ReadLemmas.{AreReads, reads_leave}
-use Rattle.work_rules.proofs.SavedLemmas.{HasSaved}
-use Rattle.work_rules.proofs.SpareLemmas.{spared, save_spares}
+use Rattle.program_promise.specs.Work.{Deeds, Works}
+use Rattle.program_promise.proofs.ReadLemmas.{AreReads, reads_leave}
+use Rattle.program_promise.proofs.SavedLemmas.{HasSaved}
+use Rattle.program_promise.proofs.SpareLemmas.{spared, save_spares}
 use Rattle.ddrescueverify_words.specs.Command.{Command}
 use Rattle.rescue_verify.specs.Across.{across}
 use Rattle.ddrescueverify_cli.specs.declared.ending.VerifyEnding.{VerifyEnding}

@@ -9,9 +9,9 @@ use Rattle.crash_site.specs.FileAnswers.{kind_of}
 use Rattle.crash_site.specs.Calls.{Done as Returned, image_open}
 use Rattle.crash_site.specs.CallsMade.{Lost}
 use Rattle.crash_site.specs.SiteState.{SiteState, files_in}
-use Rattle.work_rules.specs.Work.{Look as LookAt}
-use Rattle.work_rules.proofs.LoadLemmas.{by_tells}
-use Rattle.work_rules.proofs.LoadedLemmas.{broke_first}
+use Rattle.program_promise.specs.Work.{Look as LookAt}
+use Rattle.program_promise.proofs.LoadLemmas.{by_tells}
+use Rattle.program_promise.proofs.LoadedLemmas.{broke_first}
 use Rattle.ddrescueverify_cli.specs.declared.ending.VerifyEnding.{VerifyEnding}
 use Rattle.ddrescueverify_cli.specs.declared.ending.VerifyEnding.TheVariants.{NoOutput, SiteFault}
 use Rattle.ddrescueverify_cli.specs.Refusals.{OutputRefused}

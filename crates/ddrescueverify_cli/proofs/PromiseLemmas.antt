@@ -2,27 +2,24 @@
 use Rattle.std.proofs.Common.{◌≡◌, ◌≢◌, ℕ, Bool, true, false, List, [], ◌∷◌, Option, Some, None, Result, Ok, Err, refl, sym, ap, ◌∙◌, inl, inr, subst}
 use Rattle.faulty_source.proofs.Keeping.{keeps_self}
 use Rattle.option_words.specs.declared.fault.UsageFault.{UsageFault}
-use Rattle.option_words.specs.declared.fault.UsageFault.TheVariants.{Word, BadValue, Conflict, Modes, Operands, PlaceTooLarge}
 use Rattle.option_words.specs.Grammar.{unless_empty}
 use Rattle.option_words.specs.Values.{empty_operand}
 use Rattle.save_resume.proofs.FillLemmas.{keeps_self as site_keeps}
-use Rattle.work_rules.specs.Work.{Deeds, Works}
-use Rattle.work_rules.proofs.AnswerLemmas.{Stops, Broken, Refused, Starved, Stopped, Unopened as NotOpened, Went, came}
+use Rattle.program_promise.specs.Work.{Deeds, Works}
+use Rattle.program_promise.proofs.AnswerLemmas.{Stops, Broken, Refused, Starved, Stopped, Unopened as NotOpened, Went, came}
 use Rattle.rescue_verify.specs.declared.halt.Halt.{Halt}
 use Rattle.rescue_verify.specs.declared.halt.Halt.TheVariants.{NoMemory as NoRoom, SourceLost as InputLost, ImageFault}
 use Rattle.rescue_verify.specs.Comparing.{tally_of}
 use Rattle.rescue_verify.specs.Looks.{Look}
 use Rattle.ddrescueverify_words.specs.declared.options.VerifyOptions.{VerifyOptions}
 use Rattle.ddrescueverify_words.specs.Options.{options_in}
-use Rattle.ddrescueverify_words.specs.Command.{Command, IsAsked, command_by, command_in, command_with}
+use Rattle.ddrescueverify_words.specs.Command.{Command, IsAsked, command_by, command_with, verify_grammar}
 use Rattle.program_promise.specs.World.{WorldState}
-use Rattle.program_promise.specs.Kinds.{IsWorkKind, Wrong}
-use Rattle.program_promise.specs.WordFaults.{IsPlainFault}
+use Rattle.program_promise.specs.Kinds.{IsWorkKind}
 use Rattle.program_promise.specs.WellMade.{IsWellMade}
 use Rattle.program_promise.specs.Promise.{IsDone}
-use Rattle.program_promise.proofs.GrammarLemmas.{IsRefusedBy, refused_by}
+use Rattle.program_promise.proofs.GrammarLemmas.{Gives, wrong_by}
 use Rattle.program_promise.proofs.PromiseLemmas.{asked}
-use Rattle.program_promise.specs.Rows.{usage_kind}
 use Rattle.program_promise.specs.declared.operand.Operand.{Operand}
 use Rattle.ddrescueverify_cli.specs.declared.ending.VerifyEnding.{VerifyEnding}
 use Rattle.ddrescueverify_cli.specs.declared.ending.VerifyEnding.TheVariants.{Usage, SameName, NoMemory}
@@ -38,33 +35,25 @@ use Rattle.ddrescueverify_cli.proofs.WorkedLemmas.{starved_done}
 -- ---- the faults that words may have
 
 operands_give : (words : List (List ℕ)) (o : VerifyOptions) (operands : List ℕ)
-    → IsRefusedBy IsPlainFault (command_with words o operands)
+    → Gives (command_with words o operands)
 operands_give words o [] = tt
 operands_give words o (i ∷ []) = tt
 operands_give words o (i ∷ out ∷ []) = tt
 operands_give words o (i ∷ out ∷ name ∷ []) = tt
 operands_give words o (i ∷ out ∷ name ∷ n ∷ more) = tt
 
-filled_gives : (e : Option ℕ) (r : Result Command UsageFault) → IsRefusedBy IsPlainFault r
-    → IsRefusedBy IsPlainFault (unless_empty e r)
+filled_gives : (e : Option ℕ) (r : Result Command UsageFault) → Gives r
+    → Gives (unless_empty e r)
 filled_gives None (Err f) gives = gives
 filled_gives (Some n) (Err f) gives = gives
 filled_gives None (Ok c) gives = tt
 filled_gives (Some n) (Ok c) gives = tt
 
 words_give : (words : List (List ℕ)) (r : Result VerifyOptions ℕ) (operands : List ℕ)
-    → IsRefusedBy IsPlainFault (command_by words r operands)
+    → Gives (command_by words r operands)
 words_give words (Err n) operands = tt
 words_give words (Ok o) operands =
     filled_gives (empty_operand words operands) (command_with words o operands) (operands_give words o operands)
-
-usage_wrong : (fault : UsageFault) → IsPlainFault fault → usage_kind fault ≡ Wrong fault
-usage_wrong PlaceTooLarge has = absurd has
-usage_wrong (Word fault) has = refl
-usage_wrong (BadValue n) has = refl
-usage_wrong (Conflict n) has = refl
-usage_wrong (Modes given) has = refl
-usage_wrong (Operands given) has = refl
 
 -- ---- the answers of work
 
@@ -146,17 +135,14 @@ work_fits c o e d (inr (inr (pass, w))) =
 idle_keeps : (e : VerifyEnding) → drafting_left e ≡ false → (w : WorldState) → w.site.is_drafting ≡ false → KeepsAs e w w
 idle_keeps e whole w none = record { draft = none ∙ sym whole; source = keeps_self w.source; site = site_keeps w.site }
 
-pub verify_made : IsWellMade verify_program
+pub verify_made : IsWellMade verify_program (λ w. w.site.is_drafting ≡ false) (λ fault. Usage fault)
 verify_made = record {
   memory = refl;
   memory_idle = record { also = tt; keeps = idle_keeps NoMemory refl };
-  wrong = usage_wrong;
-  wrong_idle = λ fault has. record { also = tt; keeps = idle_keeps (Usage fault) refl };
+  wrong = wrong_by verify_grammar
+      (λ words items operands. words_give words (options_in words items) operands);
+  wrong_idle = λ fault. record { also = tt; keeps = idle_keeps (Usage fault) refl };
   faults = record { memory = λ v. v; input = λ v. v; call = λ call v. v };
-  reads = λ fault never. never;
-  gives = λ words items operands fault is.
-      refused_by IsPlainFault (command_in words items operands) fault (words_give words (options_in words items) operands)
-      is;
   starves = λ c line w begins. starved_done c line w;
   work = λ c line e old new done. work_fits c done.outside e done.did done.work;
 }

@@ -5,7 +5,7 @@ use Rattle.crash_site.specs.SiteState.{SiteState}
 use Rattle.save_resume.specs.declared.draft.SaveFault.{SaveFault}
 use Rattle.save_resume.specs.MapNames.{MapNames}
 use Rattle.save_resume.specs.Saving.{save_calls, Saves}
-use Rattle.work_rules.proofs.GainLemmas.{MayGain, may_gain}
+use Rattle.program_promise.proofs.GainLemmas.{MayGain, may_gain}
 use Rattle.ddrescueverify_cli.specs.declared.ending.VerifyEnding.TheVariants.{SiteFault}
 use Rattle.ddrescueverify_cli.specs.Steps.{SavesText}
 

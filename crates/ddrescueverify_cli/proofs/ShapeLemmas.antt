@@ -20,10 +20,10 @@ use Rattle.save_resume.specs.Resuming.{barrier_calls}
 use Rattle.rescue_rules.specs.Start.{Stands as StandsFor}
 use Rattle.rescue_rules.specs.Stops.{is_sync}
 use Rattle.rescue_rules.specs.Work.{AreMapReads}
-use Rattle.work_rules.specs.Work.{Deeds, IsIdle, Take, Look as LookAt, Make, Works}
-use Rattle.work_rules.proofs.FrontLemmas.{load_reads}
-use Rattle.work_rules.proofs.ReadLemmas.{AreReads, both_are, maps_are, maps_broke, same_reads}
-use Rattle.work_rules.proofs.SavedLemmas.{HasSaved}
+use Rattle.program_promise.specs.Work.{Deeds, IsIdle, Take, Look as LookAt, Make, Works}
+use Rattle.program_promise.proofs.FrontLemmas.{load_reads}
+use Rattle.program_promise.proofs.ReadLemmas.{AreReads, both_are, maps_are, maps_broke, same_reads}
+use Rattle.program_promise.proofs.SavedLemmas.{HasSaved}
 use Rattle.rescue_verify.specs.declared.halt.Halt.{Halt}
 use Rattle.rescue_verify.specs.declared.halt.Halt.TheVariants.{NoMemory as NoRoom, SourceLost as InputLost, ImageFault}
 use Rattle.rescue_verify.specs.declared.tally.Tally.{Tally}

@@ -21,9 +21,9 @@ use Rattle.save_resume.specs.Saving.{save_calls}
 use Rattle.save_resume.specs.SaveStops.{disk_of, text_file, IsOldOrNew, Old, New, IsSaved, IsEmptyDraft, LeftAt, CouldBefore}
 use Rattle.rescue_rules.specs.Start.{Stands as StandsFor}
 use Rattle.rescue_rules.specs.Stops.{has_barrier, is_sync}
-use Rattle.work_rules.specs.Work.{Deeds, Works}
-use Rattle.work_rules.proofs.ReadLemmas.{AreReads, reads_at, reads_keep, reads_until}
-use Rattle.work_rules.proofs.SavedLemmas.{HasSaved, stops_by_save, saved_by, save_after}
+use Rattle.program_promise.specs.Work.{Deeds, Works}
+use Rattle.program_promise.proofs.ReadLemmas.{AreReads, reads_at, reads_keep, reads_until}
+use Rattle.program_promise.proofs.SavedLemmas.{HasSaved, stops_by_save, saved_by, save_after}
 use Rattle.rescue_verify.specs.Across.{across}
 use Rattle.rescue_verify.specs.Looks.{Look, reads_of, seen_in}
 use Rattle.rescue_verify.specs.Verified.{judged_by}

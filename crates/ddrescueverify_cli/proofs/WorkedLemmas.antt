@@ -12,13 +12,13 @@ use Rattle.rescue_console.specs.ConsoleState.{ConsoleState}
 use Rattle.save_resume.specs.MapNames.{MapNames, names_of}
 use Rattle.save_resume.proofs.FillLemmas.{keeps_self as site_keeps}
 use Rattle.save_resume.proofs.NameLemmas.{ne_of}
-use Rattle.work_rules.specs.Work.{Deeds, Works}
+use Rattle.program_promise.specs.Work.{Deeds, Works}
 use Rattle.rescue_verify.specs.declared.tally.Tally.{Tally}
 use Rattle.rescue_verify.specs.Across.{across}
 use Rattle.rescue_verify.specs.Comparing.{tally_of}
 use Rattle.faulty_source.specs.Journal.{IsFrom}
 use Rattle.ddrescueverify_words.specs.Command.{Command}
-use Rattle.work_rules.proofs.PartLemmas.{no_deeds}
+use Rattle.program_promise.proofs.PartLemmas.{no_deeds}
 use Rattle.program_promise.specs.World.{WorldState}
 use Rattle.program_promise.specs.Program.{line_by}
 use Rattle.program_promise.specs.Promise.{DoneFor}

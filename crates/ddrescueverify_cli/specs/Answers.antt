@@ -21,7 +21,7 @@ abbrev pub row_of : VerifyEnding → AnswerRow
 row_of Done = asked_row 0
 row_of (Differs bytes) = asked_row 1
 row_of (Usage fault) = usage_row fault
-row_of (SameName first second) = brought_row 1 (codes "two files have one name")
+row_of (SameName first second) = brought_row 1 (codes "two files have the same name")
 row_of NoMap = brought_row 1 (which_text RunMap ++ codes " does not exist")
 row_of NoOutput = brought_row 1 (codes "output does not exist")
 row_of (MapRefused which error) = only_where (brought_row 2 (which_text which ++ codes ": " ++ error_text error))

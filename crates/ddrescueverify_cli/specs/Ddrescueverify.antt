@@ -1,22 +1,20 @@
 -- `ddrescueverify` as a program, and its promise.
-use Rattle.std.specs.Prelude.{◌≡◌, ◌≢◌, ℕ, Bool, false, IsTrue, List}
+use Rattle.std.specs.Prelude.{◌≡◌, ◌≢◌, ℕ, Bool, IsTrue, List}
 use Rattle.faulty_source.specs.SourceState.{SourceState}
 use Rattle.faulty_source.specs.SourceChanges.{Keeps as SourceKeeps}
 use Rattle.crash_site.specs.SiteState.{SiteState, files_in}
 use Rattle.crash_site.specs.SiteChanges.{Keeps as SiteKeeps}
 use Rattle.rescue_console.specs.ConsoleState.{ConsoleState}
 use Rattle.save_resume.specs.MapNames.{names_of}
-use Rattle.work_rules.specs.Work.{Deeds}
+use Rattle.program_promise.specs.Work.{Deeds}
 use Rattle.rescue_verify.specs.Across.{across}
 use Rattle.rescue_verify.specs.Comparing.{tally_of}
 use Rattle.ddrescueverify_words.specs.Command.{Command, verify_grammar}
 use Rattle.program_promise.specs.World.{WorldState, no_clock, no_feed, Told}
-use Rattle.program_promise.specs.WordFaults.{IsPlainFault}
 use Rattle.program_promise.specs.Printing.{PutsByKind}
 use Rattle.program_promise.specs.Program.{Program}
 use Rattle.program_promise.specs.Promise.{IsDone, Promise, Worked}
 use Rattle.ddrescueverify_cli.specs.declared.ending.VerifyEnding.{VerifyEnding}
-use Rattle.ddrescueverify_cli.specs.declared.ending.VerifyEnding.TheVariants.{Usage}
 use Rattle.ddrescueverify_cli.specs.Answers.{drafting_left, row_of}
 use Rattle.ddrescueverify_cli.specs.Names.{program_name}
 use Rattle.ddrescueverify_cli.specs.Refusals.{FitsNames, same_of}
@@ -55,21 +53,18 @@ pub record KeepsAs (e : VerifyEnding) (old new : WorldState) : Type 0 where
   pub source : SourceKeeps old.source new.source
   pub site : SiteKeeps old.site new.site
 
--- Of the files its work reads the output and the mapfile, and it saves the mapfile. No draft is begun before the call.
+-- Of the files its work reads the output and the mapfile, and it saves the mapfile.
 abbrev pub verify_program : Program Command VerifyEnding Outside
 verify_program = record {
   name = program_name;
   grammar = verify_grammar;
-  HasFault = IsPlainFault;
   row = row_of;
-  wrong = λ fault. Usage fault;
   faults = verify_faults;
   Fits = λ c e. FitsNames (same_of c) e;
   rows = λ c o. verify_rows c o.found o.end;
   Run = λ c line o. Verifies c o.line o.found o.end o.looks;
   Agrees = λ c o did old new. Agrees c o did (across old.source new.source old.site new.site);
   Leaves = LeavesAs;
-  Begins = λ w. w.site.is_drafting ≡ false;
   Keeps = KeepsAs;
 }
 

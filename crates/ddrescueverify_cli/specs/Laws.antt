@@ -4,8 +4,8 @@ use Rattle.block_list.specs.declared.status.Status.{Status}
 use Rattle.block_list.specs.declared.status.Status.TheVariants.{Finished}
 use Rattle.block_list.specs.Map.{Has}
 use Rattle.crash_site.specs.SiteState.{files_in}
-use Rattle.work_rules.specs.Work.{Deeds, Works}
-use Rattle.work_rules.specs.Verdicts.{RefuseNothing}
+use Rattle.program_promise.specs.Work.{Deeds, Works}
+use Rattle.program_promise.specs.Verdicts.{RefuseNothing}
 use Rattle.rescue_verify.specs.Looks.{Look}
 use Rattle.rescue_verify.specs.Laws.{asks_for}
 use Rattle.rescue_verify.specs.Verified.{IsJudged, is_doubted, judged_by}

@@ -3,12 +3,12 @@ use Rattle.std.specs.Prelude.{◌≡◌, ℕ, IsTrue, List, ◌++◌, length, ma
 use Rattle.crash_site.specs.Files.{File, bytes_of}
 use Rattle.crash_site.specs.SiteState.{files_in}
 use Rattle.rescue_domain.specs.Places.{place_from}
-use Rattle.work_rules.specs.Work.{Deeds}
+use Rattle.program_promise.specs.Work.{Deeds}
 use Rattle.rescue_verify.specs.Across.{Across}
 use Rattle.rescue_verify.specs.Looks.{Look, reads_of, seen_in}
 use Rattle.faulty_source.specs.Journal.{IsFrom}
 use Rattle.ddrescueverify_words.specs.Command.{Command}
-use Rattle.work_rules.specs.Opens.{AreOpens}
+use Rattle.program_promise.specs.Opens.{AreOpens}
 
 -- the output and the mapfile, as the steps found them
 pub record Found : Type 0 where

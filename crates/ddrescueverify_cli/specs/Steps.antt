@@ -15,8 +15,8 @@ use Rattle.save_resume.specs.MapNames.{MapNames, names_of}
 use Rattle.save_resume.specs.Saving.{save_calls, drafting_after_fault}
 use Rattle.save_resume.specs.Resuming.{IsResumeCall}
 use Rattle.rescue_rules.specs.Start.{Stands}
-use Rattle.work_rules.specs.Work.{Deeds, Make, Works}
-use Rattle.work_rules.specs.Parts.{Did, DidPart}
+use Rattle.program_promise.specs.Work.{Deeds, Make, Works}
+use Rattle.program_promise.specs.Parts.{Did, DidPart}
 use Rattle.rescue_verify.specs.declared.halt.Halt.{Halt}
 use Rattle.rescue_verify.specs.declared.tally.Tally.{Tally}
 use Rattle.rescue_verify.specs.Across.{Across}

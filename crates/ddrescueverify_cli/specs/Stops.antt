@@ -11,7 +11,7 @@ use Rattle.save_resume.specs.MapNames.{names_of}
 use Rattle.save_resume.specs.SaveStops.{disk_of, text_file, IsEmptyDraft, LeftAt, CouldBefore}
 use Rattle.rescue_rules.specs.Start.{Stands}
 use Rattle.rescue_rules.specs.Stops.{has_barrier}
-use Rattle.work_rules.specs.Work.{Deeds}
+use Rattle.program_promise.specs.Work.{Deeds}
 use Rattle.rescue_verify.specs.Pieces.{NoneFrom, end_of_reads}
 use Rattle.rescue_verify.specs.Looks.{reads_of}
 use Rattle.rescue_verify.specs.Verified.{verified}

@@ -10,7 +10,7 @@ use Rattle.save_resume.specs.MapNames.{names_of}
 use Rattle.save_resume.specs.Saving.{save_calls}
 use Rattle.save_resume.specs.Resuming.{barrier_calls}
 use Rattle.rescue_rules.specs.Start.{Stands}
-use Rattle.work_rules.specs.Work.{Deeds, IsIdle, Faults, WorkStep, Take, Look as LookAt, Open, Make, Read, Works}
+use Rattle.program_promise.specs.Work.{Deeds, IsIdle, Faults, WorkStep, Take, Look as LookAt, Open, Make, Read, Works}
 use Rattle.rescue_verify.specs.declared.halt.Halt.{Halt}
 use Rattle.rescue_verify.specs.declared.halt.Halt.TheVariants.{NoMemory as NoRoom, SourceLost as InputLost, ImageFault}
 use Rattle.rescue_verify.specs.declared.tally.Tally.{Tally}

@@ -29,7 +29,7 @@ fn add_ending(message: &mut Message, ending: VerifyEnding)
     match ending {
         VerifyEnding::Done | VerifyEnding::Differs { .. } => {}
         VerifyEnding::Usage(fault) => add_usage(message, fault),
-        VerifyEnding::SameName { .. } => add(message, "two files have one name"),
+        VerifyEnding::SameName { .. } => add(message, "two files have the same name"),
         VerifyEnding::NoMap => {
             add_which(message, Which::RunMap);
             add(message, " does not exist");

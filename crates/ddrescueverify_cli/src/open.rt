@@ -9,7 +9,7 @@ use crate::ending::{VerifyEnding, Which};
 use block_list::plain_tiles::PlainTiles;
 use block_list::tiles::NoMemory;
 use crash_site::site::{ImageKind, Site, SiteCall};
-use mapfile_text::read::ReadMap;
+use mapfile_reader::read::ReadMap;
 use mapfile_text::state::MapState;
 use save_resume::load::ResumeFault;
 use save_resume::names::Names;

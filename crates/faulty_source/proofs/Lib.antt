@@ -1,3 +1,2 @@
 -- Other crates cite these.
 pub mod Keeping
-mod RestLemmas

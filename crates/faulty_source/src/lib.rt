@@ -2,8 +2,5 @@
 #![tactic(auto)]
 
 pub mod bad_range;
-mod expected_reads;
-pub mod file;
 pub mod journal;
-mod opening;
 pub mod source;

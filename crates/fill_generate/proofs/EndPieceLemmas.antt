@@ -23,8 +23,8 @@ use Rattle.rescue_rules.specs.Said.{is_line_due}
 use Rattle.rescue_rules.specs.Step.{save_interval}
 use Rattle.rescue_rules.specs.Lines.{phase_front, report_text}
 use Rattle.rescue_core.specs.declared.keeper.Keeper.{Keeper}
-use Rattle.rescue_core.specs.declared.settings.Settings.{Settings}
-use Rattle.rescue_core.specs.RunState.{names_in}
+use Rattle.run_options.specs.declared.settings.Settings.{Settings}
+use Rattle.save_resume.specs.MapNames.{names_in}
 use Rattle.rescue_core.specs.Keeping.{saves_of, last_calls}
 use Rattle.rescue_core.specs.Closing.{closing_with}
 use Rattle.rescue_core.proofs.ClosingLemmas.{said_with, last_with}

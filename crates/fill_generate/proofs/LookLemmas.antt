@@ -3,6 +3,7 @@ use Rattle.std.proofs.Common.{◌≡◌, ℕ, ◌+◌, ◌-◌, ◌*◌, ◌/◌
 use Rattle.std.specs.Result.{is_err}
 use Rattle.std.proofs.lemmas.Bool.{true≢false}
 use Rattle.std.proofs.lemmas.List.{take_min, length-drop, length-take-le, take-append-le}
+use Rattle.run_options.specs.Settings.{Suits}
 use Rattle.crash_site.specs.Files.{File, bytes_of}
 use Rattle.crash_site.specs.FileAnswers.{IsImageRead}
 use Rattle.crash_site.specs.Calls.{Call, Done, image_read}
@@ -10,7 +11,6 @@ use Rattle.crash_site.specs.SiteState.{SiteState, image_in}
 use Rattle.crash_site.specs.SiteChanges.{Makes}
 use Rattle.rescue_domain.specs.Parts.{covers}
 use Rattle.rescue_rules.specs.Setting.{place}
-use Rattle.rescue_core.specs.RunState.{Suits}
 use Rattle.sweep_rules.specs.Sweep.{Sweep, is_generated}
 use Rattle.fill_generate.specs.declared.sweeping.Piece.{Piece}
 use Rattle.fill_generate.specs.Marking.{finished_at}

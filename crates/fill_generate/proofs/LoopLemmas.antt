@@ -11,13 +11,13 @@ use Rattle.crash_site.specs.SiteChanges.{Makes}
 use Rattle.rescue_console.specs.ClockState.{ClockState, Reads as ReadsClock}
 use Rattle.rescue_console.specs.ConsoleState.{ConsoleState}
 use Rattle.rescue_console.specs.Speaking.{SpeaksOn, out_pieces}
+use Rattle.rescue_console.proofs.SpeakingLemmas.{says_none}
 use Rattle.rescue_rules.specs.declared.stop.Stop.{Stop}
 use Rattle.rescue_rules.specs.Setting.{Setting}
 use Rattle.rescue_rules.specs.Laws.{AreTimes}
 use Rattle.rescue_rules.specs.Deeds.{Deed, save_of, deed_calls}
 use Rattle.sweep_rules.specs.Sweep.{Sweeper, Sweep, Swept, IsPiece, IsSweep, after_piece, after_pieces, due_save, deeds_of}
 use Rattle.sweep_rules.specs.SweepWork.{sweep_calls, piece_lines, pieces_lines, lost_call}
-use Rattle.rescue_core.proofs.TurnEndLemmas.{says_none}
 use Rattle.rescue_core.proofs.ObjectLemmas.{timed_none, timed_more, makes_none, makes_more, says_more}
 use Rattle.fill_generate.specs.Sweeping.{around, BreaksAfter, times_after, IsStarved, IsCut, IsBroken}
 use Rattle.fill_generate.specs.Steps.{deed_of, DoesPiece, DidPiece, Halted, Starved, Uncalled, Unsaved, SweepWent, WentOn, WentUpTo}

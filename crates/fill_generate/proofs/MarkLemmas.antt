@@ -17,7 +17,7 @@ use Rattle.rescue_rules.specs.Preparation.{if_asked, changed_from}
 use Rattle.rescue_rules.proofs.MarkLemmas.{marked_inside, marked_outside, slice_get-take}
 use Rattle.rescue_rules.proofs.PreparationLemmas.{length_changed}
 use Rattle.rescue_rules.proofs.SearchLemmas.{true_or_false}
-use Rattle.rescue_core.proofs.PrepareLemmas.{changed_is}
+use Rattle.map_preparation.proofs.PrepareLemmas.{changed_is}
 use Rattle.sweep_rules.specs.Sweep.{Swept, is_not_zero, is_there, part_of, is_generated}
 use Rattle.fill_generate.specs.Marking.{is_byte, finished_at, finished_between, piece_at}
 

@@ -8,13 +8,13 @@ use Rattle.block_list.specs.declared.status.Status.{Status}
 use Rattle.block_list.specs.Places.{IsFirst, IsRangeUp}
 use Rattle.faulty_source.specs.Journal.{floor}
 use Rattle.rescue_domain.specs.Parts.{covers}
-use Rattle.rescue_core.specs.declared.settings.Settings.{Settings}
-use Rattle.rescue_core.specs.RunState.{IsSound}
+use Rattle.run_options.specs.declared.settings.Settings.{Settings}
 use Rattle.rescue_rules.proofs.RoundLemmas.{floor_beyond}
 use Rattle.rescue_rules.specs.Setting.{Setting}
 use Rattle.rescue_rules.specs.Counts.{passes, passing}
 use Rattle.sweep_rules.specs.Sweep.{Sweeper, Sweep, IsTaken, IsPiece, IsSweptOut}
 use Rattle.block_list.specs.Map.{Has}
+use Rattle.run_options.specs.Settings.{IsSound}
 use Rattle.rescue_rules.proofs.SearchLemmas.{true_or_false}
 use Rattle.fill_generate.specs.declared.mode.SweepMode.{SweepMode}
 use Rattle.fill_generate.specs.Modes.{takes_in, is_taken, IsTakenIn, IsSweeperOf}

@@ -3,14 +3,15 @@ use Rattle.std.specs.Prelude.{ℕ, ◌+◌, Bool, List, length, Some}
 use Rattle.block_list.specs.declared.block.Range.{Range}
 use Rattle.block_list.specs.declared.status.Status.{Status}
 use Rattle.mapfile_text.specs.declared.state.Current.{Current}
-use Rattle.save_resume.specs.MapNames.{MapNames}
+use Rattle.save_resume.specs.MapNames.{MapNames, names_in}
 use Rattle.rescue_domain.specs.Parts.{covers}
 use Rattle.rescue_rules.specs.Setting.{Setting}
 use Rattle.rescue_rules.specs.declared.tally.Tally.{Tally}
 use Rattle.rescue_rules.specs.Step.{tally_at}
-use Rattle.rescue_core.specs.declared.settings.Settings.{Settings}
+use Rattle.run_options.specs.declared.settings.Settings.{Settings}
+use Rattle.run_options.specs.Settings.{IsSound, Suits, HasPlaces}
 use Rattle.rescue_core.specs.declared.keeper.Keeper.{Keeper}
-use Rattle.rescue_core.specs.RunState.{setting_with, names_in, IsSound, Suits, HasPlaces}
+use Rattle.rescue_core.specs.RunState.{setting_with}
 use Rattle.sweep_rules.specs.Sweep.{Sweep}
 use Rattle.fill_generate.specs.declared.mode.SweepMode.{SweepMode}
 

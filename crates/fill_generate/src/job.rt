@@ -2,8 +2,8 @@
 use block_list::tiles::Tiles;
 use mapfile_text::heading::Heading;
 use mapfile_text::state::MapState;
-use rescue_core::settings::Settings;
 use rescue_domain::domain::Domain;
+use run_options::settings::Settings;
 use save_resume::names::Names;
 
 /// What a sweep is asked to do.

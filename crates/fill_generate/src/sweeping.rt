@@ -31,10 +31,10 @@ use rescue_core::closing::Closed;
 use rescue_core::counts::counts_at_first;
 use rescue_core::due::Due;
 use rescue_core::keeper::Keeper;
-use rescue_core::settings::Settings;
 use rescue_domain::domain::Domain;
 use rescue_rules::stop::Stop;
 use rescue_rules::tally::Tally;
+use run_options::settings::Settings;
 use save_resume::draft::SaveFault;
 use std::marker::Model;
 

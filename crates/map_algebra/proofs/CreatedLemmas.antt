@@ -4,7 +4,7 @@ use Rattle.std.proofs.lemmas.Bool.{cond-true, cond-false, false_from_ne_true}
 use Rattle.block_list.specs.declared.status.Status.{Status}
 use Rattle.block_list.specs.declared.status.Status.TheVariants.{NonTried}
 use Rattle.block_list.specs.Map.{Has}
-use Rattle.map_algebra.specs.At.{map_by}
+use Rattle.map_counts.specs.At.{map_by}
 use Rattle.map_algebra.specs.Blocks.{is_in_blocks}
 use Rattle.map_algebra.specs.BlockLaws.{CreatedHaveBlocks}
 use Rattle.map_algebra.proofs.BlockLemmas.{in_some, some_in}

@@ -11,7 +11,7 @@ use Rattle.std.proofs.lemmas.List.Kept.{IsStrictlyIncreasing-filter}
 use Rattle.block_list.specs.declared.status.Status.{Status}
 use Rattle.map_algebra.specs.declared.shape.Shape.{Shape}
 use Rattle.block_list.specs.Types.{has_type}
-use Rattle.map_algebra.specs.At.{status_at}
+use Rattle.map_counts.specs.At.{status_at}
 use Rattle.map_algebra.specs.Blocks.{block_of}
 use Rattle.block_list.specs.Places.{IsFirst}
 use Rattle.rescue_domain.specs.Domain.{IsIn}

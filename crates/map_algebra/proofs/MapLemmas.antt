@@ -10,7 +10,7 @@ use Rattle.block_list.specs.Status.{same}
 use Rattle.rescue_domain.specs.Finished.{is_finished_at}
 use Rattle.map_algebra.specs.declared.combine.Op.{Op}
 use Rattle.map_algebra.specs.declared.combine.Op.TheVariants.{And, Or, Xor}
-use Rattle.map_algebra.specs.At.{status_at, map_by}
+use Rattle.map_counts.specs.At.{status_at, map_by}
 use Rattle.map_algebra.specs.Combine.{combined, combined_map}
 use Rattle.map_algebra.specs.Laws.{MapHasEach, AndFinishesBoth, OrFinishesEither, OtherPositionsStand, XorUndoesItself}
 

@@ -8,7 +8,7 @@ use Rattle.std.proofs.lemmas.List.{length-replicate}
 use Rattle.block_list.specs.declared.status.Status.{Status}
 use Rattle.block_list.specs.declared.status.Status.TheVariants.{NonTried, Finished}
 use Rattle.map_algebra.specs.declared.shape.Shape.{Shape}
-use Rattle.map_algebra.specs.At.{map_by, status_at}
+use Rattle.map_counts.specs.At.{map_by, status_at}
 use Rattle.map_algebra.specs.Blocks.{begin_of, end_of, is_in_block, is_in_blocks}
 use Rattle.map_algebra.specs.Create.{at_mark, created_map, mark_of}
 use Rattle.map_algebra.proofs.MapLemmas.{length_map_by, grown, status_below}

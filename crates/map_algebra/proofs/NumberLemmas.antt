@@ -3,8 +3,8 @@ use Rattle.std.proofs.Common.{◌≡◌, ℕ, ◌+◌, ◌≤◌, Bool, not, eqb
 use Rattle.std.proofs.lemmas.List.Sums.{length-filter, count_by-le-length}
 use Rattle.std.proofs.lemmas.List.Splits.{length-slice_split}
 use Rattle.mapfile_text.specs.Lines.{Line, lines, numbered_lines, filled_lines}
-use Rattle.mapfile_text.specs.Cursor.{OpenLine, line_of}
-use Rattle.mapfile_text.proofs.LineLemmas.{length-numbered}
+use Rattle.mapfile_reader.specs.Cursor.{OpenLine, line_of}
+use Rattle.mapfile_reader.proofs.LineLemmas.{length-numbered}
 use Rattle.map_algebra.specs.declared.shape.Shape.{Shape}
 use Rattle.map_algebra.specs.declared.numbers.NumberError.{NumberError}
 use Rattle.map_algebra.specs.declared.numbers.NumberError.TheVariants.{BadNumber}

@@ -6,7 +6,7 @@ use Rattle.block_list.specs.declared.status.Status.TheVariants.{NonTried, NonTri
 use Rattle.block_list.specs.Status.{symbol, status_of_symbol}
 use Rattle.block_list.specs.Types.{is_types}
 use Rattle.map_algebra.specs.declared.change.TypeChange.{TypeChange}
-use Rattle.map_algebra.specs.At.{status_at, map_by}
+use Rattle.map_counts.specs.At.{status_at, map_by}
 
 -- what becomes of a status
 abbrev pub changed_by : TypeChange → Status → Status

@@ -4,7 +4,7 @@ use Rattle.block_list.specs.declared.status.Status.{Status}
 use Rattle.block_list.specs.declared.status.Status.TheVariants.{NonTried, Finished}
 use Rattle.block_list.specs.Status.{same}
 use Rattle.map_algebra.specs.declared.shape.Shape.{Shape}
-use Rattle.map_algebra.specs.At.{map_by}
+use Rattle.map_counts.specs.At.{map_by}
 use Rattle.map_algebra.specs.Blocks.{is_in_blocks}
 
 -- The positions of the domain get one status if they lie in a listed block, and another elsewhere; what isn't in the

@@ -1,5 +1,5 @@
 -- What the definitions mean.
-use Rattle.std.specs.Prelude.{◌≡◌, ◌↔◌, ℕ, ◌+◌, ◌<◌, Bool, true, false, ◌&&◌, ◌||◌, List, sum_by}
+use Rattle.std.specs.Prelude.{◌≡◌, ◌↔◌, ℕ, ◌+◌, ◌<◌, Bool, true, false, ◌&&◌, ◌||◌, List}
 use Rattle.block_list.specs.declared.status.Status.{Status}
 use Rattle.block_list.specs.Map.{Has}
 use Rattle.block_list.specs.Places.{IsRangeUp}
@@ -7,12 +7,10 @@ use Rattle.rescue_domain.specs.Domain.{IsIn}
 use Rattle.rescue_domain.specs.Finished.{is_finished_at}
 use Rattle.map_algebra.specs.declared.combine.Op.{Op}
 use Rattle.map_algebra.specs.declared.combine.Op.TheVariants.{And, Or, Xor}
-use Rattle.block_list.specs.declared.areas.Count.{Count}
-use Rattle.map_algebra.specs.At.{status_at, map_by}
+use Rattle.map_counts.specs.At.{status_at, map_by}
 use Rattle.map_algebra.specs.Combine.{combined_map}
 use Rattle.map_algebra.specs.Compare.{FinishAlikeIn}
 use Rattle.block_list.specs.Areas.{begins_area}
-use Rattle.map_algebra.specs.Summary.{summary_of}
 
 -- a map by statuses has each of them
 abbrev pub MapHasEach : Type 0
@@ -24,12 +22,6 @@ AreasAreRanges =
     (set : ℕ → Bool) (bound x : ℕ) → ((y : ℕ) → IsIn set y → y < bound)
     → (begins_area set x ≡ true)
     ↔ ((end : ℕ) × IsRangeUp (IsIn set) x end × ((y : ℕ) → y + 1 ≡ x → IsIn set y → ⊥))
-
--- each position of a domain is counted in one line of its summary
-abbrev pub LinesAddUp : Type 0
-LinesAddUp =
-    (domain : ℕ → Bool) (statuses : List Status)
-    → sum_by (λ (c : Count). c.bytes) (summary_of domain statuses).lines ≡ (summary_of domain statuses).domain
 
 -- In the domain, `and` finishes what both maps finish.
 abbrev pub AndFinishesBoth : Type 0

@@ -1,4 +1,3 @@
-pub mod At
 pub mod Blocks
 pub mod Change
 pub mod Combine
@@ -6,6 +5,5 @@ pub mod Compare
 pub mod Create
 pub mod Listing
 pub mod Numbers
-pub mod Summary
 pub mod Laws
 pub mod BlockLaws

@@ -5,7 +5,7 @@ use Rattle.block_list.specs.declared.status.Status.{Status}
 use Rattle.block_list.specs.declared.types.TypeSet.{TypeSet}
 use Rattle.block_list.specs.Types.{has_type}
 use Rattle.map_algebra.specs.declared.shape.Shape.{Shape}
-use Rattle.map_algebra.specs.At.{status_at}
+use Rattle.map_counts.specs.At.{status_at}
 use Rattle.map_algebra.specs.Blocks.{block_of}
 
 -- what is wanted: the positions of the domain that have one of these types, by the blocks in which they lie

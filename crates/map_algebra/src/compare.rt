@@ -1,11 +1,11 @@
 //! What is asked of maps in a domain: whether one is finished, and whether two agree.
 ghost use Rattle.std.specs.Prelude.{◌≡◌, true, false};
 ghost use Rattle.rescue_domain.specs.Parts.{covers};
-ghost use Rattle.map_algebra.specs.At.{IsWithinMap};
+ghost use Rattle.map_counts.specs.At.{IsWithinMap};
 ghost use Rattle.map_algebra.specs.Compare.{IsDoneIn, IsOpenIn, AgreeIn, DifferIn, FinishAlikeIn, FinishUnlikeIn};
 
-use crate::pieces::{Nearby, PairNearby, is_finished, pair_at, piece_at};
 use block_list::tiles::Tiles;
+use map_counts::pieces::{Nearby, PairNearby, is_finished, pair_at, piece_at};
 use rescue_domain::domain::Domain;
 
 /// Whether each position of a domain is finished.

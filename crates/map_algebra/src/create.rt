@@ -2,17 +2,17 @@
 ghost use Rattle.std.specs.Prelude.{◌≡◌, ◌<◌, ◌^◌, All, IfOk, length};
 ghost use Rattle.std.specs.List.Sorted.{IsNonDecreasing, IsPermutation};
 ghost use Rattle.rescue_domain.specs.Parts.{covers};
-ghost use Rattle.map_algebra.specs.At.{map_by, status_at};
+ghost use Rattle.map_counts.specs.At.{map_by, status_at};
 ghost use Rattle.map_algebra.specs.Blocks.{IsShape};
 ghost use Rattle.map_algebra.specs.Create.{at_mark, created_map, mark_of};
 ghost use Rattle.map_algebra.specs.Numbers.{IsInRange};
 
 use crate::blocks::positions_of;
-use crate::pieces::{DomainPiece, Nearby, piece_at, put};
 use crate::shape::Shape;
 use block_list::plain_tiles::PlainTiles;
 use block_list::status::Status;
 use block_list::tiles::{NoMemory, Tiles};
+use map_counts::pieces::{DomainPiece, Nearby, piece_at, put};
 use rescue_domain::domain::Domain;
 use std::alloc::Global;
 

@@ -1,5 +1,5 @@
 //! What the definitions mean.
-ghost use Rattle.map_algebra.specs.Laws.{MapHasEach, AndFinishesBoth, OrFinishesEither, OtherPositionsStand, XorUndoesItself, AreasAreRanges, LinesAddUp};
+ghost use Rattle.map_algebra.specs.Laws.{MapHasEach, AndFinishesBoth, OrFinishesEither, OtherPositionsStand, XorUndoesItself, AreasAreRanges};
 
 /// A map by statuses has each of them.
 pub fn a_map_has_each_status()
@@ -17,9 +17,4 @@ pub fn combined_maps_finish_alike()
 /// An area begins where a range does.
 pub fn areas_are_ranges()
     ensures { AreasAreRanges }
-{}
-
-/// The lines of a summary add up to the domain.
-pub fn lines_add_up()
-    ensures { LinesAddUp }
 {}

@@ -1,4 +1,4 @@
-//! Operations on maps by position: changed, two in one or compared, counted; and lists of the blocks of the output.
+//! Operations on maps by position: changed, two in one or compared; and lists of the blocks of the output.
 #![tactic(auto)]
 
 pub mod block_laws;
@@ -10,6 +10,4 @@ pub mod create;
 pub mod laws;
 pub mod listing;
 pub mod numbers;
-pub mod pieces;
 pub mod shape;
-pub mod summary;

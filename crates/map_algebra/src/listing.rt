@@ -5,14 +5,14 @@ ghost use Rattle.rescue_domain.specs.Domain.{IsIn};
 ghost use Rattle.rescue_domain.specs.Parts.{covers};
 ghost use Rattle.block_list.specs.Types.{has_type};
 ghost use Rattle.rescue_domain.specs.Places.{AreAllPlaced, place_from};
-ghost use Rattle.map_algebra.specs.At.{IsWithinMap};
+ghost use Rattle.map_counts.specs.At.{IsWithinMap};
 ghost use Rattle.map_algebra.specs.Blocks.{block_of};
 ghost use Rattle.map_algebra.specs.Listing.{IsListed, is_typed, wanted_of};
 
-use crate::pieces::{DomainPiece, Nearby, piece_at};
 use crate::shape::Shape;
 use block_list::tiles::Tiles;
 use block_list::types::TypeSet;
+use map_counts::pieces::{DomainPiece, Nearby, piece_at};
 use rescue_domain::domain::Domain;
 use std::marker::Model;
 

@@ -1,12 +1,12 @@
 //! Lists of block numbers, one a line.
 ghost use Rattle.std.specs.Prelude.{◌≡◌, ◌⊎◌, ℕ, ◌*◌, ◌+◌, ◌<◌, ◌^◌, All, Some, None, Ok, Err, length, IsOk, IfOk, IfErr, IfSome};
-ghost use Rattle.mapfile_text.specs.Cursor.{line_of};
+ghost use Rattle.mapfile_reader.specs.Cursor.{line_of};
 ghost use Rattle.map_algebra.specs.Blocks.{IsShape};
 ghost use Rattle.map_algebra.specs.Numbers.{IsInRange, checked, in_range, number_in, numbers_in};
 ghost use Rattle.map_algebra.specs.declared.numbers.NumberError.TheVariants.{BadNumber, NoMemory as OutOfMemory};
 
 use crate::shape::Shape;
-use mapfile_text::lines::{FilledLine, FilledLines};
+use mapfile_reader::lines::{FilledLine, FilledLines};
 use size_suffixes::number::parse_number;
 use std::alloc::Global;
 use thiserror::Error;

@@ -1,5 +1,5 @@
 -- A text has one reading: each line has one meaning, and the lines after it are read from where it ends.
-use Rattle.std.proofs.Common.{◌≡◌, ℕ, ◌+◌, Bool, List, [], ◌∷◌, length, sym, ap, ◌∙◌}
+use Rattle.std.proofs.Common.{◌≡◌, ℕ, ◌+◌, Bool, List, [], ◌∷◌, sym, ◌∙◌}
 use Rattle.block_list.specs.declared.status.Status.{Status}
 use Rattle.block_list.specs.declared.block.Block.{Block}
 use Rattle.mapfile_text.specs.declared.state.MapState.{MapState}
@@ -7,7 +7,7 @@ use Rattle.mapfile_text.specs.declared.read.Mode.{Mode}
 use Rattle.mapfile_text.specs.declared.read.Mode.TheVariants.{Tight, Loose}
 use Rattle.mapfile_text.specs.Lines.{Line, said_lines}
 use Rattle.mapfile_text.specs.MapText.{IsStateLine, IsBlockLine, IsGap, Continues, Lists, AreMapLines}
-use Rattle.mapfile_text.specs.Laws.{SameReading, HasOneReading, ShapeIsOfReading}
+use Rattle.mapfile_text.specs.Laws.{SameReading, HasOneReading}
 
 pub state_is_one : (l : Line) (s t : MapState) → IsStateLine l s → IsStateLine l t → s ≡ t
 state_is_one l s t p q = let e = p.spells in let f = q.spells in cc
@@ -50,8 +50,3 @@ lines_once mode (l ∷ ls) state state' first first' listed listed' s t p q =
 pub has_one_reading : HasOneReading
 has_one_reading text mode state state' first first' listed listed' s t p q =
     lines_once mode (said_lines text) state state' first first' listed listed' s t p.reads q.reads
-
-pub shape_is_of_reading : ShapeIsOfReading
-shape_is_of_reading text mode shape state first listed statuses is reads =
-    let same = has_one_reading text mode shape.state state shape.first first shape.listed listed is.statuses statuses is.reads reads in
-    (same.state_is, same.first_is, same.listed_is, is.end ∙ ap length same.statuses_is)

@@ -1,10 +1,13 @@
 -- The pieces of a text.
-use Rattle.std.proofs.Common.{◌≡◌, ℕ, zero, suc, ◌+◌, ◌*◌, ◌/◌, ◌<◌, ◌≤◌, List, [], ◌∷◌, ◌++◌, length, map, take, drop, Some, arith, refl, sym, ap, ◌∙◌, ⊎_elim, Bool, true, false, not, nat_eq, MatchBool}
+use Rattle.std.proofs.Common.{◌≡◌, ℕ, zero, suc, ◌+◌, ◌*◌, ◌/◌, ◌<◌, ◌≤◌, List, [], ◌∷◌, ◌++◌, length, map, take, drop, Some, arith, refl, sym, ap, ◌∙◌, ◌⊎◌, inl, inr, ⊎_elim, Bool, true, false, not, nat_eq, MatchBool}
+use Rattle.std.proofs.lemmas.Bool.{cases_order}
 use Rattle.std.proofs.lemmas.Bool.Decides.{nat_tests}
 use Rattle.std.specs.List.{concat, range_with_len, slice_get}
 use Rattle.std.proofs.lemmas.List.{drop-drop, length-drop, length-take, take-append-drop, nil_from_length}
 use Rattle.mapfile_text.specs.Pieces.{piece, pieces_of, AreTakenOff, InPieces}
-use Rattle.mapfile_text.proofs.DigitLemmas.{below_or_not}
+
+pub below_or_not : (a b : ℕ) → (a < b) ⊎ (b ≤ a)
+below_or_not a b = ⊎_elim (λ e. inr (omega arith)) (λ o. ⊎_elim (λ l. inl l) (λ g. inr (omega arith)) o) (cases_order a b)
 
 next_piece : (text : List ℕ) (i : ℕ) → piece text (i + 1) ≡ piece (drop 4096 text) i
 next_piece text i =

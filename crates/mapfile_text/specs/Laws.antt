@@ -8,8 +8,6 @@ use Rattle.mapfile_text.specs.HeadingLines.{HeadingLines}
 use Rattle.mapfile_text.specs.Printed.{printed}
 use Rattle.mapfile_text.specs.Pieces.{pieces_of, AreTakenOff, InPieces}
 use Rattle.mapfile_text.specs.MapText.{IsMapText, MapFault}
-use Rattle.mapfile_text.specs.declared.check.MapShape.{MapShape}
-use Rattle.mapfile_text.specs.Checking.{IsMapShape}
 
 -- two readings are the same: their states, first positions and statuses, and whether they list a block
 pub record SameReading (state state' : MapState) (first first' : ℕ) (listed listed' : Bool)
@@ -25,12 +23,6 @@ HasOneReading = (text : List ℕ) (mode : Mode) (state state' : MapState) (first
     (statuses statuses' : List Status)
     → IsMapText text mode state first listed statuses → IsMapText text mode state' first' listed' statuses'
     → SameReading state state' first first' listed listed' statuses statuses'
-
--- the shape of a map is that of its reading
-abbrev pub ShapeIsOfReading : Type 0
-ShapeIsOfReading = (text : List ℕ) (mode : Mode) (shape : MapShape) (state : MapState) (first : ℕ) (listed : Bool)
-    (statuses : List Status) → IsMapShape text mode shape → IsMapText text mode state first listed statuses
-    → (shape.state ≡ state) × (shape.first ≡ first) × (shape.listed ≡ listed) × (shape.end ≡ length statuses)
 
 -- a text that is a map has no fault
 abbrev pub MapHasNoFault : Type 0

@@ -1,11 +1,7 @@
 pub mod HeadingLines
 pub mod Printed
 pub mod Pieces
-pub mod LeftOf
 pub mod Lines
 pub mod Fields
 pub mod MapText
-pub mod Checking
 pub mod Laws
-pub mod Reading
-pub mod Cursor

@@ -1,5 +1,5 @@
 -- When a text is a map, and of what; else why it is none.
-use Rattle.std.specs.Prelude.{◌≡◌, ◌⊎◌, ℕ, ◌+◌, ◌-◌, ◌<◌, ◌≤◌, ◌^◌, Bool, true, false, List, [], ◌∷◌, ◌++◌, replicate, Some, None}
+use Rattle.std.specs.Prelude.{◌≡◌, ◌⊎◌, ℕ, ◌+◌, ◌-◌, ◌<◌, ◌≤◌, ◌^◌, Bool, true, false, List, [], ◌∷◌, ◌++◌, length, replicate, Some, None}
 use Rattle.block_list.specs.declared.status.Status.{Status}
 use Rattle.block_list.specs.declared.status.Status.TheVariants.{NonTried}
 use Rattle.block_list.specs.declared.block.Block.{Block}
@@ -7,7 +7,7 @@ use Rattle.mapfile_text.specs.declared.state.MapState.{MapState}
 use Rattle.mapfile_text.specs.declared.read.Mode.{Mode}
 use Rattle.mapfile_text.specs.declared.read.Mode.TheVariants.{Tight, Loose}
 use Rattle.mapfile_text.specs.declared.read.MapError.{MapError}
-use Rattle.mapfile_text.specs.declared.read.MapError.TheVariants.{NoStatusLine, BadStatusLine, BadBlockLine, Gap, Overlap, TooLarge}
+use Rattle.mapfile_text.specs.declared.read.MapError.TheVariants.{NoStatusLine, BadStatusLine, BadBlockLine, Gap, Overlap, TooLarge, TooLong}
 use Rattle.mapfile_text.specs.Lines.{Line, said_lines}
 use Rattle.mapfile_text.specs.Fields.{state_of, block_of}
 
@@ -105,3 +105,8 @@ MapLinesFault mode (l ∷ ls) e = StateFault l e ⊎ ((state : MapState) × IsSt
 -- why a text is no map: no line says anything, or the first line that breaks a rule
 pub record MapFault (text : List ℕ) (mode : Mode) (e : MapError) : Type 0 where
   pub breaks : MapLinesFault mode (said_lines text) e
+
+-- why a text is refused: it is longer than the limit, or within it and no map
+abbrev pub IsRefused : List ℕ → Mode → MapError → Type 0
+IsRefused text mode e =
+    ((e ≡ TooLong) × (text_limit < length text)) ⊎ ((length text ≤ text_limit) × MapFault text mode e)

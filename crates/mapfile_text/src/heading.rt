@@ -75,28 +75,28 @@ impl Heading {
     }
 
     /// The program that prints the mapfile.
-    pub(crate) fn program(&self) -> Program
+    pub fn program(&self) -> Program
         ensures { result ≡ self.now.program }
     {
         self.program
     }
 
     /// The command line.
-    pub(crate) fn line(&self) -> &[u8]
+    pub fn line(&self) -> &[u8]
         ensures { result.now ≡ self.now.line }
     {
         self.line.as_bytes()
     }
 
     /// When the run began, in seconds since 1970.
-    pub(crate) fn start_s(&self) -> u64
+    pub fn start_s(&self) -> u64
         ensures { result ≡ self.now.start_s }
     {
         self.start_s
     }
 
     /// When the mapfile is saved, in seconds since 1970.
-    pub(crate) fn now_s(&self) -> u64
+    pub fn now_s(&self) -> u64
         ensures { result ≡ self.now.now_s }
     {
         self.now_s

@@ -1,14 +1,9 @@
 //! What the definitions mean.
-ghost use Rattle.mapfile_text.specs.Laws.{HasOneFault, HasOneReading, IsMapOrHasFault, MapHasNoFault, PiecesAreTheText, PrintedIsRead, ShapeIsOfReading, TakingGivesPieces};
+ghost use Rattle.mapfile_text.specs.Laws.{HasOneFault, HasOneReading, IsMapOrHasFault, MapHasNoFault, PiecesAreTheText, PrintedIsRead, TakingGivesPieces};
 
 /// No text is two maps.
 pub fn map_text_has_one_reading()
     ensures { HasOneReading }
-{}
-
-/// What is found of a map without memory is what is read of it.
-pub fn shape_is_of_reading()
-    ensures { ShapeIsOfReading }
 {}
 
 /// A text that is a map is never refused.

@@ -2,15 +2,12 @@
 use Rattle.std.proofs.Common.{◌≡◌, ◌≢◌, ◌↔◌, ℕ, Bool, true, false, List, [], IsTrue, refl, sym, ap, ◌∙◌, inl, inr, subst, append-nil}
 use Rattle.std.proofs.lemmas.Bool.{both_ways}
 use Rattle.fault_count.proofs.CountLemmas.{not_risen}
-use Rattle.option_words.specs.declared.fault.WordFault.{WordFault}
 use Rattle.option_words.specs.declared.fault.UsageFault.{UsageFault}
-use Rattle.option_words.specs.Reading.{WordFaultAt}
-use Rattle.option_words.proofs.MemoryLemmas.{never_memory}
-use Rattle.option_words.specs.Grammar.{AskFor, AreRefusedBy, AskSilence, IsRefusalBy, Unread as UnreadWords, Wrong as WrongWords}
+use Rattle.option_words.specs.Grammar.{AskFor, AskSilence, IsRefusalBy}
 use Rattle.option_words.proofs.MeaningLemmas.{asked_or_refused}
 use Rattle.rescue_console.specs.ConsoleState.{ChannelState, ConsoleState, TextGoesOn}
-use Rattle.work_rules.specs.Work.{Works}
-use Rattle.work_rules.proofs.VerdictLemmas.{one_verdict}
+use Rattle.program_promise.specs.Work.{Works}
+use Rattle.program_promise.proofs.VerdictLemmas.{one_verdict}
 use Rattle.program_promise.specs.World.{WorldState, with_console, Told, told}
 use Rattle.program_promise.specs.Kinds.{Failure, AtOpen, AtRead, AtCall, AtCallAfterRead, AtTake, AtPut, Kind, Asked, Brought, Wrong, Failed, Starved, IsNoFaultKind, IsVerdictKind, IsWorkKind}
 use Rattle.program_promise.specs.Causes.{Changed, Changes, changes_of, none_rises}
@@ -86,7 +83,7 @@ module _ {C E O : Type 0} (p : Program C E O) where
     leaves = subst (λ (x : C). p.Leaves x (line_by p words) d.outside e d.did old new) same d.leaves;
   }
 
-  module _ (m : IsWellMade p) where
+  module _ {Begins : WorldState → Type 0} {usage : UsageFault → E} (m : IsWellMade p Begins usage) where
     -- for what the words ask for
     unfoldable pub asked : (words : List (List ℕ)) (c : C) (e : E) (quiet : Bool) (old new : WorldState)
         → AskFor p.grammar words c → ((other : C) → AskFor p.grammar words other → other ≡ c)
@@ -107,7 +104,8 @@ module _ {C E O : Type 0} (p : Program C E O) where
         }
 
     -- nothing, if memory ran out before the words were read
-    unfoldable pub starved : (words : List (List ℕ)) (w : WorldState) → p.Begins w → IsDone p words p.faults.memory false w w
+    unfoldable pub starved : (words : List (List ℕ)) (w : WorldState) → Begins w
+        → IsDone p words p.faults.memory false w w
     starved words w begins = record {
       does = record {
         words_are = subst (λ (k : Kind). SaysOfWords p k p.faults.memory words) (sym m.memory) tt;
@@ -121,26 +119,19 @@ module _ {C E O : Type 0} (p : Program C E O) where
       loud = λ off silence. (refl, refl);
     }
 
-    -- nothing, if they are refused: for a fault that they may have
-    may_have : (words : List (List ℕ)) (fault : UsageFault) → AreRefusedBy p.grammar words fault → p.HasFault fault
-    may_have words fault (UnreadWords rows f options at is) =
-        subst p.HasFault (sym is)
-        (m.reads f (λ none. never_memory rows words (subst (λ (h : WordFault). WordFaultAt rows words h) none at)))
-    may_have words fault (WrongWords rows items operands options reading is) = m.gives words items operands fault is
-
-    pub refused : (words : List (List ℕ)) (fault : UsageFault) (quiet : Bool) (w : WorldState) → p.Begins w
-        → IsRefusalBy p.grammar words fault quiet → IsDone p words (p.wrong fault) quiet w w
+    -- nothing, if they are refused
+    pub refused : (words : List (List ℕ)) (fault : UsageFault) (quiet : Bool) (w : WorldState) → Begins w
+        → IsRefusalBy p.grammar words fault quiet → IsDone p words (usage fault) quiet w w
     refused words fault quiet w begins r =
-        let has = may_have words fault r.refused in
+        let is = sym (m.wrong words fault r.refused) in
         record {
           does = record {
-            words_are = subst (λ (k : Kind). SaysOfWords p k (p.wrong fault) words) (sym (m.wrong fault has))
-                (r.refused, has);
-            cause = subst (λ (k : Kind). Changed (changes_of k) w w) (sym (m.wrong fault has)) (still w);
-            also = (m.wrong_idle fault has).also;
+            words_are = subst (λ (k : Kind). SaysOfWords p k (usage fault) words) is r.refused;
+            cause = subst (λ (k : Kind). Changed (changes_of k) w w) is (still w);
+            also = (m.wrong_idle fault).also;
             asked_for = λ c asks. absurd (r.nothing c asks);
             nothing = λ none. refl;
-            keeps = (m.wrong_idle fault has).keeps w begins;
+            keeps = (m.wrong_idle fault).keeps w begins;
           };
           silent = λ on. r.quiet_is.1 on;
           loud = λ off silence. absurd (both_ways quiet off (r.quiet_is.0 silence));
@@ -159,7 +150,7 @@ module _ {C E O : Type 0} (p : Program C E O) where
 
     fault_of : (k : Kind) (t : Told E) (c : C) → AskFor p.grammar t.words c → NothingFailed t
         → SaysOfWords p k t.answer t.words → Changed (changes_of k) t.before t.after → IsNoFaultKind k
-    fault_of (Wrong fault) t c asks f says changed = asked_or_refused p.grammar t.words c fault asks says.0
+    fault_of (Wrong fault) t c asks f says changed = asked_or_refused p.grammar t.words c fault asks says
     fault_of (Failed at) t c asks f says changed = not_failed at t f changed
     fault_of _ t c asks f says changed = tt
 

@@ -76,7 +76,7 @@ module _ {C E O : Type 0} (p : Program C E O) where
 
     -- ---- what is said before the message
 
-    module _ (m : IsWellMade p) where
+    module _ {Begins : WorldState → Type 0} {usage : UsageFault → E} (m : IsWellMade p Begins usage) where
       -- by work for what the words ask for
       pub asked_says : (words : List (List ℕ)) (c : C) (e : E) (quiet heard : Bool) (old new : WorldState)
           → AskFor p.grammar words c → ((other : C) → AskFor p.grammar words other → other ≡ c)
@@ -96,7 +96,7 @@ module _ {C E O : Type 0} (p : Program C E O) where
       }
 
       -- nothing, if memory ran out before the words were read
-      pub starved_says : (words : List (List ℕ)) (w : WorldState) → (begins : p.Begins w)
+      pub starved_says : (words : List (List ℕ)) (w : WorldState) → (begins : Begins w)
           → ((c : C) → lines (m.starves c (line_by p words) w begins).outside ≡ [])
           → IsSaid p lines words p.faults.memory true w w
       unfolding starved
@@ -112,8 +112,8 @@ module _ {C E O : Type 0} (p : Program C E O) where
       }
 
       -- nor if they are refused
-      pub refused_says : (words : List (List ℕ)) (fault : UsageFault) (quiet : Bool) (w : WorldState) → p.Begins w
-          → IsRefusalBy p.grammar words fault quiet → IsSaid p lines words (p.wrong fault) (not quiet) w w
+      pub refused_says : (words : List (List ℕ)) (fault : UsageFault) (quiet : Bool) (w : WorldState) → Begins w
+          → IsRefusalBy p.grammar words fault quiet → IsSaid p lines words (usage fault) (not quiet) w w
       refused_says words fault quiet w begins r = record {
         quiet = quiet;
         done = refused p m words fault quiet w begins r;

@@ -3,8 +3,8 @@ use Rattle.std.specs.Prelude.{◌≡◌, ◌≢◌, ℕ, ◌-◌, ◌^◌, ◌<�
 use Rattle.option_words.specs.declared.fault.UsageFault.{UsageFault}
 use Rattle.option_words.specs.Grammar.{AskFor, AreRefusedBy}
 use Rattle.rescue_console.specs.ConsoleState.{TextGoesOn}
-use Rattle.work_rules.specs.Work.{Deeds, Works}
-use Rattle.work_rules.specs.Verdicts.{RefuseOnce}
+use Rattle.program_promise.specs.Work.{Deeds, Works}
+use Rattle.program_promise.specs.Verdicts.{RefuseOnce}
 use Rattle.program_promise.specs.Kinds.{Starved, IsNoFaultKind}
 use Rattle.program_promise.specs.Program.{Program, kind_of, message_by}
 use Rattle.program_promise.specs.World.{Told}

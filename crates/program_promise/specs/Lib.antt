@@ -1,8 +1,12 @@
+pub mod Work
+pub mod Verdicts
+pub mod Parts
+pub mod Opens
+pub mod Holds
 pub mod World
 pub mod Kinds
 pub mod Rows
 pub mod Causes
-pub mod WordFaults
 pub mod Program
 pub mod Saying
 pub mod Operands

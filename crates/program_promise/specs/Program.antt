@@ -1,23 +1,20 @@
 -- A program, as data: how its words are read, how it answers, and its work.
 use Rattle.std.specs.Prelude.{ℕ, Bool, List}
 use Rattle.option_words.specs.Words.{command_line}
-use Rattle.option_words.specs.declared.fault.UsageFault.{UsageFault}
 use Rattle.option_words.specs.Grammar.{Grammar}
 use Rattle.console_texts.specs.Texts.{message_of}
-use Rattle.work_rules.specs.Work.{Deeds, Faults, WorkStep}
+use Rattle.program_promise.specs.Work.{Deeds, Faults, WorkStep}
 use Rattle.program_promise.specs.World.{WorldState}
 use Rattle.program_promise.specs.Kinds.{Kind, is_silent_kind}
 use Rattle.program_promise.specs.Rows.{AnswerRow}
 
 -- C is what its words ask for, E how it ended, and O what its work found outside of it.
 pub record Program (C E O : Type 0) : Type 1 where
-  -- The program's name, its grammar, and the faults that its words may have;
+  -- The program's name and its grammar;
   pub name : List ℕ
   pub grammar : Grammar C
-  pub HasFault : UsageFault → Type 0
-  -- the row of each answer, the answer for words that are refused, and the answers for faults;
+  -- the row of each answer, and the answers for faults;
   pub row : E → AnswerRow
-  pub wrong : UsageFault → E
   pub faults : Faults E
   -- which answers a command may have;
   pub Fits : C → E → Type 0
@@ -29,8 +26,7 @@ pub record Program (C E O : Type 0) : Type 1 where
   -- what the work leaves: what is put on standard output, if the command line may be shown, and whatever the answer
   -- says besides of the feed, of the files and of what a stop may find;
   pub Leaves : C → (line : List ℕ) → O → E → Deeds → (old new : WorldState) → Type 0
-  -- what holds of the objects when the program is called, and what stays so, whatever the words ask for.
-  pub Begins : WorldState → Type 0
+  -- what stays so, whatever the words ask for.
   pub Keeps : E → (old new : WorldState) → Type 0
 
 -- the kind of an answer

@@ -5,7 +5,7 @@ use Rattle.fault_count.specs.Schedule.{with_call}
 use Rattle.option_words.specs.Grammar.{AskFor, AreRefusedBy, AskSilence}
 use Rattle.rescue_console.specs.declared.console.Channel.TheVariants.{Err}
 use Rattle.rescue_console.specs.ConsoleState.{Puts, PutsPart}
-use Rattle.work_rules.specs.Work.{Deeds, Works}
+use Rattle.program_promise.specs.Work.{Deeds, Works}
 use Rattle.program_promise.specs.World.{WorldState, Told, with_console}
 use Rattle.program_promise.specs.Kinds.{Kind, Asked, Brought, Wrong, Failed, Starved}
 use Rattle.program_promise.specs.Causes.{Changed, changes_of}
@@ -23,7 +23,7 @@ module _ {C E O : Type 0} (p : Program C E O) where
   abbrev pub SaysOfWords : Kind → E → (words : List (List ℕ)) → Type 0
   SaysOfWords Asked e words = AreAccepted words e
   SaysOfWords Brought e words = AreAccepted words e
-  SaysOfWords (Wrong fault) e words = AreRefusedBy p.grammar words fault × p.HasFault fault
+  SaysOfWords (Wrong fault) e words = AreRefusedBy p.grammar words fault
   SaysOfWords (Failed at) e words = AreAccepted words e
   SaysOfWords Starved e words = ⊤
 

@@ -55,3 +55,8 @@ spoken_is_put (p ∷ ps) a b (inl first) tells channel =
     rest ∙ ap (λ t. t ++ texts_on channel ps) here
     ∙ append_assoc (channel_of channel a).text (text_on channel p.channel p.text) (texts_on channel ps)
 spoken_is_put (p ∷ ps) a b (inr broken) tells channel = absurd (cc broken.0)
+
+-- who says nothing is heard as before
+pub says_none : (heard : Bool) (console : ConsoleState) → SpeaksOn [] heard heard console console
+says_none true console = (refl, refl)
+says_none false console = (refl, refl)

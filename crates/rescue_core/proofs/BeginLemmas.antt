@@ -18,13 +18,14 @@ use Rattle.rescue_rules.specs.Machine.{Machine, start_of, is_live}
 use Rattle.rescue_rules.specs.Beginning.{first_pass, first_cursor}
 use Rattle.rescue_domain.specs.Parts.{covers}
 use Rattle.rescue_core.specs.declared.keeper.Keeper.{Keeper}
-use Rattle.rescue_core.specs.declared.settings.Settings.{Settings}
+use Rattle.run_options.specs.declared.settings.Settings.{Settings}
+use Rattle.run_options.specs.Settings.{IsSound, Suits}
 use Rattle.rescue_rules.specs.declared.report.Counts.{Counts}
 use Rattle.rescue_rules.specs.declared.progress.Progress.{Progress}
 use Rattle.rescue_rules.specs.Counts.{counts_of}
 use Rattle.rescue_rules.proofs.FitLemmas.{first_few, first_there, start_there}
 use Rattle.rescue_rules.proofs.ReadyLemmas.{order_lead}
-use Rattle.rescue_core.specs.RunState.{RunState, setting_with, setting_in, IsSound, Suits, run_at, IsRunning, HasCounts, passed}
+use Rattle.rescue_core.specs.RunState.{RunState, setting_with, setting_in, run_at, IsRunning, HasCounts, passed}
 use Rattle.rescue_core.proofs.RequestLemmas.{start_up}
 use Rattle.rescue_core.proofs.PassLemmas.{next_passes, IsOn, next_on, copying_leads}
 

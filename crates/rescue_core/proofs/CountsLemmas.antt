@@ -15,8 +15,8 @@ use Rattle.faulty_source.specs.Journal.{Reading, is_failed, kept}
 use Rattle.rescue_domain.specs.declared.live.Live.{Live}
 use Rattle.rescue_domain.specs.Live.{lives}
 use Rattle.rescue_domain.specs.Parts.{covers}
-use Rattle.map_algebra.specs.Summary.{count_from, has_one}
-use Rattle.map_algebra.proofs.CountLemmas.{count_with}
+use Rattle.map_counts.specs.Summary.{count_from, has_one}
+use Rattle.map_counts.proofs.CountLemmas.{count_with}
 use Rattle.transfer_token.specs.declared.token.Request.{Request}
 use Rattle.rescue_rules.specs.declared.phase.Phase.{Phase}
 use Rattle.rescue_rules.specs.declared.report.Counts.{Counts}

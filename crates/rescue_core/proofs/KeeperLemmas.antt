@@ -6,7 +6,7 @@ use Rattle.rescue_rules.specs.declared.phase.Phase.{Phase}
 use Rattle.rescue_rules.specs.declared.report.Counts.{Counts}
 use Rattle.rescue_rules.specs.declared.progress.Progress.{Progress}
 use Rattle.rescue_core.specs.declared.keeper.Keeper.{Keeper}
-use Rattle.rescue_core.specs.declared.settings.Settings.{Settings}
+use Rattle.run_options.specs.declared.settings.Settings.{Settings}
 use Rattle.rescue_core.specs.RunState.{RunState, setting_with, machine_at, run_at, IsRunning, HasCounts}
 
 -- a save changes no more than the times of a heading

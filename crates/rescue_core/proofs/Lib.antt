@@ -4,7 +4,6 @@ pub mod ClosingLemmas
 pub mod CountsLemmas
 pub mod ObjectLemmas
 pub mod PassLemmas
-pub mod PrepareLemmas
 pub mod StageLemmas
 pub mod TurnEndLemmas
 -- These are the crate's own.
@@ -13,7 +12,6 @@ mod KeeperLemmas
 mod LineLemmas
 mod ProgressLemmas
 mod RequestLemmas
-mod RoomLemmas
 mod RunningLemmas
 mod SaveLemmas
 mod TurnCallLemmas

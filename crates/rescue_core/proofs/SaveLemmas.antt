@@ -7,10 +7,9 @@ use Rattle.crash_site.specs.Calls.{Call}
 use Rattle.crash_site.specs.SiteState.{SiteState}
 use Rattle.crash_site.specs.SiteChanges.{Makes, Breaks}
 use Rattle.save_resume.specs.declared.draft.SaveFault.{SaveFault}
-use Rattle.save_resume.specs.MapNames.{MapNames}
+use Rattle.save_resume.specs.MapNames.{MapNames, names_in}
 use Rattle.save_resume.specs.Saving.{save_calls, IsNameIn, Saves}
 use Rattle.rescue_rules.specs.Snapshots.{heading_at}
-use Rattle.rescue_core.specs.RunState.{names_in}
 
 pub heading_is : (program : Program) (line : List ℕ) (began now : ℕ) → program ≡ Ddrescue
     → record { program = program; line = line; start_s = began / 1000; now_s = now / 1000 } ≡ heading_at line began now

@@ -25,7 +25,7 @@ use Rattle.rescue_rules.proofs.ReadyLemmas.{ready_here, ready_on, ready_end, spe
 use Rattle.rescue_core.specs.RunState.{RunState, setting_in, passed, IsRunning, IsGone}
 use Rattle.rescue_core.specs.Stages.{Reached, Begun, Copied, Trimmed, Scraped, Over, IsTrimmed, IsScraped, IsOver, Known}
 use Rattle.rescue_core.specs.declared.turn.Turn.{Turn}
-use Rattle.rescue_core.specs.Across.{Across}
+use Rattle.rescue_rules.specs.Across.{Across}
 use Rattle.rescue_core.specs.Turning.{stepped, IsEvent, Turned, Halted, Starved, Lost, Unwritten, Limited, Unsaved}
 
 -- its settings are sensible

@@ -7,13 +7,13 @@ use Rattle.crash_site.specs.Calls.{Call, Entry, Done}
 use Rattle.crash_site.specs.CallsMade.{BrokeAt}
 use Rattle.crash_site.specs.SiteState.{SiteState}
 use Rattle.crash_site.specs.SiteChanges.{Keeps, Makes, Breaks}
-use Rattle.save_resume.specs.MapNames.{MapNames}
+use Rattle.save_resume.specs.MapNames.{MapNames, names_in}
 use Rattle.save_resume.specs.Saving.{save_calls, IsNameIn}
 use Rattle.rescue_rules.specs.declared.stop.Limit.{Limit}
 use Rattle.rescue_rules.specs.Step.{Event, is_timely, limit_met, step}
 use Rattle.rescue_rules.specs.Snapshots.{text_of, snapshot_of, is_due}
 use Rattle.rescue_rules.specs.RunCalls.{write_calls, due_calls, move_calls}
-use Rattle.rescue_core.specs.RunState.{RunState, names_in, setting_in}
+use Rattle.rescue_core.specs.RunState.{RunState, setting_in}
 use Rattle.rescue_core.specs.Turning.{move_by, stepped}
 
 -- some calls, and then others

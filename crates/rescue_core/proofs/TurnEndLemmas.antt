@@ -1,5 +1,5 @@
 -- A turn after its marks: what is said and saved then.
-use Rattle.std.proofs.Common.{◌≡◌, Bool, true, false, if◌then◌else◌, List, [], ◌∷◌, Some, None, is_some, refl, sym, ap, subst, ◌∙◌}
+use Rattle.std.proofs.Common.{◌≡◌, Bool, true, if◌then◌else◌, List, [], ◌∷◌, Some, None, is_some, refl, sym, ap, subst, ◌∙◌}
 use Rattle.crash_site.specs.declared.site.SiteCall.{SiteCall}
 use Rattle.crash_site.specs.Calls.{Call}
 use Rattle.crash_site.specs.SiteState.{SiteState}
@@ -8,6 +8,7 @@ use Rattle.save_resume.specs.Saving.{save_calls, IsNameIn}
 use Rattle.rescue_console.specs.ConsoleState.{ConsoleState}
 use Rattle.rescue_console.specs.Speaking.{SpeaksOn, out_pieces}
 use Rattle.transfer_token.specs.declared.token.Request.{Request}
+use Rattle.save_resume.specs.MapNames.{names_in}
 use Rattle.rescue_rules.specs.declared.stop.Limit.{Limit}
 use Rattle.rescue_rules.specs.declared.stop.Stop.TheVariants.{Site, LimitMet}
 use Rattle.rescue_rules.specs.Step.{Event, is_timely, limit_met}
@@ -15,16 +16,11 @@ use Rattle.rescue_rules.specs.Snapshots.{text_of, snapshot_of}
 use Rattle.rescue_rules.specs.RunCalls.{write_calls}
 use Rattle.rescue_rules.specs.Lines.{phase_front, report_of, report_text}
 use Rattle.rescue_core.specs.declared.turn.Advanced.{Advanced}
-use Rattle.rescue_core.specs.Across.{Across}
-use Rattle.rescue_core.specs.RunState.{RunState, names_in, setting_in}
+use Rattle.rescue_rules.specs.Across.{Across}
+use Rattle.rescue_core.specs.RunState.{RunState, setting_in}
 use Rattle.rescue_core.specs.Turning.{stepped, move_pieces, Turned, Halted, Limited, Unsaved}
 use Rattle.rescue_core.specs.TurnParts.{Advances}
 use Rattle.rescue_core.proofs.TurnCallLemmas.{save_if, timely_due, save_named, move_makes, timely_breaks, timely_rose}
-
--- who says nothing is heard as before
-pub says_none : (heard : Bool) (console : ConsoleState) → SpeaksOn [] heard heard console console
-says_none true console = (refl, refl)
-says_none false console = (refl, refl)
 
 -- the line of a run, if it is due, is said by one who is heard so far or not
 abbrev pub SaysOf : RunState → (due heard heard' : Bool) → (console console' : ConsoleState) → Type 0

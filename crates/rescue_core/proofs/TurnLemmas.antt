@@ -21,8 +21,9 @@ use Rattle.rescue_rules.specs.Step.{Event, map_after, step}
 use Rattle.rescue_rules.proofs.RoundLemmas.{ceiling_above}
 use Rattle.rescue_rules.proofs.StepLemmas.{Asks, request_asks, wanted_domain, asks_back}
 use Rattle.rescue_core.specs.declared.keeper.Keeper.{Keeper}
-use Rattle.rescue_core.specs.declared.settings.Settings.{Settings}
-use Rattle.rescue_core.specs.RunState.{RunState, setting_in, HasPlaces, IsRunning, run_at}
+use Rattle.run_options.specs.declared.settings.Settings.{Settings}
+use Rattle.run_options.specs.Settings.{HasPlaces}
+use Rattle.rescue_core.specs.RunState.{RunState, setting_in, IsRunning, run_at}
 use Rattle.rescue_core.specs.Turning.{stepped}
 use Rattle.rescue_core.specs.TurnParts.{IsBackOf}
 use Rattle.rescue_core.proofs.StageLemmas.{running_sensible}

@@ -24,11 +24,12 @@ use Rattle.rescue_rules.proofs.StepLemmas.{move_steps}
 use Rattle.rescue_core.specs.declared.gather.Gathered.{Gathered}
 use Rattle.rescue_core.specs.declared.running.Running.TheInside.{Inside}
 use Rattle.rescue_core.specs.declared.keeper.Keeper.{Keeper}
-use Rattle.rescue_core.specs.declared.settings.Settings.{Settings}
+use Rattle.run_options.specs.declared.settings.Settings.{Settings}
+use Rattle.run_options.specs.Settings.{HasPlaces}
 use Rattle.rescue_core.specs.declared.turn.Turn.{Turn}
 use Rattle.rescue_core.specs.declared.turn.Advanced.{Advanced}
-use Rattle.rescue_core.specs.Across.{Across}
-use Rattle.rescue_core.specs.RunState.{RunState, setting_in, run_at, HasPlaces, IsRunning, HasCounts}
+use Rattle.rescue_rules.specs.Across.{Across}
+use Rattle.rescue_core.specs.RunState.{RunState, setting_in, run_at, IsRunning, HasCounts}
 use Rattle.rescue_core.specs.Turning.{turn_of, stepped, Halted}
 use Rattle.rescue_core.specs.TurnParts.{RunsAt, IsReadOf, Gathers, Advances}
 use Rattle.rescue_core.specs.After.{Marks, GoesOnAfter}

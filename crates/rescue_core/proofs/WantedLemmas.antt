@@ -17,7 +17,7 @@ use Rattle.rescue_rules.specs.Passes.{Pass, taken, is_up, numbered}
 use Rattle.rescue_rules.specs.Machine.{Machine, Search, has_taken, is_live, is_wanted, IsWanted, search_of, IsNextRange, cut_start, cut_end, IsRequest, is_ahead, has_request}
 use Rattle.rescue_rules.proofs.SearchLemmas.{request_found}
 use Rattle.rescue_core.specs.RunState.{RunState, setting_in, led_from, IsLed}
-use Rattle.rescue_core.specs.Search.{IsMarked}
+use Rattle.rescue_domain.specs.Search.{IsMarked}
 use Rattle.rescue_core.specs.Requesting.{StandsAt, IsCutOf}
 use Rattle.rescue_core.proofs.RequestLemmas.{start_up, lead_search}
 

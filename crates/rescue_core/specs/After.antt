@@ -20,7 +20,7 @@ use Rattle.rescue_rules.specs.Said.{is_line_due}
 use Rattle.rescue_rules.specs.Step.{Event, is_timely, map_after, step}
 use Rattle.rescue_core.specs.declared.gather.Gathered.{Gathered}
 use Rattle.rescue_core.specs.declared.landing.Kept.{Kept}
-use Rattle.rescue_core.specs.declared.settings.Settings.{Settings}
+use Rattle.run_options.specs.declared.settings.Settings.{Settings}
 use Rattle.rescue_core.specs.declared.turn.Turn.{Turn}
 use Rattle.rescue_core.specs.declared.turn.Advanced.{Advanced}
 use Rattle.rescue_core.specs.RunState.{RunState, setting_in, HasCounts}

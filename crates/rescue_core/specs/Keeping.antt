@@ -2,9 +2,9 @@
 use Rattle.std.specs.Prelude.{List, [], ◌∷◌, is_some, if◌then◌else◌}
 use Rattle.crash_site.specs.Calls.{Call, image_sync}
 use Rattle.save_resume.specs.Saving.{save_calls}
+use Rattle.save_resume.specs.MapNames.{names_in}
 use Rattle.rescue_rules.specs.Snapshots.{Snapshot, text_of}
 use Rattle.rescue_core.specs.declared.keeper.Keeper.{Keeper}
-use Rattle.rescue_core.specs.RunState.{names_in}
 
 -- a save, if there is a mapfile
 abbrev pub saves_of : Keeper → Snapshot → List Call

@@ -1,8 +1,5 @@
-pub mod Across
 pub mod RunState
 pub mod Keeping
-pub mod Search
-pub mod Preparing
 pub mod Requesting
 pub mod Turning
 pub mod Closing

@@ -6,7 +6,7 @@ use Rattle.rescue_rules.specs.declared.progress.Progress.{Progress}
 use Rattle.rescue_rules.specs.Passes.{numbered}
 use Rattle.rescue_rules.specs.Machine.{Machine, Search as RulesSearch, IsNextRange, cut_start, cut_end}
 use Rattle.rescue_core.specs.declared.request.Search.{Search}
-use Rattle.rescue_core.specs.Search.{IsMarked}
+use Rattle.rescue_domain.specs.Search.{IsMarked}
 
 -- a search, as the rules have it
 abbrev pub search_by : Search → RulesSearch

@@ -1,11 +1,11 @@
--- What is known of a run between its turns.
-use Rattle.std.specs.Prelude.{◌≡◌, ℕ, ◌+◌, ◌-◌, ◌*◌, ◌^◌, ◌<◌, ◌≤◌, Bool, true, false, List, [], length, drop, Option, Some, None, is_some}
+-- What is known of a run between its turns. For contracts and proofs: no promise uses it.
+use Rattle.std.specs.Prelude.{◌≡◌, ℕ, ◌^◌, ◌<◌, ◌≤◌, Bool, true, false, List, [], length, drop, Option, is_some}
 use Rattle.block_list.specs.declared.block.Range.{Range}
 use Rattle.block_list.specs.declared.status.Status.{Status}
 use Rattle.block_list.specs.declared.status.Status.TheVariants.{NonTrimmed}
 use Rattle.block_list.specs.Map.{Has}
 use Rattle.mapfile_text.specs.declared.state.MapState.{MapState}
-use Rattle.save_resume.specs.MapNames.{MapNames}
+use Rattle.save_resume.specs.MapNames.{MapNames, names_in}
 use Rattle.rescue_rules.specs.declared.phase.Phase.{Phase}
 use Rattle.rescue_rules.specs.declared.phase.Phase.TheVariants.{Copying, Trimming, Scraping}
 use Rattle.rescue_rules.specs.declared.stop.TrimMode.{TrimMode}
@@ -22,7 +22,8 @@ use Rattle.rescue_rules.specs.Counts.{counts_of}
 use Rattle.rescue_rules.specs.Beginning.{first_pass, shown_at_first, machine_of}
 use Rattle.rescue_domain.specs.Parts.{covers}
 use Rattle.rescue_core.specs.declared.keeper.Keeper.{Keeper}
-use Rattle.rescue_core.specs.declared.settings.Settings.{Settings}
+use Rattle.run_options.specs.declared.settings.Settings.{Settings}
+use Rattle.run_options.specs.Settings.{IsSound, Suits}
 
 -- A run's settings, its domain, the names of its mapfile and its draft if there is a mapfile, and the command line. The
 -- phase and the pass that it is in, and how far it is. Whether it is heard: lines are asked for, and each was put.
@@ -35,11 +36,6 @@ pub record RunState : Type 0 where
   pub pass : ℕ
   pub machine : Machine
   pub heard : Bool
-
--- the names of a mapfile and its draft, which mean nothing if there is no mapfile
-abbrev pub names_in : Option MapNames → MapNames
-names_in None = record { map = []; draft = [] }
-names_in (Some names) = names
 
 -- what settings, a domain by its intervals, names and a command line ask for. A run knows neither the names of the
 -- input and of the output nor the input's length, nor what the output may be, nor how its map was prepared, nor whether
@@ -69,29 +65,6 @@ setting_with settings domain names line = record {
 -- what a run's settings, its domain, its names and its command line ask for
 abbrev pub setting_in : RunState → Setting
 setting_in r = setting_with r.settings r.domain r.names r.line
-
--- settings within their limits
-pub record IsSound (settings : Settings) : Type 0 where
-  pub sector : 0 < settings.sector
-  pub sector_max : settings.sector ≤ 1048576
-  pub sectors : ℕ
-  pub some : 0 < sectors
-  pub cluster : settings.cluster ≡ sectors * settings.sector
-  pub cluster_max : settings.cluster ≤ 16777216
-  pub skip : settings.skips.first ≤ settings.skips.most
-  pub skip_max : settings.skips.most < 2 ^ 63
-  pub input_position : settings.input_position < 2 ^ 63
-  pub output_position : settings.output_position < 2 ^ 63
-  pub retries : settings.passes.retries < 2 ^ 32
-
--- a domain for a map of this many positions: it begins at an input's position or past it, and ends with the map
-pub record Suits (settings : Settings) (domain : ℕ → Bool) (top : ℕ) : Type 0 where
-  pub from : (x : ℕ) → domain x ≡ true → settings.input_position ≤ x
-  pub to : (x : ℕ) → domain x ≡ true → x < top
-
--- each position of the domain has a place in the output below 2^63 - 1
-pub record HasPlaces (settings : Settings) (domain : ℕ → Bool) : Type 0 where
-  pub low : (x : ℕ) → domain x ≡ true → x - settings.input_position + settings.output_position < 2 ^ 63 - 1
 
 -- the machine's state, from its parts
 abbrev pub machine_at : Setting → List Status → Phase → Progress → Tally → Machine

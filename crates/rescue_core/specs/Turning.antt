@@ -13,6 +13,7 @@ use Rattle.save_resume.specs.Saving.{save_calls, IsNameIn}
 use Rattle.rescue_console.specs.ClockState.{ClockState, Reads as ReadsClock}
 use Rattle.rescue_console.specs.Speaking.{SpokenPiece, SpeaksOn, out_pieces}
 use Rattle.transfer_token.specs.declared.token.Request.{Request}
+use Rattle.save_resume.specs.MapNames.{names_in}
 use Rattle.rescue_rules.specs.declared.stop.Stop.{Stop}
 use Rattle.rescue_rules.specs.declared.stop.Stop.TheVariants.{SourceLost, Site, LimitMet, NoMemory}
 use Rattle.rescue_rules.specs.declared.stop.Limit.{Limit}
@@ -22,8 +23,8 @@ use Rattle.rescue_rules.specs.Snapshots.{text_of, snapshot_of, is_due}
 use Rattle.rescue_rules.specs.RunCalls.{write_calls, move_calls}
 use Rattle.rescue_rules.specs.Lines.{move_lines}
 use Rattle.rescue_core.specs.declared.turn.Turn.{Turn}
-use Rattle.rescue_core.specs.Across.{Across}
-use Rattle.rescue_core.specs.RunState.{RunState, names_in, setting_in}
+use Rattle.rescue_rules.specs.Across.{Across}
+use Rattle.rescue_core.specs.RunState.{RunState, setting_in}
 
 -- a read of what was requested, which gave the input's own bytes, between two readings of the clock
 pub record IsEvent (request : Request) (e : Event) (source source' : SourceState) (clock clock' : ClockState)

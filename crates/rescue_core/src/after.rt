@@ -1,7 +1,7 @@
 //! What a run does after a read that it gathered.
 ghost use Rattle.std.specs.Prelude.{◌+◌, ◌≤◌, length};
+ghost use Rattle.run_options.specs.Settings.{IsSound};
 ghost use Rattle.transfer_token.specs.Tokens.{Spans};
-ghost use Rattle.rescue_core.specs.RunState.{IsSound};
 ghost use Rattle.rescue_core.specs.TurnParts.{IsBackOf, fetched_of};
 ghost use Rattle.rescue_core.specs.After.{GoesOnAfter};
 
@@ -11,7 +11,6 @@ use crate::gather::Gathered;
 use crate::landing::Kept;
 use crate::mark::mark;
 use crate::progress::progress_after;
-use crate::settings::Settings;
 use crate::tally::{shown_at, tally_after};
 use crate::turn::{Advanced, Turn};
 use crate::wanted::trims_on;
@@ -22,6 +21,7 @@ use rescue_rules::phase::Phase;
 use rescue_rules::progress::Progress;
 use rescue_rules::report::Counts;
 use rescue_rules::tally::Tally;
+use run_options::settings::Settings;
 use transfer_token::token::Request;
 
 /// Marks what was kept and missed, moves cursor and skip on, and counts the read; tells what is due then.

@@ -15,7 +15,7 @@ use crate::turn::Turn;
 use block_list::areas::Count;
 use block_list::status::Status;
 use block_list::tiles::Tiles;
-use map_algebra::summary::count_statuses;
+use map_counts::summary::count_statuses;
 use rescue_domain::domain::Domain;
 use rescue_domain::live::Live;
 use rescue_rules::phase::Phase;

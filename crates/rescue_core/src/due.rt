@@ -49,6 +49,7 @@ pub(crate) fn pass_event(tally: &mut Tally, shown: MapState, more: u64, after: u
     tally.now = after;
     tally.shown = shown;
     tally.written = tally.written.saturating_add(more);
+    tally.had_event = true;
     if saves {
         tally.due_at = after;
     }

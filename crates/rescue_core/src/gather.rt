@@ -1,18 +1,18 @@
 //! A read whose kept part is in the output.
 ghost use Rattle.std.specs.Prelude.{◌≡◌, ◌+◌, ◌-◌, ◌<◌, ◌≤◌, ◌^◌, true, false, length, IfOk, IfErr};
+ghost use Rattle.run_options.specs.Settings.{IsSound};
 ghost use Rattle.faulty_source.specs.SourceChanges.{Stays as SourceStays};
 ghost use Rattle.crash_site.specs.SiteChanges.{Stays as SiteStays};
 ghost use Rattle.rescue_console.specs.ClockState.{Keeps as ClockKeeps};
 ghost use Rattle.rescue_console.specs.ConsoleState.{ConsoleState};
 ghost use Rattle.transfer_token.specs.Tokens.{Spans};
-ghost use Rattle.rescue_core.specs.Across.{across};
-ghost use Rattle.rescue_core.specs.RunState.{RunState, IsSound};
+ghost use Rattle.rescue_rules.specs.Across.{across};
+ghost use Rattle.rescue_core.specs.RunState.{RunState};
 ghost use Rattle.rescue_core.specs.Turning.{Halted};
 ghost use Rattle.rescue_core.specs.Closing.{drafting_at_stop};
 ghost use Rattle.rescue_core.specs.TurnParts.{fetched_of, Gathers};
 
 use crate::landing::{Kept, land_kept};
-use crate::settings::Settings;
 use crate::tally::turn_after;
 use crate::timed::{Timed, read_timed};
 use crate::turn::Turn;
@@ -20,6 +20,7 @@ use crash_site::site::{Site, SiteCall};
 use faulty_source::source::Source;
 use rescue_console::clock::Clock;
 use rescue_rules::stop::Stop;
+use run_options::settings::Settings;
 use transfer_token::token::Request;
 
 /// What was gathered of a request.

@@ -4,11 +4,11 @@ ghost use Rattle.rescue_rules.specs.declared.stop.Limit.TheVariants.{TimedOut};
 ghost use Rattle.rescue_rules.specs.Step.{areas_allowed, exceeds, limit_met, time_allowed};
 ghost use Rattle.rescue_core.specs.RunState.{RunState, HasCounts, setting_in};
 
-use crate::settings::Settings;
 use rescue_rules::report::Counts;
 use rescue_rules::stop::Limit;
 use rescue_rules::tally::Tally;
 use run_options::limits::AreaLimit;
+use run_options::settings::Settings;
 
 /// Whether a number is beyond a limit, if there is one.
 fn exceeds(limit: Option<u64>, number: u64) -> bool
@@ -52,7 +52,7 @@ pub(crate) fn limit_met(settings: &Settings, tally: Tally, counts: Counts) -> Op
     ensures { (r : RunState) → r.settings ≡ settings.now → tally ≡ r.machine.tally → HasCounts r counts
         → result ≡ limit_met (setting_in r) r.machine }
 {
-    if tally.said.is_none() {
+    if !tally.had_event {
         None
     } else if exceeds(settings.limits.errors, tally.failed) {
         Some(Limit::TooManyErrors(tally.failed))

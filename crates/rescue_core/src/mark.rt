@@ -10,12 +10,12 @@ ghost use Rattle.rescue_core.specs.RunState.{RunState, setting_in};
 ghost use Rattle.rescue_core.specs.TurnParts.{RunsAt, fetched_of, end_met, IsBackOf};
 
 use crate::landing::Kept;
-use crate::settings::Settings;
 use block_list::status::Status;
 use block_list::tiles::Tiles;
 use rescue_rules::phase::Phase;
 use rescue_rules::progress::Progress;
 use rescue_rules::stop::TrimMode;
+use run_options::settings::Settings;
 use transfer_token::book::{book, book_missed};
 use transfer_token::token::{Missed, Request};
 

@@ -2,6 +2,7 @@
 ghost use Rattle.std.specs.Prelude.{◌≡◌, ℕ, ◌+◌, ◌<◌, ◌≤◌, ◌^◌, List, length, Option};
 ghost use Rattle.block_list.specs.declared.block.Range.{Range};
 ghost use Rattle.block_list.specs.declared.status.Status.{Status};
+ghost use Rattle.run_options.specs.Settings.{IsSound};
 ghost use Rattle.save_resume.specs.MapNames.{MapNames};
 ghost use Rattle.rescue_rules.specs.declared.phase.Phase.{Phase};
 ghost use Rattle.rescue_rules.specs.declared.phase.Phase.TheVariants.{Trimming};
@@ -10,17 +11,17 @@ ghost use Rattle.rescue_rules.specs.Passes.{numbered};
 ghost use Rattle.rescue_rules.specs.Machine.{pass_of, start_of, is_wanted};
 ghost use Rattle.rescue_rules.specs.Step.{Event, map_after, is_jump, cursor_after, mode_after, skip_after, step};
 ghost use Rattle.rescue_rules.specs.Beginning.{first_pass, first_cursor};
-ghost use Rattle.rescue_core.specs.RunState.{RunState, setting_in, setting_with, IsSound};
+ghost use Rattle.rescue_core.specs.RunState.{RunState, setting_in, setting_with};
 ghost use Rattle.rescue_core.specs.Turning.{turn_of};
 ghost use Rattle.rescue_core.specs.TurnParts.{RunsAt, IsReadOf};
 
 use crate::request::{is_up, start_of};
-use crate::settings::Settings;
 use crate::turn::Turn;
 use mapfile_text::state::MapState;
 use rescue_rules::phase::{COPYING_PASSES, Phase};
 use rescue_rules::progress::Progress;
 use rescue_rules::stop::TrimMode;
+use run_options::settings::Settings;
 use transfer_token::token::Request;
 
 /// The start of a pass over a map that ends at `end`.

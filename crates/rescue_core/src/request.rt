@@ -3,6 +3,7 @@ ghost use Rattle.std.specs.Prelude.{◌≡◌, ℕ, ◌+◌, ◌<◌, ◌≤◌,
 ghost use Rattle.block_list.specs.declared.block.Range.{Range};
 ghost use Rattle.block_list.specs.declared.status.Status.{Status};
 ghost use Rattle.block_list.specs.declared.status.Status.TheVariants.{NonTrimmed};
+ghost use Rattle.run_options.specs.Settings.{IsSound};
 ghost use Rattle.save_resume.specs.MapNames.{MapNames};
 ghost use Rattle.rescue_domain.specs.Live.{lives};
 ghost use Rattle.rescue_rules.specs.declared.phase.Phase.{Phase};
@@ -10,19 +11,19 @@ ghost use Rattle.rescue_rules.specs.declared.phase.Phase.TheVariants.{Trimming};
 ghost use Rattle.rescue_rules.specs.declared.stop.TrimMode.TheVariants.{Lead};
 ghost use Rattle.rescue_rules.specs.Passes.{taken, is_up, numbered};
 ghost use Rattle.rescue_rules.specs.Machine.{Machine, start_of, search_of, IsNextRange, is_ahead, cut_start, cut_end, IsRequest, has_request};
-ghost use Rattle.rescue_core.specs.RunState.{setting_with, IsSound};
-ghost use Rattle.rescue_core.specs.Search.{IsMarked};
+ghost use Rattle.rescue_core.specs.RunState.{setting_with};
+ghost use Rattle.rescue_domain.specs.Search.{IsMarked};
 ghost use Rattle.rescue_core.specs.Requesting.{search_by, StandsAt, IsCutOf};
 
-use crate::search::{find_down, find_up};
-use crate::settings::Settings;
 use block_list::block::Range;
 use block_list::status::Status;
 use block_list::tiles::Tiles;
 use rescue_domain::live::Live;
+use rescue_domain::search::{find_down, find_up};
 use rescue_rules::phase::Phase;
 use rescue_rules::progress::Progress;
 use rescue_rules::stop::TrimMode;
+use run_options::settings::Settings;
 use transfer_token::token::Request;
 
 /// How a request is found. Sizes and positions are in bytes.

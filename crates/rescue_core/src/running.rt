@@ -1,12 +1,13 @@
 //! The state of a rescue under way, between its turns.
 ghost use Rattle.std.specs.Prelude.{◌≡◌, ◌+◌, ◌<◌, ◌≤◌, ◌^◌, false, Some, length, slice_get, IfSome, IfNone};
+ghost use Rattle.run_options.specs.Settings.{IsSound, Suits};
 ghost use Rattle.crash_site.specs.SiteChanges.{Keeps as SiteKeeps};
 ghost use Rattle.rescue_console.specs.Speaking.{SpeaksOn};
 ghost use Rattle.mapfile_text.specs.declared.heading.Program.TheVariants.{Ddrescue};
 ghost use Rattle.rescue_domain.specs.Parts.{covers};
 ghost use Rattle.rescue_rules.specs.Passes.{numbered};
 ghost use Rattle.rescue_rules.specs.Machine.{IsRequest, has_request};
-ghost use Rattle.rescue_core.specs.RunState.{setting_in, IsSound, Suits, started, passed, run_showing};
+ghost use Rattle.rescue_core.specs.RunState.{setting_in, started, passed, run_showing};
 ghost use Rattle.rescue_core.specs.Closing.{Closes, MayClose, last_pieces};
 
 use crate::closing::Closed;
@@ -14,7 +15,6 @@ use crate::counts::counts_at_first;
 use crate::keeper::Keeper;
 use crate::progress::{first_progress, progress_at_start};
 use crate::request::{leads_up, next_lead, next_request};
-use crate::settings::Settings;
 use block_list::tiles::Tiles;
 use crash_site::site::Site;
 use mapfile_text::heading::Heading;
@@ -27,6 +27,7 @@ use rescue_rules::progress::Progress;
 use rescue_rules::report::Counts;
 use rescue_rules::stop::Stop;
 use rescue_rules::tally::Tally;
+use run_options::settings::Settings;
 use save_resume::names::Names;
 use std::marker::Model;
 use transfer_token::token::Request;

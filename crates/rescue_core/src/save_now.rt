@@ -3,8 +3,8 @@ ghost use Rattle.std.specs.Prelude.{◌≡◌, false, [], ◌∷◌, is_some, if
 ghost use Rattle.mapfile_text.specs.declared.heading.Program.TheVariants.{Ddrescue};
 ghost use Rattle.crash_site.specs.Calls.{image_sync};
 ghost use Rattle.save_resume.specs.Saving.{save_calls, Saves};
+ghost use Rattle.save_resume.specs.MapNames.{names_in};
 ghost use Rattle.rescue_rules.specs.Snapshots.{text_of};
-ghost use Rattle.rescue_core.specs.RunState.{names_in};
 
 use block_list::tiles::Tiles;
 use crash_site::site::{Site, SiteCall};

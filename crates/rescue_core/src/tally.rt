@@ -11,13 +11,13 @@ ghost use Rattle.rescue_core.specs.Turning.{turn_of};
 ghost use Rattle.rescue_core.specs.TurnParts.{IsReadOf, end_met};
 
 use crate::due::{Due, pass_event};
-use crate::settings::Settings;
 use crate::turn::Turn;
 use faulty_source::source::Got;
 use mapfile_text::state::{Current, MapState};
 use rescue_rules::phase::Phase;
 use rescue_rules::progress::Progress;
 use rescue_rules::tally::Tally;
+use run_options::settings::Settings;
 use transfer_token::token::Request;
 
 /// What a turn answers of what a read gave between two times, of which `kept` bytes were kept.

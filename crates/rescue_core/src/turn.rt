@@ -1,5 +1,6 @@
 //! One turn of a rescue, and what it did.
 ghost use Rattle.std.specs.Prelude.{◌≡◌, ℕ, ◌+◌, true, false, not, ◌||◌, [], ◌∷◌, is_some, if◌then◌else◌, IfOk, IfErr, OnOk};
+ghost use Rattle.run_options.specs.Settings.{HasPlaces};
 ghost use Rattle.faulty_source.specs.SourceChanges.{Stays as SourceStays};
 ghost use Rattle.crash_site.specs.SiteChanges.{Stays as SiteStays};
 ghost use Rattle.rescue_console.specs.ClockState.{Keeps as ClockKeeps};
@@ -7,12 +8,13 @@ ghost use Rattle.rescue_console.specs.ConsoleState.{ConsoleState};
 ghost use Rattle.rescue_console.specs.Speaking.{SpeaksOn, out_pieces};
 ghost use Rattle.save_resume.specs.Saving.{save_calls, Saves as SavesMap};
 ghost use Rattle.rescue_domain.specs.Parts.{covers};
+ghost use Rattle.save_resume.specs.MapNames.{names_in};
 ghost use Rattle.rescue_rules.specs.Machine.{IsRequest};
 ghost use Rattle.rescue_rules.specs.Step.{limit_met as limit_by};
 ghost use Rattle.rescue_rules.specs.Snapshots.{text_of, snapshot_of};
 ghost use Rattle.rescue_rules.specs.Lines.{phase_front, report_of, report_text};
-ghost use Rattle.rescue_core.specs.Across.{ObjectsStay, across};
-ghost use Rattle.rescue_core.specs.RunState.{names_in, setting_in, IsRunning, HasPlaces};
+ghost use Rattle.rescue_rules.specs.Across.{ObjectsStay, across};
+ghost use Rattle.rescue_core.specs.RunState.{setting_in, IsRunning};
 ghost use Rattle.rescue_core.specs.Turning.{Turned, Halted};
 ghost use Rattle.rescue_core.specs.TurnParts.{Advances};
 ghost use Rattle.rescue_core.specs.Closing.{drafting_at_stop};

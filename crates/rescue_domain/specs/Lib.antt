@@ -5,3 +5,4 @@ pub mod Live
 pub mod Testing
 pub mod Places
 pub mod Stretch
+pub mod Search

@@ -5,4 +5,5 @@ pub mod domain;
 pub mod laws;
 pub mod live;
 pub mod places;
+pub mod search;
 pub mod test_source;

@@ -23,7 +23,7 @@ use Rattle.rescue_rules.specs.Events.{with_times, events_of, reads_of as reads_o
 use Rattle.rescue_rules.specs.Snapshots.{last_snapshot}
 use Rattle.rescue_rules.specs.RunCalls.{move_calls, run_calls, end_calls}
 use Rattle.rescue_rules.specs.RunDeeds.{run_deeds}
-use Rattle.rescue_rules.specs.Work.{Gain, begins, events_in, Ends, IsSaved, IsUnsaved, IsBroken, GoesOn, InOpening, InLoad, InRun}
+use Rattle.rescue_rules.specs.Work.{Gain, begins, events_in, Ends, IsSaved, IsUnsaved, IsBroken, lost_reads, GoesOn, InOpening, InLoad, InRun}
 use Rattle.rescue_rules.proofs.MoveLemmas.{moves_more}
 use Rattle.rescue_rules.proofs.MapfileLemmas.{opening_by, opening_is, mapfile_is}
 use Rattle.rescue_rules.proofs.DeedStages.{all_calls, doing_is}
@@ -112,13 +112,13 @@ run_more s m before last =
     ∙ ap (λ (l : List Call). run_calls s m before ++ l) (append-nil (move_calls s v))
 
 -- the calls of a run
-ends_cut : (s : Setting) (m : Machine) (es : List Event) (spare : ℕ) (calls : List Entry) (end : RunEnd)
-    → Ends s m es spare calls end → Cut (run_calls s m es ++ end_calls s m es) calls
-ends_cut s m es spare calls end (IsSaved stop by end_is is) =
+ends_cut : (s : Setting) (m : Machine) (es : List Event) (calls : List Entry) (end : RunEnd)
+    → Ends s m es calls end → Cut (run_calls s m es ++ end_calls s m es) calls
+ends_cut s m es calls end (IsSaved stop by end_is is) =
     subst (λ (l : List Entry). Cut (run_calls s m es ++ end_calls s m es) l) (sym is) (cut_all (run_calls s m es ++ end_calls s m es))
-ends_cut s m es spare calls end (IsUnsaved stop call by end_is broke) =
+ends_cut s m es calls end (IsUnsaved stop call by end_is broke) =
     broke_cut call (run_calls s m es) (end_calls s m es) calls broke
-ends_cut s m es spare calls end (IsBroken before last call is none end_is broke) =
+ends_cut s m es calls end (IsBroken before last call is end_is broke) =
     let v : List Call = move_calls s (move_of s (state_after s m before) last) in
     subst (λ (l : List Call). Cut (l ++ end_calls s m es) calls)
     (sym (ap (λ (l : List Event). run_calls s m l) is ∙ run_more s m before last))
@@ -165,9 +165,9 @@ timed (r ∷ rs) [] enough = absurd (omega (arith, enough))
 timed (r ∷ rs) (before ∷ []) enough = absurd (omega (arith, enough))
 timed (r ∷ rs) (before ∷ after ∷ times) enough = ap (λ (l : List Reading). r ∷ l) (timed rs times (omega (arith, enough)))
 
-runs_timed : (g : Gain) (spare : ℕ) → length g.times ≡ 1 + 2 * length g.reads + spare
+runs_timed : (g : Gain) (lost : ℕ) → length g.times ≡ 1 + 2 * length g.reads + lost
     → reads_of_events (events_in g) ≡ g.reads
-runs_timed g spare is = timed g.reads (drop 1 g.times) (omega (arith, is, length-drop 1 g.times))
+runs_timed g lost is = timed g.reads (drop 1 g.times) (omega (arith, is, length-drop 1 g.times))
 
 -- a run's calls are those of its deeds
 rescue_calls : (s : Setting) (m : Machine) (es : List Event) → s.has_mapfile ≡ true
@@ -191,9 +191,9 @@ way s files g on (InRun load began state end rest loaded stands is runs) =
     let calls_are : g.calls ≡ map Done (opening_by s true ++ load) ++ rest
     = is ∙ ap (λ (l : List Call). map Done (l ++ load) ++ rest) (opening_is s on) in
     let cut : Cut (RescueCalls s m es) rest
-    = subst (λ (l : List Call). Cut l rest) (rescue_calls s m es on) (ends_cut s m es runs.spare rest end runs.ends) in
+    = subst (λ (l : List Call). Cut l rest) (rescue_calls s m es on) (ends_cut s m es rest end runs.ends) in
     OneMap began state (subst (λ (o : Option File). Stands o s.end began state) (mapfile_is s files on) stands)
     (load_course s (files s.names.map) g load began state (loaded.all on).begins runs.run
-    (runs_timed g runs.spare runs.times)
+    (runs_timed g (lost_reads end) runs.times)
     (subst (λ (l : List Entry). Cut (opening_by s true ++ (load ++ RescueCalls s m es)) l) (sym calls_are)
     (past_load s true load (RescueCalls s m es) rest cut)))

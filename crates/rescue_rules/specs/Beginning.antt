@@ -45,6 +45,7 @@ tally_at_first shown time areas = record {
   shown = shown;
   over = None;
   written = 0;
+  had_event = false;
   said = None;
   first_areas = areas;
 }

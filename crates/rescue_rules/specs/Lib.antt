@@ -26,3 +26,4 @@ pub mod StopsBy
 pub mod MachineLaws
 pub mod RunStops
 pub mod Examples
+pub mod Across

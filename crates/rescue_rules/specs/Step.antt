@@ -1,6 +1,6 @@
 -- What a read changes: the marks, the mode of trimming, the cursor and the skip, the counts and the times, what is left
 -- of the domain, and the line that was put last.
-use Rattle.std.specs.Prelude.{ℕ, ◌+◌, ◌-◌, ◌*◌, ◌/◌, min, Bool, true, false, ◌&&◌, ◌||◌, not, is_none, nat_le, nat_lt, List, length, Option, Some, None, option_map, if◌then◌else◌}
+use Rattle.std.specs.Prelude.{ℕ, ◌+◌, ◌-◌, ◌*◌, ◌/◌, min, Bool, true, false, ◌&&◌, ◌||◌, not, nat_le, nat_lt, List, length, Option, Some, None, option_map, if◌then◌else◌}
 use Rattle.run_options.specs.declared.limits.AreaLimit.{AreaLimit}
 use Rattle.run_options.specs.declared.limits.AreaLimit.TheVariants.{New, Total}
 use Rattle.block_list.specs.declared.status.Status.{Status}
@@ -123,6 +123,7 @@ tally_at t shown more after = record t {
   due_at = if nat_le (t.due_at + save_interval) after then after else t.due_at;
   shown = shown;
   written = more_written t.written more;
+  had_event = true;
   said = said_after t.said shown.current (after / 1000);
 }
 
@@ -175,10 +176,10 @@ abbrev pub time_allowed : Setting → Option ℕ
 time_allowed s = option_map (λ n. n * 1000) s.limits.timeout
 
 -- The limit that a state has met: too many failed reads, or else too many areas, or else too long without a read that
--- didn't fail. Before the first event, which has its line, there is none.
+-- didn't fail. Before the first event there is none.
 abbrev pub limit_met : Setting → Machine → Option Limit
 limit_met s m =
-    if is_none m.tally.said then None
+    if not m.tally.had_event then None
     else if exceeds s.limits.errors m.tally.failed then Some (TooManyErrors m.tally.failed)
     else if exceeds (areas_allowed s m) (areas_of s m) then Some (TooManyAreas (areas_of s m))
     else if exceeds (time_allowed s) (m.tally.now - m.tally.whole_at)

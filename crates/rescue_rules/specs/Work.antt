@@ -43,14 +43,28 @@ begins s statuses state g = machine_over s statuses state (began_at g.times)
 abbrev pub events_in : Gain → List Event
 events_in g = events_of g.reads g.times
 
--- Why a run ended, by the state that it came to, and how many readings of the clock there are beyond two for each read.
--- No request is left; or there was one, and the input was lost, or memory ran out; or a limit was met.
-abbrev pub EndsBy : Option Stop → Setting → Machine → (spare : ℕ) → Type 0
-EndsBy None s m spare = (has_ended s m ≡ true) × (spare ≡ 0)
-EndsBy (Some SourceLost) s m spare = (has_ended s m ≡ false) × (limit_met s m ≡ None) × (spare ≡ 1)
-EndsBy (Some (Site call)) s m spare = ⊥
-EndsBy (Some (LimitMet limit)) s m spare = (limit_met s m ≡ Some limit) × (spare ≡ 0)
-EndsBy (Some NoMemory) s m spare = (has_ended s m ≡ false) × (limit_met s m ≡ None) × (spare ≡ 0)
+-- Why a run ended, by the state that it came to: no request is left; or there was one, and the input was lost, or
+-- memory ran out; or a limit was met.
+abbrev pub EndsBy : Option Stop → Setting → Machine → Type 0
+EndsBy None s m = has_ended s m ≡ true
+EndsBy (Some SourceLost) s m = (has_ended s m ≡ false) × (limit_met s m ≡ None)
+EndsBy (Some (Site call)) s m = ⊥
+EndsBy (Some (LimitMet limit)) s m = limit_met s m ≡ Some limit
+EndsBy (Some NoMemory) s m = (has_ended s m ≡ false) × (limit_met s m ≡ None)
+
+-- how many reads were lost of a run that stopped so, or that didn't
+abbrev pub lost_by : Option Stop → ℕ
+lost_by None = 0
+lost_by (Some SourceLost) = 1
+lost_by (Some (Site call)) = 0
+lost_by (Some (LimitMet limit)) = 0
+lost_by (Some NoMemory) = 0
+
+-- how many reads were lost of a run that ended so
+abbrev pub lost_reads : RunEnd → ℕ
+lost_reads Finished = 0
+lost_reads (Stopped stop) = lost_by (Some stop)
+lost_reads (SaveFailed call earlier) = lost_by earlier
 
 -- how a run ends whose last calls returned
 abbrev pub end_of : Option Stop → RunEnd
@@ -58,29 +72,27 @@ end_of None = Finished
 end_of (Some stop) = Stopped stop
 
 -- The calls of a run whose reads make these events, by how it ended.
-pub data Ends (s : Setting) (m : Machine) (events : List Event) (spare : ℕ) (calls : List Entry) (end : RunEnd)
-    : Type 0 where
+pub data Ends (s : Setting) (m : Machine) (events : List Event) (calls : List Entry) (end : RunEnd) : Type 0 where
   -- the run ended, and its last calls returned
-  IsSaved : (stop : Option Stop) → EndsBy stop s (state_after s m events) spare → end ≡ end_of stop
-      → calls ≡ map Done (run_calls s m events ++ end_calls s m events) → Ends s m events spare calls end
+  IsSaved : (stop : Option Stop) → EndsBy stop s (state_after s m events) → end ≡ end_of stop
+      → calls ≡ map Done (run_calls s m events ++ end_calls s m events) → Ends s m events calls end
   -- the run ended, and one of its last calls failed
-  IsUnsaved : (stop : Option Stop) (call : SiteCall) → EndsBy stop s (state_after s m events) spare
+  IsUnsaved : (stop : Option Stop) (call : SiteCall) → EndsBy stop s (state_after s m events)
       → end ≡ SaveFailed call stop → BrokeAt call (end_calls s m events) (map Done (run_calls s m events)) calls
-      → Ends s m events spare calls end
+      → Ends s m events calls end
   -- a call for the last read failed: its write, or one of the save that was due after it
-  IsBroken : (before : List Event) (last : Event) (call : SiteCall) → events ≡ before ++ last ∷ [] → spare ≡ 0
+  IsBroken : (before : List Event) (last : Event) (call : SiteCall) → events ≡ before ++ last ∷ []
       → end ≡ Stopped (Site call)
       → BrokeAt call (move_calls s (move_of s (state_after s m before) last)) (map Done (run_calls s m before)) calls
-      → Ends s m events spare calls end
+      → Ends s m events calls end
 
--- A run over a map: the clock is read once at its start, and then before and after each read; each read asks for the
--- request of the state that those before it led to.
+-- A run over a map: the clock is read once at its start, before and after each read that was answered, and before one
+-- that was lost. Each read asks for the request of the state that those before it led to.
 pub record Runs (s : Setting) (statuses : List Status) (state : Option MapState) (g : Gain) (end : RunEnd)
     : Type 0 where
-  pub spare : ℕ
-  pub times : length g.times ≡ 1 + 2 * length g.reads + spare
+  pub times : length g.times ≡ 1 + 2 * length g.reads + lost_reads end
   pub run : IsRun s (begins s statuses state g) (events_in g)
-  pub ends : Ends s (begins s statuses state g) (events_in g) spare g.calls end
+  pub ends : Ends s (begins s statuses state g) (events_in g) g.calls end
 
 -- the calls before a mapfile is read: the output is opened, and with a mapfile the barrier makes durable what exists
 abbrev pub opening_calls : Setting → List Call

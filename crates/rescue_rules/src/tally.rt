@@ -18,6 +18,8 @@ pub struct Tally {
     pub over: Option<u64>,
     /// How many bytes were written.
     pub written: u64,
+    /// Whether there was an event. Before the first one no limit is met.
+    pub had_event: bool,
     /// The line that was put last after an event, if there was one.
     pub said: Option<Said>,
     /// How many areas of the domain had failed at the start; none for a sweep, which has no limit.
@@ -47,6 +49,7 @@ impl Tally {
             shown: loaded.unwrap_or(nothing),
             over: None,
             written: 0,
+            had_event: false,
             said: None,
             first_areas,
         }

@@ -2,7 +2,8 @@
 use crate::refusal::Refusal;
 use crate::shown::append_escaped;
 use block_list::tiles::Tiles;
-use mapfile_text::read::{MapError, Mode, ReadMap, read_map};
+use mapfile_reader::read::{ReadMap, read_map};
+use mapfile_text::read::{MapError, Mode};
 use memory_site::memory::MemorySite;
 use std::alloc::Global;
 use std::io::Write;

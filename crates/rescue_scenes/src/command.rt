@@ -11,9 +11,15 @@ use std::alloc::Global;
 #[derive(Clone, Copy)]
 pub(crate) enum Object {
     Source,
-    Site,
     Console,
     Feed,
+}
+
+/// A call of the site that fails, and how many steps it makes before.
+#[derive(Clone, Copy)]
+pub(crate) struct FailingCall {
+    pub(crate) number: u64,
+    pub(crate) steps: u64,
 }
 
 /// What is asked of files.
@@ -62,6 +68,8 @@ pub(crate) enum Command {
     Paced(Vec<u64>),
     /// The numbers of calls that fail.
     Fail(Object, Vec<u64>),
+    /// The calls of the site that fail.
+    FailSite(Vec<FailingCall>),
     /// What the next run of ddrescuelog takes from its feed.
     Feed(Vec<u8>),
     /// A rescue.
@@ -223,10 +231,33 @@ fn read_text_file(mut fields: Fields<'_>) -> Result<Command, Refusal> {
     Ok(Command::Text(name))
 }
 
+/// Reads the number of a call of the site, and after a colon how many steps it makes before it fails.
+fn read_failing(field: &Field) -> Result<FailingCall, Refusal> {
+    let text = field.bytes.as_slice();
+    match text.iter().position(|byte| *byte == b':') {
+        None => Ok(FailingCall {
+            number: read_number(text)?,
+            steps: 0,
+        }),
+        Some(colon) => Ok(FailingCall {
+            number: read_number(&text[..colon])?,
+            steps: read_number(&text[colon + 1..])?,
+        }),
+    }
+}
+
+fn read_fail_site(fields: Fields<'_>) -> Result<Command, Refusal> {
+    let mut failing = Vec::new(fields.allocator());
+    for field in fields {
+        failing.push(read_failing(&field?)?)?;
+    }
+    Ok(Command::FailSite(failing))
+}
+
 fn read_fail(mut fields: Fields<'_>) -> Result<Command, Refusal> {
     let object = match take_text(&mut fields)?.as_str() {
+        "site" => return read_fail_site(fields),
         "source" => Object::Source,
-        "site" => Object::Site,
         "console" => Object::Console,
         "feed" => Object::Feed,
         _ => return Err(Refusal::NotUnderstood),

@@ -130,6 +130,7 @@ impl Player {
             }
             Command::Feed(bytes) => self.scene.set_feed(bytes),
             Command::Fail(object, numbers) => self.scene.fail_calls(object, &numbers),
+            Command::FailSite(failing) => self.scene.fail_site_calls(&failing),
             Command::Run(words) => self.scene.run(&words, &mut self.out),
             Command::Log(words) => self.scene.log(&words, &mut self.out),
             Command::Part(words) => self.scene.part(&words, &mut self.out),

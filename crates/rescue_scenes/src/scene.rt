@@ -3,7 +3,7 @@ ghost use Rattle.std.specs.Prelude.{◌≡◌, false};
 ghost use Rattle.memory_site.specs.MemoryState.{state_of};
 
 use crate::blocks::{append_blocks, append_maps};
-use crate::command::{Object, Stops, View};
+use crate::command::{FailingCall, Object, Stops, View};
 use crate::drawn::draw;
 use crate::kinds::{KINDS, Left};
 use crate::paced::{PacedClock, PacedConsole, PacedSource};
@@ -183,7 +183,6 @@ impl Scene {
                 self.source = None;
                 Ok(())
             }
-            Object::Site => self.fail_site_calls(numbers),
             Object::Console => {
                 self.silent.extend_from_slice(numbers)?;
                 Ok(())
@@ -208,9 +207,10 @@ impl Scene {
         self.paced = paced;
     }
 
-    fn fail_site_calls(&mut self, numbers: &[u64]) -> Result<(), Refusal> {
-        for number in numbers {
-            self.site.fail_call(*number)?;
+    /// Makes these calls of the site fail.
+    pub(crate) fn fail_site_calls(&mut self, failing: &[FailingCall]) -> Result<(), Refusal> {
+        for call in failing {
+            self.site.fail_call_after(call.number, call.steps)?;
         }
         Ok(())
     }

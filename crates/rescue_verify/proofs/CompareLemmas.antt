@@ -8,6 +8,7 @@ use Rattle.fault_count.specs.Counts.{raised}
 use Rattle.block_list.specs.declared.status.Status.{Status}
 use Rattle.block_list.specs.declared.status.Status.TheVariants.{NonTried}
 use Rattle.block_list.specs.Map.{marked}
+use Rattle.block_list.specs.Places.{IsRangeUp}
 use Rattle.block_list.proofs.Places.{length-marked}
 use Rattle.faulty_source.specs.Journal.{Reading, is_whole, IsFrom}
 use Rattle.rescue_domain.specs.Domain.{IsIn}
@@ -246,6 +247,14 @@ pub long_piece : (compared : ℕ → Bool) (sector from pos end : ℕ) → pos <
 long_piece compared sector from pos end some piece =
     let same : end ≡ pos + (end - pos) = omega (arith, some) in
     subst (IsPiece compared sector from pos) same piece
+
+-- what is compared ends below 2^63
+pub ends_short : (p : Comparison) (from end : ℕ) → IsSound p → IsRangeUp (IsIn p.compared) from end → end < 2 ^ 63
+ends_short p from end sound run =
+    let begun : from < end = run.begun in
+    let last : end - 1 + 1 < 2 ^ 63 =
+    sound.short (end - 1) (run.within (end - 1) (omega (arith, begun)) (omega (arith, begun))) in
+    omega (arith, begun, last)
 
 -- the next piece of a sound comparison can be taken
 pub can_take : (p : Comparison) (from : ℕ) (piece : Piece) (old now : List Status) → IsSound p

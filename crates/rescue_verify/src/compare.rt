@@ -1,5 +1,5 @@
 //! The comparison: all pieces, in order.
-ghost use Rattle.std.specs.Prelude.{◌≡◌, ◌-◌, ◌<◌, ℕ, true, length, IfOk, OnOk, IfErr, vec_len};
+ghost use Rattle.std.specs.Prelude.{◌≡◌, ◌-◌, ◌^◌, ◌<◌, ℕ, true, length, IfOk, OnOk, IfErr, vec_len};
 ghost use Rattle.faulty_source.specs.SourceChanges.{Stays as SourceStays};
 ghost use Rattle.crash_site.specs.SiteChanges.{Stays as SiteStays};
 ghost use Rattle.rescue_domain.specs.Domain.{IsIn};
@@ -48,6 +48,8 @@ fn compare_piece<S: Source, D: Site, T: Tiles>(
     site: &mut D,
 ) -> Result<(), Halt>
     requires piece { CanTake piece (T.statuses tiles.old) }
+    requires run { piece.from < piece.run_end }
+    requires run_place { piece.run_end < 2 ^ 63 }
     requires tally { IsTallyUpTo piece.from tally.old }
     requires room { HaveRoom (piece.to - piece.from) buffers.old }
     requires input { (S.state source.old).is_open ≡ true }

@@ -3,4 +3,5 @@
 
 pub mod limits;
 pub mod passes;
+pub mod settings;
 pub mod skips;

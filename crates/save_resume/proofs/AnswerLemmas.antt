@@ -2,7 +2,7 @@
 use Rattle.std.proofs.Common.{◌≡◌, ◌≢◌, ◌⊎◌, ◌<◌, ◌≤◌, List, [], ◌∷◌, length, Option, Some, None, refl, sym, ◌∙◌, subst, inl, inr, arith}
 use Rattle.std.proofs.lemmas.Bool.{cases_lt}
 use Rattle.mapfile_text.specs.declared.read.Mode.{Mode}
-use Rattle.mapfile_text.specs.declared.read.ReadMap.{ReadMap}
+use Rattle.mapfile_reader.specs.declared.read.ReadMap.{ReadMap}
 use Rattle.mapfile_text.specs.declared.read.MapError.{MapError}
 use Rattle.mapfile_text.specs.declared.read.MapError.TheVariants.{NoStatusLine, TooLong}
 use Rattle.mapfile_text.specs.MapText.{text_limit}

@@ -1,5 +1,5 @@
 -- The names of a mapfile and of its draft.
-use Rattle.std.specs.Prelude.{◌≡◌, ℕ, List}
+use Rattle.std.specs.Prelude.{◌≡◌, ℕ, List, [], Option, Some, None}
 use Rattle.crash_site.specs.Files.{draft_of}
 
 -- the names of a mapfile and of its draft, as bytes
@@ -14,3 +14,8 @@ names_of map = record { map = map; draft = draft_of map }
 -- the draft has the name at which a settle of the mapfile looks
 abbrev pub HasOwnDraft : MapNames → Type 0
 HasOwnDraft names = names.draft ≡ draft_of names.map
+
+-- the names of a mapfile and its draft, which mean nothing if there is no mapfile
+abbrev pub names_in : Option MapNames → MapNames
+names_in None = record { map = []; draft = [] }
+names_in (Some names) = names

@@ -6,7 +6,7 @@ use Rattle.block_list.specs.declared.status.Status.TheVariants.{NonTried}
 use Rattle.mapfile_text.specs.declared.state.MapState.{MapState}
 use Rattle.mapfile_text.specs.declared.read.Mode.{Mode}
 use Rattle.mapfile_text.specs.declared.read.Mode.TheVariants.{Tight, Loose}
-use Rattle.mapfile_text.specs.declared.read.ReadMap.{ReadMap}
+use Rattle.mapfile_reader.specs.declared.read.ReadMap.{ReadMap}
 use Rattle.mapfile_text.specs.declared.read.MapError.TheVariants.{NoMemory as OutOfMemory}
 use Rattle.mapfile_text.specs.MapText.{text_limit, IsMapText}
 use Rattle.crash_site.specs.Files.{File}

@@ -3,11 +3,10 @@ use Rattle.std.specs.Prelude.{◌≡◌, ◌≢◌, ◌⊎◌, ⊤, ℕ, ◌<◌
 use Rattle.fault_count.specs.Counts.{Rose}
 use Rattle.mapfile_text.specs.declared.read.Mode.{Mode}
 use Rattle.mapfile_text.specs.declared.read.Mode.TheVariants.{Tight}
-use Rattle.mapfile_text.specs.declared.read.ReadMap.{ReadMap}
+use Rattle.mapfile_reader.specs.declared.read.ReadMap.{ReadMap}
 use Rattle.mapfile_text.specs.declared.read.MapError.{MapError}
 use Rattle.mapfile_text.specs.declared.read.MapError.TheVariants.{NoStatusLine, NoMemory as OutOfMemory}
-use Rattle.mapfile_text.specs.MapText.{text_limit, IsMapText, Blank}
-use Rattle.mapfile_text.specs.Checking.{IsRefused}
+use Rattle.mapfile_text.specs.MapText.{text_limit, IsMapText, Blank, IsRefused}
 use Rattle.crash_site.specs.declared.site.SiteCall.{SiteCall}
 use Rattle.crash_site.specs.declared.site.SiteCall.TheVariants.{ImageSync, MapRead, MapSettle}
 use Rattle.crash_site.specs.Files.{File, draft_of}

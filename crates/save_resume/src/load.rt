@@ -11,7 +11,8 @@ ghost use Rattle.save_resume.specs.Resuming.{LoadEnded, LoadAnswers, CountsFault
 ghost use Rattle.save_resume.specs.Text.{IsTextOf, TextStop, NoMapIn};
 
 use crash_site::site::{MapRead, Site, SiteCall};
-use mapfile_text::read::{MapError, Mode, ReadMap, TEXT_LIMIT, read_map};
+use mapfile_reader::read::{ReadMap, TEXT_LIMIT, read_map};
+use mapfile_text::read::{MapError, Mode};
 use std::alloc::Global;
 
 /// How many bytes of a mapfile are asked for at a time.

@@ -8,7 +8,8 @@ ghost use Rattle.save_resume.specs.Named.{map_mode, named_of, LoadsNamed, IsName
 use crate::load::{ResumeFault, load_map};
 use block_list::status::Status;
 use crash_site::site::Site;
-use mapfile_text::read::{MapError, Mode, ReadMap};
+use mapfile_reader::read::ReadMap;
+use mapfile_text::read::{MapError, Mode};
 use std::alloc::Global;
 
 /// Why there is no map by a name.

@@ -12,7 +12,8 @@ use crate::names::Names;
 use block_list::plain_tiles::PlainTiles;
 use block_list::tiles::{NoMemory, Tiles};
 use crash_site::site::{Site, SiteCall};
-use mapfile_text::read::{MapError, Mode, ReadMap};
+use mapfile_reader::read::ReadMap;
+use mapfile_text::read::{MapError, Mode};
 use std::alloc::Global;
 
 /// What a rescue goes on with.

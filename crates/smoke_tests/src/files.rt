@@ -1,8 +1,8 @@
 //! Tests of the forms for real files.
-use crash_site::folder::FolderSite;
 use crash_site::site::{ImageKind, MapRead, Site};
-use faulty_source::file::FileSource;
 use faulty_source::source::{Got, Source};
+use file_source::file::FileSource;
+use folder_site::folder::FolderSite;
 use std::path::PathBuf;
 use std::test::Fail;
 use std::{env, fs, io, process};

@@ -1,14 +1,14 @@
 //! A test of a run over real files.
 ghost use Rattle.std.specs.Prelude.{◌<◌, ◌^◌, IfOk};
+ghost use Rattle.run_options.specs.Settings.{HasPlaces};
 ghost use Rattle.rescue_domain.specs.Parts.{covers};
-ghost use Rattle.rescue_core.specs.RunState.{HasPlaces};
 ghost use Rattle.copy_passes.specs.Copying.{MayCopy};
 
 use crate::files::own_name;
-use crash_site::folder::FolderSite;
 use ddrescue_words::command::sample_command;
-use faulty_source::file::FileSource;
 use faulty_source::source::Source;
+use file_source::file::FileSource;
+use folder_site::folder::FolderSite;
 use mapfile_text::heading::{Heading, Program};
 use paged_blocks::paged_tiles::PagedTiles;
 use rescue_console::clock::Clock;

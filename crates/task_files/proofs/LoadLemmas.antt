@@ -4,7 +4,7 @@ use Rattle.block_list.specs.declared.status.Status.{Status}
 use Rattle.block_list.specs.Map.{extended}
 use Rattle.mapfile_text.specs.declared.state.MapState.{MapState}
 use Rattle.mapfile_text.specs.declared.read.Mode.TheVariants.{Tight}
-use Rattle.mapfile_text.specs.declared.read.ReadMap.{ReadMap}
+use Rattle.mapfile_reader.specs.declared.read.ReadMap.{ReadMap}
 use Rattle.mapfile_text.specs.declared.read.MapError.{MapError}
 use Rattle.mapfile_text.specs.declared.read.MapError.TheVariants.{NoStatusLine}
 use Rattle.crash_site.specs.declared.site.SiteCall.{SiteCall}
@@ -14,7 +14,7 @@ use Rattle.save_resume.specs.MapNames.{MapNames}
 use Rattle.save_resume.specs.Resuming.{barrier_calls, LoadEnded, StarvedInLoad, BrokeAsResumed, IsReadAs, IsRefusedFor, IsLikeNone, NoFile, Silent, IsResumeCall, IsOfFile}
 use Rattle.save_resume.proofs.AnswerLemmas.{read_is_not_refused, none_says_nothing}
 use Rattle.rescue_rules.specs.Start.{IsFresh, StandsFor, AsNone, Stands}
-use Rattle.work_rules.proofs.LoadedLemmas.{LoadPart, resumes, Resumed, read_stands, went_through, starved, starved_after, resume_refused, resume_broke}
+use Rattle.program_promise.proofs.LoadedLemmas.{LoadPart, resumes, Resumed, read_stands, went_through, starved, starved_after, resume_refused, resume_broke}
 use Rattle.task_files.specs.declared.ending.Ending.{Ending}
 use Rattle.task_files.specs.declared.ending.Ending.TheVariants.{MapRefused, SiteFault, NoMemory}
 use Rattle.task_files.specs.declared.ending.Which.TheVariants.{RunMap}

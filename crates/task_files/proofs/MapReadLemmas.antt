@@ -1,14 +1,14 @@
 -- What the read of a map did that an option names, whether the site tells or not.
 use Rattle.std.proofs.Common.{◌≡◌, ℕ, true, false, IsTrue, List, [], Option, Some, None, Ok, Err, refl, sym, inl, inr, append-nil}
 use Rattle.mapfile_text.specs.declared.read.Mode.{Mode}
-use Rattle.mapfile_text.specs.declared.read.ReadMap.{ReadMap}
+use Rattle.mapfile_reader.specs.declared.read.ReadMap.{ReadMap}
 use Rattle.crash_site.specs.Files.{File}
 use Rattle.crash_site.specs.SiteState.{SiteState, files_in}
 use Rattle.save_resume.specs.declared.named.NamedFault.{NamedFault}
 use Rattle.save_resume.specs.declared.named.NamedFault.TheVariants.{ReadFailed, Absent, Refused as NotRead, NoMemory as Starving}
 use Rattle.save_resume.specs.Named.{LoadsNamed, IsNamedAs, NamedCounts}
 use Rattle.save_resume.specs.Resuming.{IsReadAs, IsOfFile, LoadEnded}
-use Rattle.work_rules.proofs.LoadedLemmas.{AnswersNamed, reads_alone, read_passes, read_is_map, went_through, named_stopped as stopped}
+use Rattle.program_promise.proofs.LoadedLemmas.{AnswersNamed, reads_alone, read_passes, read_is_map, went_through, named_stopped as stopped}
 use Rattle.task_files.specs.declared.ending.Ending.{Ending}
 use Rattle.task_files.specs.declared.ending.Which.{Which}
 use Rattle.task_files.specs.declared.ending.Ending.TheVariants.{NoMap, MapRefused}

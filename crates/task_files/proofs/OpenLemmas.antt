@@ -9,11 +9,11 @@ use Rattle.crash_site.specs.FileAnswers.{is_absent, kind_of}
 use Rattle.crash_site.specs.Calls.{Done as Returned, image_open}
 use Rattle.crash_site.specs.CallsMade.{Lost}
 use Rattle.crash_site.specs.SiteState.{SiteState, files_in}
-use Rattle.work_rules.specs.Work.{Look}
-use Rattle.work_rules.specs.Parts.{StoppedIn, WentThrough}
-use Rattle.work_rules.proofs.LoadLemmas.{by_tells}
-use Rattle.work_rules.proofs.LoadedLemmas.{broke_first}
-use Rattle.work_rules.proofs.PartLemmas.{idle}
+use Rattle.program_promise.specs.Work.{Look}
+use Rattle.program_promise.specs.Parts.{StoppedIn, WentThrough}
+use Rattle.program_promise.proofs.LoadLemmas.{by_tells}
+use Rattle.program_promise.proofs.LoadedLemmas.{broke_first}
+use Rattle.program_promise.proofs.PartLemmas.{idle}
 use Rattle.task_files.specs.declared.ending.Ending.{Ending}
 use Rattle.task_files.specs.declared.ending.Ending.TheVariants.{NoOutput, NotRegular, SiteFault}
 use Rattle.task_files.specs.Refusals.{is_other, OutputMissing, OutputRefused}

@@ -18,13 +18,12 @@ use Rattle.save_resume.specs.MapNames.{MapNames, names_of}
 use Rattle.rescue_console.specs.ClockState.{ClockState}
 use Rattle.rescue_console.specs.ConsoleState.{ConsoleState}
 use Rattle.option_words.specs.declared.fault.UsageFault.TheVariants.{PlaceTooLarge}
-use Rattle.rescue_core.specs.Across.{across}
-use Rattle.rescue_core.proofs.TurnEndLemmas.{says_none}
+use Rattle.rescue_rules.specs.Across.{across}
 use Rattle.faulty_source.specs.Journal.{IsFrom}
-use Rattle.work_rules.specs.Work.{Opened as IsOpened, Unopened, Deeds, Look, Works}
-use Rattle.work_rules.specs.Parts.{only_calls, WentThrough}
-use Rattle.work_rules.specs.Holds.{after_entries, after_open}
-use Rattle.work_rules.proofs.PartLemmas.{stopped_more, through_then, grew_both}
+use Rattle.program_promise.specs.Work.{Opened as IsOpened, Unopened, Deeds, Look, Works}
+use Rattle.program_promise.specs.Parts.{only_calls, WentThrough}
+use Rattle.program_promise.specs.Holds.{after_entries, after_open}
+use Rattle.program_promise.proofs.PartLemmas.{stopped_more, through_then, grew_both}
 use Rattle.ddrescue_words.specs.declared.options.Options.{Options}
 use Rattle.ddrescue_words.specs.Command.{Command}
 use Rattle.task_files.specs.declared.ending.Ending.{Ending}
@@ -35,11 +34,12 @@ use Rattle.task_files.specs.Asked.{names_by, place_by, setting_of, ArePlacedBy, 
 use Rattle.task_files.specs.Maps.{Found, found_in, mapfile_of, seen_through}
 use Rattle.task_files.specs.Refusals.{PlacesRefused}
 use Rattle.task_files.specs.Outside.{HasGainedReads}
-use Rattle.work_rules.specs.Opens.{AreOpens}
+use Rattle.program_promise.specs.Opens.{AreOpens}
 use Rattle.task_files.specs.Work.{Rescues, rescue_faults, output_rows, load_rows, opened_rows, RunsOver}
 use Rattle.task_files.specs.Steps.{Gains, DidRun, OpensOutput, Loads, mapfile_by, maps_of, DidAfterMaps}
 use Rattle.task_files.proofs.ListingLemmas.{Listing, listed_if, own_listing, some_listing}
 use Rattle.mapfile_text.specs.declared.state.MapState.{MapState}
+use Rattle.rescue_console.proofs.SpeakingLemmas.{says_none}
 use Rattle.rescue_rules.specs.Setting.{Setting}
 use Rattle.rescue_rules.specs.Work.{Gain}
 

@@ -5,8 +5,8 @@ use Rattle.block_list.specs.declared.block.Range.{Range}
 use Rattle.block_list.specs.declared.status.Status.{Status}
 use Rattle.rescue_domain.specs.Domain.{whole_domain, in_map}
 use Rattle.rescue_domain.specs.Parts.{covers}
-use Rattle.rescue_core.specs.declared.settings.Settings.{Settings}
-use Rattle.rescue_core.specs.RunState.{HasPlaces, Suits, IsSound as SettingsSound}
+use Rattle.run_options.specs.declared.settings.Settings.{Settings}
+use Rattle.run_options.specs.Settings.{IsSound as SettingsSound, Suits, HasPlaces}
 use Rattle.ddrescue_words.specs.declared.options.Options.{Options}
 use Rattle.ddrescue_words.specs.Options.{sectors_of}
 use Rattle.ddrescue_words.specs.Asking.{AreInLimits}

@@ -16,11 +16,12 @@ use Rattle.rescue_console.specs.ClockState.{ClockState}
 use Rattle.rescue_console.specs.ConsoleState.{ConsoleState}
 use Rattle.rescue_rules.specs.Work.{Gain, IsNothing, AreMapReads}
 use Rattle.faulty_source.specs.Journal.{IsFrom}
-use Rattle.work_rules.specs.Work.{Deeds, Works}
-use Rattle.work_rules.specs.Parts.{only_calls, StoppedIn, WentThrough}
-use Rattle.work_rules.specs.Holds.{after_entries}
-use Rattle.work_rules.proofs.GainLemmas.{broke_after}
-use Rattle.work_rules.proofs.PartLemmas.{stopped_more, through_then}
+use Rattle.rescue_console.proofs.SpeakingLemmas.{says_none}
+use Rattle.program_promise.specs.Work.{Deeds, Works}
+use Rattle.program_promise.specs.Parts.{only_calls, StoppedIn, WentThrough}
+use Rattle.program_promise.specs.Holds.{after_entries}
+use Rattle.program_promise.proofs.GainLemmas.{broke_after}
+use Rattle.program_promise.proofs.PartLemmas.{stopped_more, through_then}
 use Rattle.ddrescue_words.specs.Command.{Command}
 use Rattle.save_resume.proofs.NamedLemmas.{map_is_one}
 use Rattle.task_files.specs.declared.ending.Which.{Which}
@@ -31,11 +32,10 @@ use Rattle.task_files.specs.Maps.{Found, IsNamedMap, found_in, mapfile_of}
 use Rattle.task_files.specs.Work.{Rescues, rescue_faults, map_rows, opened_rows}
 use Rattle.task_files.specs.Steps.{HasTiles, ReadsMap, IsOnlyMaps, maps_of, DidAfterMaps, Worked}
 use Rattle.task_files.proofs.OpenedLemmas.{none_seen}
-use Rattle.rescue_core.specs.Across.{across}
-use Rattle.rescue_core.proofs.TurnEndLemmas.{says_none}
+use Rattle.rescue_rules.specs.Across.{across}
 use Rattle.task_files.proofs.MapsLemmas.{MapsOf, maps_for}
-use Rattle.work_rules.proofs.FrontLemmas.{IsMapRead, load_reads, broke_in_both, made_both}
-use Rattle.work_rules.proofs.ReadLemmas.{AllReads, files_stand}
+use Rattle.program_promise.proofs.FrontLemmas.{IsMapRead, load_reads, broke_in_both, made_both}
+use Rattle.program_promise.proofs.ReadLemmas.{AllReads, files_stand}
 
 -- ---- reads of maps alone
 

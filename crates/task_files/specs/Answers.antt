@@ -83,7 +83,7 @@ failure_after (Some NoRoom) = AtCall
 abbrev pub row_of : Ending → AnswerRow
 row_of Done = asked_row 0
 row_of (Usage fault) = usage_row fault
-row_of (SameName first second) = brought_row 1 (codes "two files have one name")
+row_of (SameName first second) = brought_row 1 (codes "two files have the same name")
 row_of (NoMap which) = brought_row 1 (which_text which ++ codes " does not exist")
 row_of SourceFault = failed_row AtOpen (codes "cannot open input")
 row_of NotRegular = brought_row 1 (codes "output is not a regular file, use --force")

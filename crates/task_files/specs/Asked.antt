@@ -1,12 +1,11 @@
 -- What a command asks for of an input.
 use Rattle.std.specs.Prelude.{ℕ, Bool, List, Option, Some, None, is_some, unwrap_or, option_map}
 use Rattle.run_options.specs.declared.skips.Skips.{Skips}
-use Rattle.save_resume.specs.MapNames.{MapNames, names_of}
+use Rattle.save_resume.specs.MapNames.{MapNames, names_of, names_in}
 use Rattle.block_list.specs.declared.status.Status.{Status}
 use Rattle.rescue_domain.specs.Domain.{whole_domain, in_map, listed_in}
 use Rattle.rescue_domain.specs.Places.{place_from, AreAllPlaced, IsAnyBeyond}
 use Rattle.rescue_rules.specs.Setting.{Setting}
-use Rattle.rescue_core.specs.RunState.{names_in}
 use Rattle.ddrescue_words.specs.declared.options.Options.{Options}
 use Rattle.ddrescue_words.specs.Options.{cluster_of, in_sectors}
 use Rattle.ddrescue_words.specs.Command.{Command}

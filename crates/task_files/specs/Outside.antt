@@ -4,9 +4,9 @@ use Rattle.block_list.specs.declared.status.Status.{Status}
 use Rattle.faulty_source.specs.Journal.{Reading, IsFrom}
 use Rattle.faulty_source.specs.SourceState.{SourceState}
 use Rattle.crash_site.specs.SiteState.{files_in}
-use Rattle.rescue_core.specs.Across.{Across}
-use Rattle.work_rules.specs.Work.{Deeds}
-use Rattle.work_rules.specs.Opens.{AreOpens}
+use Rattle.rescue_rules.specs.Across.{Across}
+use Rattle.program_promise.specs.Work.{Deeds}
+use Rattle.program_promise.specs.Opens.{AreOpens}
 use Rattle.ddrescue_words.specs.Command.{Command}
 use Rattle.task_files.specs.Asked.{Maps}
 use Rattle.task_files.specs.Maps.{Found, found_in, seen_through}
@@ -28,15 +28,16 @@ pub record HasGainedReads (test : Option (List Status)) (source source' : Source
   pub seen_are : seen_through test raw ≡ reads
   pub right : All (IsFrom source.bytes) reads
 
--- What an object tells is its own:
-pub record Agrees (c : Command) (o : Across) (w : Outside) : Type 0 where
+-- What was found, the input's length, what the maps say and what was done are as the objects tell. What an object tells
+-- is its own:
+pub record Agrees (c : Command) (o : Across) (files : Found) (size : ℕ) (maps : Maps) (did : Deeds) : Type 0 where
   -- the opens are those that the source counts;
-  pub opens : AreOpens w.did.opens o.source o.source'
+  pub opens : AreOpens did.opens o.source o.source'
   -- if the site tells, the files are its own, and the calls;
-  pub found : IsTrue o.site.tells → w.found ≡ found_in c (files_in o.site)
-  pub calls : IsTrue o.site.tells → o.site'.calls ≡ o.site.calls ++ w.did.gain.calls
+  pub found : IsTrue o.site.tells → files ≡ found_in c (files_in o.site)
+  pub calls : IsTrue o.site.tells → o.site'.calls ≡ o.site.calls ++ did.gain.calls
   -- if the source tells, the length is its own, and the reads;
-  pub end : IsTrue o.source.tells → w.end ≡ length o.source.bytes
-  pub reads : IsTrue o.source.tells → HasGainedReads w.maps.test o.source o.source' w.did.gain.reads
+  pub end : IsTrue o.source.tells → size ≡ length o.source.bytes
+  pub reads : IsTrue o.source.tells → HasGainedReads maps.test o.source o.source' did.gain.reads
   -- if the clock tells after the call, the readings are its own.
-  pub times : IsTrue o.clock'.tells → o.clock'.readings ≡ o.clock.readings ++ w.did.gain.times
+  pub times : IsTrue o.clock'.tells → o.clock'.readings ≡ o.clock.readings ++ did.gain.times

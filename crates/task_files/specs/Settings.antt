@@ -1,6 +1,6 @@
 -- What options ask of a run, and the line before it. For contracts and proofs: no promise uses it.
 use Rattle.std.specs.Prelude.{ℕ, List, [], ◌∷◌, Option, Some, None, unwrap_or}
-use Rattle.rescue_core.specs.declared.settings.Settings.{Settings}
+use Rattle.run_options.specs.declared.settings.Settings.{Settings}
 use Rattle.ddrescue_words.specs.declared.options.Options.{Options}
 use Rattle.ddrescue_words.specs.Options.{cluster_of}
 use Rattle.task_files.specs.Asked.{skips_asked}

@@ -24,9 +24,9 @@ use Rattle.rescue_rules.specs.Snapshots.{heading_at}
 use Rattle.rescue_rules.specs.Start.{Stands}
 use Rattle.rescue_rules.specs.Laws.{AreTimes}
 use Rattle.rescue_rules.specs.Work.{Gain, IsNothing, AreMapReads}
-use Rattle.rescue_core.specs.Across.{Across}
-use Rattle.work_rules.specs.Work.{Deeds, Works}
-use Rattle.work_rules.specs.Parts.{DidPart}
+use Rattle.rescue_rules.specs.Across.{Across}
+use Rattle.program_promise.specs.Work.{Deeds, Works}
+use Rattle.program_promise.specs.Parts.{DidPart}
 use Rattle.ddrescue_words.specs.declared.options.Options.{Options}
 use Rattle.ddrescue_words.specs.Command.{Command}
 use Rattle.ddrescue_words.specs.Asking.{AreInLimits, told_by}
@@ -41,7 +41,7 @@ use Rattle.task_files.specs.Names.{AreNamedApart, first_same_with_optional_map}
 use Rattle.task_files.specs.Asked.{ArePlacedBy, Maps, names_by, setting_of}
 use Rattle.task_files.specs.Maps.{Found, AreAskedFor, AreMapsIn, IsListing, MapfileLists, mapfile_of}
 use Rattle.task_files.specs.Outside.{Outside, HasGainedReads, Agrees}
-use Rattle.work_rules.specs.Opens.{AreOpens}
+use Rattle.program_promise.specs.Opens.{AreOpens}
 use Rattle.task_files.specs.Work.{RunsOver, Rescues, rescue_faults, map_rows, output_rows, load_rows, opened_rows, worked_rows}
 
 -- how a rescue ends whose parts returned this
@@ -205,7 +205,7 @@ pub record DidAfterMaps (c : Command) (line : List ℕ) (domain test : Option (L
 -- what a rescue did after the words
 pub record Worked (c : Command) (line : List ℕ) (heard heard' : Bool) (e : Ending) (o : Across) : Type 0 where
   pub outside : Outside
-  pub agrees : Agrees c o outside
+  pub agrees : Agrees c o outside.found outside.end outside.maps outside.did
   pub asked_maps : AreAskedFor c outside.maps
   pub are_maps : AreMapsIn c outside.found outside.maps
   pub works : Works rescue_faults (worked_rows c outside.found outside.end)

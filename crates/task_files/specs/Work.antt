@@ -15,7 +15,7 @@ use Rattle.rescue_rules.specs.declared.stop.RunEnd.{RunEnd}
 use Rattle.rescue_rules.specs.declared.stop.RunEnd.TheVariants.{Done as Finished, Stopped, SaveFailed}
 use Rattle.rescue_rules.specs.Lines.{opening_lines, lines_of}
 use Rattle.rescue_rules.specs.Work.{Gain, Runs, begins, events_in}
-use Rattle.work_rules.specs.Work.{Deeds, Faults, WorkStep, Take, Look, Open, Make, Read}
+use Rattle.program_promise.specs.Work.{Deeds, Faults, WorkStep, Take, Look, Open, Make, Read}
 use Rattle.ddrescue_words.specs.Command.{Command}
 use Rattle.task_files.specs.declared.ending.Ending.{Ending}
 use Rattle.task_files.specs.declared.ending.Ending.TheVariants.{Done, SourceFault, SourceLost, SiteFault, LimitMet, NoMemory}

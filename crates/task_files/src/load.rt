@@ -10,7 +10,7 @@ use crate::ending::{Ending, Which};
 use block_list::plain_tiles::PlainTiles;
 use block_list::tiles::Tiles;
 use crash_site::site::Site;
-use mapfile_text::read::ReadMap;
+use mapfile_reader::read::ReadMap;
 use mapfile_text::state::MapState;
 use paged_blocks::paged_tiles::PagedTiles;
 use save_resume::load::ResumeFault;

@@ -13,7 +13,7 @@ use block_list::plain_tiles::PlainTiles;
 use block_list::tiles::NoMemory;
 use crash_site::site::{Site, SiteCall};
 use ddrescue_words::options::Options;
-use mapfile_text::read::ReadMap;
+use mapfile_reader::read::ReadMap;
 use rescue_domain::domain::Domain;
 use save_resume::named::{NamedFault, load_named};
 use std::alloc::Global;

@@ -61,7 +61,7 @@ fn add_ending(message: &mut Message, ending: Ending)
     match ending {
         Ending::Done => {}
         Ending::Usage(fault) => add_usage(message, fault),
-        Ending::SameName { .. } => add(message, "two files have one name"),
+        Ending::SameName { .. } => add(message, "two files have the same name"),
         Ending::NoMap(which) => {
             add_which(message, which);
             add(message, " does not exist");

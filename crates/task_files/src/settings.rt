@@ -10,8 +10,8 @@ use crate::opening::opening_line;
 use block_list::tiles::NoMemory;
 use ddrescue_words::command::Command;
 use ddrescue_words::options::Options;
-use rescue_core::settings::Settings;
 use rescue_domain::domain::Domain;
+use run_options::settings::Settings;
 use run_options::skips::Skips;
 use std::alloc::Global;
 

@@ -9,9 +9,10 @@ use Rattle.rescue_rules.specs.Setting.{Setting}
 use Rattle.rescue_rules.specs.Machine.{Machine}
 use Rattle.rescue_rules.specs.Preparation.{prepared, prepared_status}
 use Rattle.rescue_rules.specs.Beginning.{goes_on_from, shown_at_first, machine_of}
-use Rattle.rescue_core.specs.declared.settings.Settings.{Settings}
-use Rattle.rescue_core.specs.RunState.{RunState, setting_with, setting_in, started, run_showing, Suits, IsSound as SettingsSound}
-use Rattle.rescue_core.proofs.PrepareLemmas.{change_is_made}
+use Rattle.run_options.specs.declared.settings.Settings.{Settings}
+use Rattle.run_options.specs.Settings.{IsSound as SettingsSound, Suits}
+use Rattle.rescue_core.specs.RunState.{RunState, setting_with, setting_in, started, run_showing}
+use Rattle.map_preparation.proofs.PrepareLemmas.{change_is_made}
 use Rattle.copy_passes.specs.Copying.{MayCopy}
 use Rattle.copy_passes.proofs.StartLemmas.{start_may_copy, shown_may_copy}
 use Rattle.ddrescue_words.specs.declared.options.Options.{Options}

@@ -37,21 +37,22 @@ use Rattle.rescue_rules.specs.RunCalls.{write_calls, due_calls, move_calls, run_
 use Rattle.rescue_rules.specs.Events.{reads_of, times_of}
 use Rattle.rescue_rules.specs.Laws.{AreTimes}
 use Rattle.rescue_rules.specs.Lines.{ends_at_write, lines_of}
-use Rattle.rescue_rules.specs.Work.{EndsBy, Ends, end_of, IsSaved, IsUnsaved, IsBroken}
+use Rattle.rescue_rules.specs.Work.{EndsBy, Ends, end_of, lost_by, lost_reads, IsSaved, IsUnsaved, IsBroken}
 use Rattle.rescue_rules.proofs.ReadyLemmas.{ready_here, spent_request}
 use Rattle.rescue_rules.proofs.SearchLemmas.{request_seen}
-use Rattle.rescue_core.specs.RunState.{RunState, names_in, setting_in}
+use Rattle.rescue_core.specs.RunState.{RunState, setting_in}
 use Rattle.rescue_core.specs.Turning.{IsEvent, stepped, move_by, Halted, Starved, Lost, Unwritten, Unsaved, Limited}
 use Rattle.rescue_core.specs.Closing.{LastSave, Saved, Unsaved as UnsavedEnd, Closes, closing_snapshot, last_pieces}
-use Rattle.rescue_core.specs.Across.{Across, across}
+use Rattle.rescue_rules.specs.Across.{Across, across}
 use Rattle.copy_passes.specs.Turns.{IsAlike, moved_to, Went, WentUpTo}
 use Rattle.faulty_source.specs.Journal.{IsFrom}
+use Rattle.save_resume.specs.MapNames.{names_in}
 use Rattle.rescue_core.proofs.ObjectLemmas.{timed_more}
 use Rattle.trim_scrape.specs.Past.{IsPast}
 use Rattle.task_rescue.specs.Running.{WentToEnd}
 use Rattle.task_rescue.proofs.LastLemmas.{past_all}
 use Rattle.task_rescue.proofs.SpokenLemmas.{SaidMore, said_more, save_writes_none, saves_written, says_all, says_front}
-use Rattle.work_rules.proofs.GainLemmas.{MayGain, may_gain, broke_after}
+use Rattle.program_promise.proofs.GainLemmas.{MayGain, may_gain, broke_after}
 use Rattle.task_rescue.proofs.TurnLemmas.{EventMore, event_more, ReadsMore, read_more}
 
 -- a run that has met a request isn't over
@@ -132,7 +133,8 @@ record EndsCalls (r : RunState) (events : List Event) (spare : ℕ) (end : RunEn
     : Type 0 where
   gained : List Entry
   grew : IsTrue tells → calls' ≡ calls ++ gained
-  ends : Ends (setting_in r) r.machine events spare gained end
+  lost : spare ≡ lost_reads end
+  ends : Ends (setting_in r) r.machine events gained end
 
 to_end : (r : RunState) (end : RunEnd) (heard : Bool) (events : List Event) (spare : List ℕ) (o : Across)
     → IsDone r events spare o → EndsCalls r events (length spare) end o.site.tells o.site.calls o.site'.calls
@@ -141,6 +143,7 @@ to_end : (r : RunState) (end : RunEnd) (heard : Bool) (events : List Event) (spa
 to_end r end heard events spare o d c says = record {
   events = events;
   spare = spare;
+  lost = c.lost;
   run = d.run;
   read = d.read;
   right = d.right;
@@ -164,13 +167,18 @@ done_went r r1 o site2 console2 w =
       fit = subst AreTimes none w.fit;
     }
 
+lost_end : (stop : Option Stop) → lost_reads (end_of stop) ≡ lost_by stop
+lost_end None = refl
+lost_end (Some stop) = refl
+
 -- The save at the end of a run, or a call of it that failed.
 save_ends : (r r1 : RunState) (events : List Event) (stop : Option Stop) (spare : ℕ) (end : RunEnd) (tells : Bool) (old : List Entry)
-    (a b : SiteState) → EndsBy stop (setting_in r) (led_to r events) spare → setting_in r1 ≡ setting_in r
+    (a b : SiteState) → EndsBy stop (setting_in r) (led_to r events) → spare ≡ lost_by stop
+    → setting_in r1 ≡ setting_in r
     → closing_snapshot stop r1 ≡ last_snapshot (setting_in r) (led_to r events)
     → (IsTrue tells → Made (run_calls (setting_in r) r.machine events) old a.calls) → (IsTrue tells → IsTrue a.tells)
     → LastSave stop r1 end a b → EndsCalls r events spare end tells old b.calls
-save_ends r r1 events stop spare end tells old a b by same text made told (Saved is makes rest) =
+save_ends r r1 events stop spare end tells old a b by lost same text made told (Saved is makes rest) =
     let s : Setting = setting_in r in
     let are : closing_calls (setting_in r1) (closing_snapshot stop r1) ≡ end_calls s r.machine events =
     ap (λ (t : Setting). closing_calls t (closing_snapshot stop r1)) same ∙ ap (closing_calls s) text in
@@ -178,9 +186,10 @@ save_ends r r1 events stop spare end tells old a b by same text made told (Saved
       gained = map Returned (run_calls s r.machine events ++ end_calls s r.machine events);
       grew = λ t. made_more old a.calls b.calls (run_calls s r.machine events) (end_calls s r.machine events) (made t)
           (subst (λ (cs : List Call). Made cs a.calls b.calls) are (makes.made (told t)));
+      lost = lost ∙ sym (lost_end stop) ∙ ap lost_reads (sym is);
       ends = IsSaved stop by is refl;
     }
-save_ends r r1 events stop spare end tells old a b by same text made told (UnsavedEnd call is named breaks rest) =
+save_ends r r1 events stop spare end tells old a b by lost same text made told (UnsavedEnd call is named breaks rest) =
     let s : Setting = setting_in r in
     let are : closing_calls (setting_in r1) (closing_snapshot stop r1) ≡ end_calls s r.machine events =
     ap (λ (t : Setting). closing_calls t (closing_snapshot stop r1)) same ∙ ap (closing_calls s) text in
@@ -193,6 +202,7 @@ save_ends r r1 events stop spare end tells old a b by same text made told (Unsav
     record {
       gained = calls ++ g.more;
       grew = λ t. g.grew t ∙ ap (λ (c : List Entry). c ++ g.more) (made t) ∙ append_assoc old calls g.more;
+      lost = lost ∙ ap lost_reads (sym is);
       ends = IsUnsaved stop call by is
           (subst Q (append-nil calls) (broke_after call (end_calls s r.machine events) calls [] g.more g.broke));
     }
@@ -209,7 +219,7 @@ ended_done r r1 end heard o site2 console2 w over same saves last =
     let over' : has_ended (setting_in r) (led_to r w.events) ≡ true = after_over r r1 w.events true w.stands w.state over in
     to_end r end heard w.events [] (record o { site' = site2; console' = console2 })
     (done_went r r1 o site2 console2 w)
-    (save_ends r r1 w.events None 0 end o.site.tells o.site.calls o.site' site2 (over', refl) (setting_stands r r1 w.stands)
+    (save_ends r r1 w.events None 0 end o.site.tells o.site.calls o.site' site2 over' refl (setting_stands r r1 w.stands)
     (saves_over r r1 w.events w.state over') w.made.made (λ tells. rw same tells) saves)
     (says_all r r1 w.events end heard o.console o.console' console2 (setting_stands r r1 w.stands) w.state w.says last
     (saves_written None r1 end o.site' site2 refl saves))
@@ -236,7 +246,7 @@ limited_end r r2 limit end heard o site2 console2 w is same saves last =
     ap (λ (l : Option Limit). no_pass_left (ready s m).passes && is_none l) met ∙ and-false (no_pass_left (ready s m).passes) in
     to_end r end heard w.events [] (record o { site' = site2; console' = console2 })
     (done_went r r2 o site2 console2 w)
-    (save_ends r r2 w.events (Some (LimitMet limit)) 0 end o.site.tells o.site.calls o.site' site2 (met, refl)
+    (save_ends r r2 w.events (Some (LimitMet limit)) 0 end o.site.tells o.site.calls o.site' site2 met refl
     (setting_stands r r2 w.stands) (saves_on r r2 w.events (LimitMet limit) w.state on) w.made.made
     (λ tells. rw same tells) saves)
     (says_all r r2 w.events end heard o.console o.console' console2 (setting_stands r r2 w.stands) w.state w.says last
@@ -275,19 +285,19 @@ stopped_saves : (r r1 r2 : RunState) (stop : Stop) (end : RunEnd) (heard : Bool)
     (site2 : SiteState) (source2 : SourceState) (clock2 : ClockState) (console2 console3 : ConsoleState)
     → (w : Went r r1 o) → limit_met (setting_in r1) r1.machine ≡ None → IsRequest (setting_in r1) r1.machine p q → r2 ≡ r1
     → ((m : Machine) → has_ended (setting_in r) m ≡ false → limit_met (setting_in r) m ≡ None
-    → EndsBy (Some stop) (setting_in r) m (length spare))
+    → EndsBy (Some stop) (setting_in r) m) → length spare ≡ lost_by (Some stop)
     → ends_at_write (end_of (Some stop)) ≡ false → o.site'.tells ≡ o.site.tells
     → IsDone r w.events spare (across_to o source2 site2 clock2 console3) → LastSave (Some stop) r2 end o.site' site2
     → console2 ≡ o.console' → SpeaksOn (last_pieces r2 end) r2.heard heard console2 console3
     → WentToEnd r end heard (across_to o source2 site2 clock2 console3)
-stopped_saves r r1 r2 stop end heard p q spare o site2 source2 clock2 console2 console3 w within asks still by told same d
+stopped_saves r r1 r2 stop end heard p q spare o site2 source2 clock2 console2 console3 w within asks still by lost told same d
     saves unsaid last =
     let on : has_ended (setting_in r) (led_to r w.events) ≡ false =
     after_over r r1 w.events false w.stands w.state (asked_on (setting_in r1) r1.machine p q asks) in
     let saves' : LastSave (Some stop) r1 end o.site' site2 = saves_as (Some stop) r2 r1 end o.site' site2 still saves in
     to_end r end heard w.events spare (across_to o source2 site2 clock2 console3) d
     (save_ends r r1 w.events (Some stop) (length spare) end o.site.tells o.site.calls o.site' site2
-    (by (led_to r w.events) on (after_limit r r1 w.events None w.stands w.state within)) (setting_stands r r1 w.stands)
+    (by (led_to r w.events) on (after_limit r r1 w.events None w.stands w.state within)) lost (setting_stands r r1 w.stands)
     (saves_on r r1 w.events stop w.state on) w.made.made
     (λ tells. rw same tells) saves')
     (says_all r r1 w.events end heard o.console o.console' console3 (setting_stands r r1 w.stands) w.state w.says
@@ -309,7 +319,8 @@ broken_calls r r1 es e call end tells old a b more is made named broke =
     record {
       gained = calls ++ g.more;
       grew = λ t. g.grew t ∙ ap (λ (c : List Entry). c ++ g.more) (made t) ∙ append_assoc old calls g.more;
-      ends = IsBroken es e call refl refl is
+      lost = ap lost_reads (sym is);
+      ends = IsBroken es e call refl is
           (subst M (sym more.calls) (subst Q (append-nil calls) (broke_after call moves calls [] g.more g.broke)));
     }
 
@@ -427,7 +438,7 @@ halted_end r r1 r2 stop end heard request o source2 site2 site3 clock2 console2 
     let C : Stop → Type 0 = λ x. Closes (Some x) r2 end site2 site3 in
     let S : SiteState → Type 0 = λ d. LastSave (Some NoMemory) r2 end d site3 in
     stopped_saves r r1 r2 NoMemory end heard request.pos (request.pos + request.len) [] o site3 source2 clock2 console2
-    console3 w within asks still (λ m on none. (on, none, refl)) refl same
+    console3 w within asks still (λ m on none. (on, none)) refl refl same
     (done_still r r1 o source2 site3 clock2 console3 w untouched unread)
     (subst S unmade (subst C is closes)) unsaid last
 halted_end r r1 r2 stop end heard request o source2 site2 site3 clock2 console2 console3 w stays same within
@@ -435,7 +446,7 @@ halted_end r r1 r2 stop end heard request o source2 site2 site3 clock2 console2 
     let C : Stop → Type 0 = λ x. Closes (Some x) r2 end site2 site3 in
     let S : SiteState → Type 0 = λ d. LastSave (Some SourceLost) r2 end d site3 in
     stopped_saves r r1 r2 SourceLost end heard request.pos (request.pos + request.len) (before ∷ []) o site3 source2 clock2
-    console2 console3 w within asks still (λ m on none. (on, none, refl)) refl same
+    console2 console3 w within asks still (λ m on none. (on, none)) refl refl same
     (done_lost r r1 before o source2 site3 clock2 console3 w (λ tells. loses.untold (rw stays.keeps.tells tells)) small times)
     (subst S unmade (subst C is closes)) unsaid last
 halted_end r r1 r2 stop end heard request o source2 site2 site3 clock2 console2 console3 w stays same within

@@ -4,7 +4,7 @@ use Rattle.faulty_source.specs.SourceState.{SourceState}
 use Rattle.crash_site.specs.SiteState.{SiteState}
 use Rattle.rescue_console.specs.ClockState.{ClockState}
 use Rattle.rescue_console.specs.ConsoleState.{ConsoleState}
-use Rattle.rescue_core.specs.Across.{across}
+use Rattle.rescue_rules.specs.Across.{across}
 use Rattle.rescue_core.specs.RunState.{RunState}
 use Rattle.rescue_core.specs.Closing.{StoppedState}
 use Rattle.copy_passes.specs.Turns.{WentByTurns, PhaseEnds}

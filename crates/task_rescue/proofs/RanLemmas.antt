@@ -7,7 +7,7 @@ use Rattle.mapfile_text.specs.declared.state.MapState.{MapState}
 use Rattle.faulty_source.specs.SourceState.{SourceState}
 use Rattle.crash_site.specs.Calls.{Entry}
 use Rattle.crash_site.specs.SiteState.{SiteState}
-use Rattle.save_resume.specs.MapNames.{MapNames}
+use Rattle.save_resume.specs.MapNames.{MapNames, names_in}
 use Rattle.rescue_console.specs.ClockState.{ClockState, Reads as ReadsClock}
 use Rattle.rescue_console.specs.ConsoleState.{ConsoleState}
 use Rattle.rescue_console.specs.Speaking.{SpeaksOn, out_pieces}
@@ -25,19 +25,19 @@ use Rattle.rescue_rules.specs.Beginning.{goes_on_from, shown_at_first, machine_o
 use Rattle.rescue_rules.specs.Events.{reads_of, times_of, with_times}
 use Rattle.rescue_rules.specs.Laws.{AreTimes}
 use Rattle.rescue_rules.specs.Lines.{lines_of, opening_lines}
-use Rattle.rescue_rules.specs.Work.{Gain, events_in, EndsBy, Ends, IsSaved, IsUnsaved, IsBroken}
+use Rattle.rescue_rules.specs.Work.{Gain, events_in, EndsBy, Ends, IsSaved, IsUnsaved, IsBroken, lost_reads}
 use Rattle.rescue_rules.proofs.NamelessLemmas.{run_named}
-use Rattle.rescue_core.specs.declared.settings.Settings.{Settings}
-use Rattle.rescue_core.specs.RunState.{RunState, names_in, setting_with as core_setting, setting_in}
+use Rattle.run_options.specs.declared.settings.Settings.{Settings}
+use Rattle.rescue_core.specs.RunState.{RunState, setting_with as core_setting, setting_in}
 use Rattle.task_files.specs.declared.ending.Ending.{Ending}
 use Rattle.task_files.specs.declared.ending.Ending.TheVariants.{NoMemory}
 use Rattle.ddrescue_words.specs.declared.options.Options.{Options}
 use Rattle.ddrescue_words.specs.Command.{Command}
 use Rattle.task_rescue.specs.declared.ready.RunMemory.{RunMemory}
 use Rattle.task_files.specs.Asked.{Maps, names_by, setting_asked, setting_of, domain_asked}
-use Rattle.rescue_core.specs.Across.{Across}
-use Rattle.rescue_core.proofs.TurnEndLemmas.{says_none}
+use Rattle.rescue_rules.specs.Across.{Across}
 use Rattle.faulty_source.specs.Journal.{IsFrom}
+use Rattle.rescue_console.proofs.SpeakingLemmas.{says_none}
 use Rattle.rescue_core.proofs.ObjectLemmas.{timed_more, says_more}
 use Rattle.task_files.specs.Work.{answer_of, said_by}
 use Rattle.task_files.specs.Steps.{DidRun}
@@ -68,29 +68,30 @@ two_times [] = refl
 two_times (e ∷ es) = omega (arith, two_times es)
 
 -- how a run ends doesn't depend on those names
-ends_by_named : (stop : Option Stop) (s : Setting) (m : Machine) (spare : ℕ) → EndsBy stop (nameless s) m spare → EndsBy stop s m spare
-ends_by_named None s m spare by = by
-ends_by_named (Some InputLost) s m spare by = by
-ends_by_named (Some (Site call)) s m spare by = by
-ends_by_named (Some (Limited limit)) s m spare by = by
-ends_by_named (Some NoRoom) s m spare by = by
+ends_by_named : (stop : Option Stop) (s : Setting) (m : Machine) → EndsBy stop (nameless s) m → EndsBy stop s m
+ends_by_named None s m by = by
+ends_by_named (Some InputLost) s m by = by
+ends_by_named (Some (Site call)) s m by = by
+ends_by_named (Some (Limited limit)) s m by = by
+ends_by_named (Some NoRoom) s m by = by
 
-ends_named : (s : Setting) (m : Machine) (es : List Event) (spare : ℕ) (calls : List Entry) (end : RunEnd)
-    → Ends (nameless s) m es spare calls end → Ends s m es spare calls end
-ends_named s m es spare calls end (IsSaved stop by is all) = IsSaved stop (ends_by_named stop s (state_after s m es) spare by) is all
-ends_named s m es spare calls end (IsUnsaved stop call by is broke) =
-    IsUnsaved stop call (ends_by_named stop s (state_after s m es) spare by) is broke
-ends_named s m es spare calls end (IsBroken before last call split none is broke) = IsBroken before last call split none is broke
+ends_named : (s : Setting) (m : Machine) (es : List Event) (calls : List Entry) (end : RunEnd)
+    → Ends (nameless s) m es calls end → Ends s m es calls end
+ends_named s m es calls end (IsSaved stop by is all) = IsSaved stop (ends_by_named stop s (state_after s m es) by) is all
+ends_named s m es calls end (IsUnsaved stop call by is broke) =
+    IsUnsaved stop call (ends_by_named stop s (state_after s m es) by) is broke
+ends_named s m es calls end (IsBroken before last call split is broke) = IsBroken before last call split is broke
 
 -- a run over a map from this moment on, which is heard before and after it or not, in the words of a rescue
 record InWords (s : Setting) (statuses : List Status) (state : Option MapState) (moment : ℕ) (heard heard' : Bool)
     (end : RunEnd) (o : Across) : Type 0 where
   events : List Event
   spare : List ℕ
+  lost : length spare ≡ lost_reads end
   run : IsRun s (machine_over s statuses state moment) events
   gained : List Entry
   grew : IsTrue o.site.tells → o.site'.calls ≡ o.site.calls ++ gained
-  ends : Ends s (machine_over s statuses state moment) events (length spare) gained end
+  ends : Ends s (machine_over s statuses state moment) events gained end
   read : IsTrue o.source.tells → o.source'.journal ≡ o.source.journal ++ reads_of events
   right : IsTrue o.source.tells → All (IsFrom o.source.bytes) (reads_of events)
   timed : ReadsClock (times_of events ++ spare) o.clock o.clock'
@@ -110,16 +111,17 @@ in_words i o n l opts end maps statuses state moment heard heard' r at a is w =
     λ inside t. machine_of t (prepared inside opts.try_again opts.retrim statuses) (goes_on_from opts.try_again state) (shown_at_first state) moment in
     let start : r.machine ≡ m = is.machine ∙ ap (λ (inside : ℕ → Bool). M inside (setting_in r)) positions ∙ ap (M s.domain) same in
     let P : Setting → Machine → Type 0 = λ t n. IsRun t n w.events in
-    let E : Setting → Machine → Type 0 = λ t n. Ends t n w.events (length w.spare) w.gained at in
+    let E : Setting → Machine → Type 0 = λ t n. Ends t n w.events w.gained at in
     let L : Setting → Machine → Bool → Type 0 =
     λ t n h. SpeaksOn (out_pieces (lines_of t n w.events at)) h heard' a.console a.console' in
     record {
       events = w.events;
       spare = w.spare;
+      lost = w.lost;
       run = run_named s m w.events (subst (P (nameless s)) start (subst (λ (t : Setting). P t r.machine) same w.run));
       gained = w.gained;
       grew = w.grew;
-      ends = ends_named s m w.events (length w.spare) w.gained at
+      ends = ends_named s m w.events w.gained at
           (subst (E (nameless s)) start (subst (λ (t : Setting). E t r.machine) same w.ends));
       read = w.read;
       right = w.right;
@@ -161,10 +163,9 @@ ran_so s statuses state moment heard between heard' end o before unsaid w first 
         end = end;
         answer = refl;
         runs = record {
-          spare = length w.spare;
-          times = omega (arith, length-append (times_of w.events) w.spare, two_times w.events);
+          times = omega (arith, length-append (times_of w.events) w.spare, two_times w.events, w.lost);
           run = subst (λ (es : List Event). IsRun s m es) (sym own) w.run;
-          ends = subst (λ (es : List Event). Ends s m es (length w.spare) w.gained end) (sym own) w.ends;
+          ends = subst (λ (es : List Event). Ends s m es w.gained end) (sym own) w.ends;
         };
         says = refl;
       });

@@ -25,7 +25,7 @@ use Rattle.rescue_rules.specs.Moves.{state_after, IsRun}
 use Rattle.rescue_rules.specs.Counts.{counts_of}
 use Rattle.rescue_rules.specs.Lines.{is_done, ends_at_write, is_image_write, last_front, last_line, lines_of, marked_events, move_lines, report_of, report_text, run_lines}
 use Rattle.faulty_source.specs.Ends.{is_before}
-use Rattle.rescue_core.specs.Across.{Across}
+use Rattle.rescue_rules.specs.Across.{Across}
 use Rattle.rescue_core.specs.RunState.{RunState, setting_in}
 use Rattle.rescue_core.specs.Turning.{IsEvent, stepped, move_by, move_pieces}
 use Rattle.rescue_rules.specs.Work.{end_of}

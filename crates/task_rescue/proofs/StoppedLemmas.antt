@@ -9,7 +9,7 @@ use Rattle.rescue_rules.specs.declared.stop.Stop.TheVariants.{SourceLost as Inpu
 use Rattle.rescue_rules.specs.declared.stop.RunEnd.{RunEnd}
 use Rattle.rescue_rules.specs.declared.stop.RunEnd.TheVariants.{Stopped}
 use Rattle.rescue_core.specs.RunState.{RunState}
-use Rattle.rescue_core.specs.Across.{Across, ObjectsStay}
+use Rattle.rescue_rules.specs.Across.{Across, ObjectsStay}
 use Rattle.rescue_core.specs.Turning.{Starved, Lost, Unwritten, Limited as LimitedTurn, Unsaved as UnsavedTurn}
 use Rattle.rescue_core.specs.Closing.{LastSave, Saved, Unsaved, Closes, drafting_at_stop}
 use Rattle.program_promise.specs.Causes.{unchanged}

@@ -1,5 +1,5 @@
 -- What a run in test mode did to the input that its source reads.
-use Rattle.rescue_core.specs.Across.{across}
+use Rattle.rescue_rules.specs.Across.{across}
 use Rattle.std.proofs.Common.{◌≡◌, ℕ, Bool, IsTrue, List, ◌++◌, map, Option, Some, None, sym, ap, ◌∙◌}
 use Rattle.std.proofs.lemmas.List.{map-append, append_cancel_left}
 use Rattle.block_list.specs.declared.status.Status.{Status}

@@ -23,7 +23,7 @@ use Rattle.rescue_rules.proofs.ReadyLemmas.{ready_here}
 use Rattle.rescue_rules.proofs.SearchLemmas.{request_seen}
 use Rattle.rescue_core.specs.RunState.{RunState, setting_in}
 use Rattle.rescue_core.specs.Turning.{IsEvent, move_by}
-use Rattle.rescue_core.specs.Across.{Across}
+use Rattle.rescue_rules.specs.Across.{Across}
 use Rattle.rescue_core.proofs.ObjectLemmas.{timed_more}
 use Rattle.copy_passes.specs.Turns.{IsAlike, Went}
 use Rattle.copy_passes.proofs.TurnLemmas.{times_append}

@@ -1,6 +1,7 @@
 -- How the run of a rescue goes, by what the objects tell. For contracts, laws and proofs: no promise uses it.
 use Rattle.std.specs.Prelude.{◌≡◌, ℕ, ◌<◌, ◌^◌, Bool, true, false, IsTrue, List, ◌++◌, length, All, Option, IfSome, option_map}
 use Rattle.block_list.specs.declared.status.Status.{Status}
+use Rattle.run_options.specs.Settings.{Suits, HasPlaces}
 use Rattle.mapfile_text.specs.declared.state.MapState.{MapState}
 use Rattle.save_resume.specs.MapNames.{MapNames}
 use Rattle.faulty_source.specs.SourceState.{SourceState}
@@ -16,10 +17,10 @@ use Rattle.rescue_rules.specs.Preparation.{prepared}
 use Rattle.rescue_rules.specs.Beginning.{goes_on_from, shown_at_first, machine_of}
 use Rattle.rescue_rules.specs.Events.{reads_of, times_of}
 use Rattle.rescue_rules.specs.Laws.{AreTimes}
-use Rattle.rescue_rules.specs.Work.{Ends}
+use Rattle.rescue_rules.specs.Work.{Ends, lost_reads}
 use Rattle.rescue_rules.specs.Lines.{lines_of, opening_lines}
-use Rattle.rescue_core.specs.RunState.{RunState, setting_in, HasPlaces, Suits}
-use Rattle.rescue_core.specs.Across.{Across}
+use Rattle.rescue_core.specs.RunState.{RunState, setting_in}
+use Rattle.rescue_rules.specs.Across.{Across}
 use Rattle.faulty_source.specs.Journal.{IsFrom}
 use Rattle.copy_passes.specs.Copying.{MayCopy}
 use Rattle.ddrescue_words.specs.declared.options.Options.{Options}
@@ -36,10 +37,11 @@ pub record AreReady (source : SourceState) (site : SiteState) : Type 0 where
   pub no_draft : site.is_drafting ≡ false
 
 -- A run up to its end, or to where it stopped, which is heard after it or not: its events, its readings of the clock,
--- of which some may be after them, its calls, and its lines.
+-- its calls, and its lines. The spare reading of the clock is the one before a lost read.
 pub record WentToEnd (r : RunState) (end : RunEnd) (heard : Bool) (o : Across) : Type 0 where
   pub events : List Event
   pub spare : List ℕ
+  pub lost : length spare ≡ lost_reads end
   pub run : IsRun (setting_in r) r.machine events
   pub read : IsTrue o.source.tells → o.source'.journal ≡ o.source.journal ++ reads_of events
   pub right : IsTrue o.source.tells → All (IsFrom o.source.bytes) (reads_of events)
@@ -47,7 +49,7 @@ pub record WentToEnd (r : RunState) (end : RunEnd) (heard : Bool) (o : Across) :
   pub fit : AreTimes (times_of events ++ spare)
   pub gained : List Entry
   pub grew : IsTrue o.site.tells → o.site'.calls ≡ o.site.calls ++ gained
-  pub ends : Ends (setting_in r) r.machine events (length spare) gained end
+  pub ends : Ends (setting_in r) r.machine events gained end
   pub says : SpeaksOn (out_pieces (lines_of (setting_in r) r.machine events end)) r.heard heard o.console o.console'
 
 -- A run at its start over what is made of a map, with these names of a mapfile and its draft if there is one, this

@@ -12,10 +12,10 @@ ghost use Rattle.task_rescue.specs.Running.{IsReady, IsRunOver, MayBegin};
 
 use block_list::tiles::NoMemory;
 use ddrescue_words::command::Command;
+use map_preparation::prepare::prepare;
 use mapfile_text::heading::Heading;
 use mapfile_text::state::{Current, MapState};
 use rescue_core::phases::{Copying, Rescue};
-use rescue_core::prepare::prepare;
 use rescue_domain::domain::Domain;
 use save_resume::names::Names;
 use std::alloc::Global;

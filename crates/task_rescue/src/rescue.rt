@@ -9,7 +9,7 @@ ghost use Rattle.task_files.specs.Asked.{setting_of};
 ghost use Rattle.task_files.specs.Answers.{Causes, drafting_left};
 ghost use Rattle.task_files.specs.Steps.{ending_of, heard_after, maps_read, DidRun, CanBegin, IsChecked, DidAfterMaps, Worked};
 ghost use Rattle.task_rescue.specs.Running.{AreReady};
-ghost use Rattle.rescue_core.specs.Across.{across};
+ghost use Rattle.rescue_rules.specs.Across.{across};
 
 use crate::ready::{begin, make_ready};
 use crate::run::run_rescue;

@@ -1,12 +1,12 @@
 //! The run of a rescue: its phases, and after them the last save and the last line.
 ghost use Rattle.std.specs.Prelude.{◌≡◌, IfOk};
+ghost use Rattle.run_options.specs.Settings.{HasPlaces};
 ghost use Rattle.faulty_source.specs.SourceChanges.{Stays as SourceStays};
 ghost use Rattle.crash_site.specs.SiteChanges.{Keeps as SiteKeeps};
 ghost use Rattle.rescue_console.specs.ClockState.{Keeps as ClockKeeps};
 ghost use Rattle.rescue_domain.specs.Parts.{covers};
 ghost use Rattle.rescue_rules.specs.declared.phase.Phase.TheVariants.{Retrying as LastPhase};
-ghost use Rattle.rescue_core.specs.Across.{across};
-ghost use Rattle.rescue_core.specs.RunState.{HasPlaces};
+ghost use Rattle.rescue_rules.specs.Across.{across};
 ghost use Rattle.copy_passes.specs.Turns.{PhaseEnds};
 ghost use Rattle.copy_passes.specs.Copying.{MayCopy};
 ghost use Rattle.trim_scrape.specs.Past.{IsPast};

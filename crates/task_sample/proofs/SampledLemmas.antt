@@ -28,7 +28,7 @@ use Rattle.rescue_rules.specs.Beginning.{goes_on_from, shown_at_first, machine_o
 use Rattle.rescue_rules.specs.Events.{reads_of, times_of}
 use Rattle.rescue_rules.specs.Start.{IsFresh}
 use Rattle.rescue_core.specs.RunState.{RunState, setting_in}
-use Rattle.rescue_core.specs.Across.{Across}
+use Rattle.rescue_rules.specs.Across.{Across}
 use Rattle.copy_passes.specs.Turns.{Went, WentByTurns}
 use Rattle.trim_scrape.specs.Past.{IsPast}
 use Rattle.rescue_sample.specs.declared.source.Answered.{Answered}

@@ -18,8 +18,8 @@ use Rattle.rescue_rules.specs.Events.{reads_of, times_of}
 use Rattle.rescue_core.specs.RunState.{RunState, setting_in}
 use Rattle.rescue_sample.specs.Sample.{sample_size}
 use Rattle.rescue_sample.specs.Line.{IsSampleLine}
-use Rattle.work_rules.specs.Work.{Deeds, WorkStep, Take, Works}
-use Rattle.work_rules.specs.Parts.{only_calls}
+use Rattle.program_promise.specs.Work.{Deeds, WorkStep, Take, Works}
+use Rattle.program_promise.specs.Parts.{only_calls}
 use Rattle.ddrescue_words.specs.Asking.{sample_command}
 use Rattle.task_files.specs.declared.ending.Ending.{Ending}
 use Rattle.task_files.specs.declared.ending.Ending.TheVariants.{Done, NoMemory}

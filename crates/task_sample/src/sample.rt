@@ -1,8 +1,8 @@
 //! The rescue of a sample.
 ghost use Rattle.std.specs.Prelude.{◌≡◌, ◌<◌, ◌≤◌, IfOk};
+ghost use Rattle.run_options.specs.Settings.{HasPlaces};
 ghost use Rattle.rescue_domain.specs.Parts.{covers};
 ghost use Rattle.rescue_rules.specs.Counts.{counts_of};
-ghost use Rattle.rescue_core.specs.RunState.{HasPlaces};
 ghost use Rattle.copy_passes.specs.Copying.{MayCopy};
 ghost use Rattle.task_rescue.specs.Running.{AreReady};
 ghost use Rattle.task_sample.specs.Sampled.{IsLineOf, RanSample, RanToEnd, TellsSample};
@@ -12,7 +12,7 @@ use block_list::tiles::{NoMemory, Tiles};
 use crash_site::site::Site;
 use ddrescue_words::command::sample_command;
 use faulty_source::source::Source;
-use map_algebra::summary::count_statuses;
+use map_counts::summary::count_statuses;
 use mapfile_text::heading::{Heading, Program};
 use memory_console::memory::MemoryConsole;
 use memory_site::memory::MemorySite;

@@ -4,11 +4,11 @@ use Rattle.crash_site.specs.Files.{File}
 use Rattle.crash_site.specs.Folder.{Folder, after}
 use Rattle.crash_site.specs.Calls.{Entry, Done as Returned}
 use Rattle.crash_site.proofs.LawLemmas.{after-append}
-use Rattle.work_rules.specs.Work.{Deeds, Look, Works}
-use Rattle.work_rules.specs.Parts.{only_calls, StoppedIn, WentThrough}
-use Rattle.work_rules.specs.Holds.{after_entries}
-use Rattle.work_rules.proofs.PartLemmas.{stopped_more, through_then}
-use Rattle.work_rules.proofs.FrontLemmas.{load_reads, reads_stand}
+use Rattle.program_promise.specs.Work.{Deeds, Look, Works}
+use Rattle.program_promise.specs.Parts.{only_calls, StoppedIn, WentThrough}
+use Rattle.program_promise.specs.Holds.{after_entries}
+use Rattle.program_promise.proofs.PartLemmas.{stopped_more, through_then}
+use Rattle.program_promise.proofs.FrontLemmas.{load_reads, reads_stand}
 use Rattle.ddrescue_words.specs.Command.{Command}
 use Rattle.task_files.specs.declared.ending.Ending.{Ending}
 use Rattle.task_files.specs.Maps.{Found}

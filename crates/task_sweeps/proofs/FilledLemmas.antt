@@ -16,17 +16,17 @@ use Rattle.rescue_console.specs.ClockState.{ClockState}
 use Rattle.rescue_console.specs.ConsoleState.{ConsoleState}
 use Rattle.rescue_console.specs.Speaking.{SpeaksOn, out_pieces}
 use Rattle.option_words.specs.declared.fault.UsageFault.TheVariants.{PlaceTooLarge}
+use Rattle.rescue_console.proofs.SpeakingLemmas.{says_none}
 use Rattle.rescue_rules.specs.declared.stop.RunEnd.{RunEnd}
 use Rattle.rescue_rules.specs.declared.stop.RunEnd.TheVariants.{Done as Finished}
 use Rattle.rescue_rules.specs.Setting.{Setting}
 use Rattle.rescue_rules.specs.Events.{began_at}
 use Rattle.rescue_rules.specs.Work.{Gain}
-use Rattle.rescue_core.proofs.TurnEndLemmas.{says_none}
-use Rattle.rescue_core.specs.Across.{across}
+use Rattle.rescue_rules.specs.Across.{across}
 use Rattle.fill_generate.specs.Sweeping.{around}
 use Rattle.sweep_rules.specs.Sweep.{Sweeper, Swept, filler}
-use Rattle.work_rules.specs.Work.{Deeds, WorkStep, Take, Look, Open, Works}
-use Rattle.work_rules.specs.Parts.{only_calls}
+use Rattle.program_promise.specs.Work.{Deeds, WorkStep, Take, Look, Open, Works}
+use Rattle.program_promise.specs.Parts.{only_calls}
 use Rattle.ddrescue_words.specs.Options.{cluster_of}
 use Rattle.ddrescue_words.specs.Command.{Command}
 use Rattle.task_files.specs.declared.ending.Ending.{Ending}

@@ -14,17 +14,17 @@ use Rattle.rescue_console.specs.ClockState.{ClockState}
 use Rattle.rescue_console.specs.ConsoleState.{ConsoleState}
 use Rattle.rescue_console.specs.Speaking.{SpeaksOn, out_pieces}
 use Rattle.option_words.specs.declared.fault.UsageFault.TheVariants.{PlaceTooLarge}
+use Rattle.rescue_console.proofs.SpeakingLemmas.{says_none}
 use Rattle.rescue_rules.specs.declared.stop.RunEnd.{RunEnd}
 use Rattle.rescue_rules.specs.declared.stop.RunEnd.TheVariants.{Done as Finished}
 use Rattle.rescue_rules.specs.Setting.{Setting}
 use Rattle.rescue_rules.specs.Laws.{AreThreeNames}
-use Rattle.rescue_core.proofs.TurnEndLemmas.{says_none}
-use Rattle.rescue_core.specs.Across.{across}
+use Rattle.rescue_rules.specs.Across.{across}
 use Rattle.sweep_rules.specs.Sweep.{Sweeper, Swept, generator}
 use Rattle.sweep_rules.specs.SweepLaws.{AreGiven}
 use Rattle.fill_generate.specs.Sweeping.{around, IsApart}
-use Rattle.work_rules.specs.Work.{Open, Works}
-use Rattle.work_rules.specs.Parts.{only_calls}
+use Rattle.program_promise.specs.Work.{Open, Works}
+use Rattle.program_promise.specs.Parts.{only_calls}
 use Rattle.ddrescue_words.specs.Command.{Command}
 use Rattle.task_files.specs.declared.ending.Ending.{Ending}
 use Rattle.task_files.specs.declared.ending.Ending.TheVariants.{Usage, SourceFault, NoOutput}

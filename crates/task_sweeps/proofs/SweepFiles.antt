@@ -1,5 +1,5 @@
 -- What was there and what was done after the map that an option names, by where a sweep's steps ended.
-use Rattle.rescue_core.specs.Across.{across}
+use Rattle.rescue_rules.specs.Across.{across}
 use Rattle.std.proofs.Common.{◌≡◌, ℕ, ◌-◌, ◌<◌, ◌^◌, Bool, IsTrue, List, [], ◌∷◌, ◌++◌, length, replicate, All, Option, None, Ok, Err, refl, sym, ap, ◌∙◌, inl, inr, subst, arith, append_assoc, append-nil}
 use Rattle.std.proofs.lemmas.List.Elements.{All-nil}
 use Rattle.block_list.specs.declared.status.Status.{Status}
@@ -20,9 +20,9 @@ use Rattle.rescue_console.specs.ClockState.{ClockState}
 use Rattle.rescue_console.specs.ConsoleState.{ConsoleState}
 use Rattle.rescue_rules.specs.Start.{IsFresh, TextStands, AsNone, AsMap, StandsFor, Stands}
 use Rattle.rescue_rules.specs.Laws.{AreTimes}
-use Rattle.work_rules.specs.Work.{Opened, Unopened, Deeds}
+use Rattle.program_promise.specs.Work.{Opened, Unopened, Deeds}
 use Rattle.ddrescue_words.specs.Command.{Command}
-use Rattle.work_rules.proofs.PartLemmas.{grew_both}
+use Rattle.program_promise.proofs.PartLemmas.{grew_both}
 use Rattle.task_files.specs.declared.ending.Ending.{Ending}
 use Rattle.task_files.specs.declared.load.LoadedMap.{LoadedMap}
 use Rattle.task_files.specs.Maps.{NoFile, NoText, Blocks, mapfile_of}

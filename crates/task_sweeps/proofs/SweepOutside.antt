@@ -10,13 +10,13 @@ use Rattle.crash_site.specs.SiteChanges.{Stays}
 use Rattle.rescue_console.specs.ClockState.{ClockState}
 use Rattle.rescue_console.specs.ConsoleState.{ConsoleState}
 use Rattle.rescue_rules.specs.Work.{IsNothing}
-use Rattle.rescue_core.specs.Across.{Across, across}
+use Rattle.rescue_rules.specs.Across.{Across, across}
 use Rattle.faulty_source.specs.Journal.{IsFrom}
-use Rattle.work_rules.specs.Work.{Deeds, WorkStep, Works}
-use Rattle.work_rules.specs.Parts.{only_calls}
-use Rattle.work_rules.specs.Holds.{after_entries}
-use Rattle.work_rules.proofs.FrontLemmas.{IsMapRead}
-use Rattle.work_rules.proofs.PartLemmas.{stopped_more, through_then}
+use Rattle.program_promise.specs.Work.{Deeds, WorkStep, Works}
+use Rattle.program_promise.specs.Parts.{only_calls}
+use Rattle.program_promise.specs.Holds.{after_entries}
+use Rattle.program_promise.proofs.FrontLemmas.{IsMapRead}
+use Rattle.program_promise.proofs.PartLemmas.{stopped_more, through_then}
 use Rattle.ddrescue_words.specs.Command.{Command}
 use Rattle.task_files.specs.declared.ending.Which.TheVariants.{DomainMap}
 use Rattle.task_files.specs.declared.ending.Ending.{Ending}
@@ -24,7 +24,7 @@ use Rattle.task_files.specs.Names.{first_same_with_optional_map}
 use Rattle.task_files.specs.Asked.{names_by}
 use Rattle.task_files.specs.Maps.{Found, found_in, mapfile_of}
 use Rattle.task_files.specs.Outside.{Outside}
-use Rattle.work_rules.specs.Opens.{AreOpens}
+use Rattle.program_promise.specs.Opens.{AreOpens}
 use Rattle.task_files.specs.Work.{rescue_faults, map_rows}
 use Rattle.task_files.specs.Steps.{Gains, IsOnlyMaps, ReadsMap, maps_of}
 use Rattle.task_sweeps.specs.Modes.{named_rows}

@@ -15,7 +15,7 @@ use Rattle.rescue_rules.specs.StopsBy.{StopsBy}
 use Rattle.sweep_rules.specs.Sweep.{Sweeper, Swept, filler, generator}
 use Rattle.sweep_rules.specs.SweepWork.{Sweeps, sweep_begins, sweep_lines}
 use Rattle.sweep_rules.specs.SweepStops.{FillPromise, GeneratePromise, pieces_before, sweep_saves}
-use Rattle.work_rules.specs.Work.{Deeds, WorkStep, Take, Look, Open, Works}
+use Rattle.program_promise.specs.Work.{Deeds, WorkStep, Take, Look, Open, Works}
 use Rattle.ddrescue_words.specs.Options.{cluster_of}
 use Rattle.ddrescue_words.specs.Command.{Command}
 use Rattle.task_files.specs.declared.ending.Ending.{Ending}
@@ -86,15 +86,20 @@ module _ (s : Setting) (w : Sweeper) where
     pub stands : Stands mapfile s.end statuses state
     pub sweeps : MaySweep statuses state pieces end lines e d.gain
 
--- The work of a filling over a map that reaches so far, with the buffer that its pattern fills: the pattern is read
--- before the output is opened.
+-- What follows the steps of a filling over a map that reaches so far: the pattern is read, which fills the buffer, then
+-- come the steps on the files, and the sweep.
+abbrev pub ThenFill : (types : TypeSet) → Command → Found → (input_end top : ℕ) → Setting → (buffer : List ℕ)
+    → List Swept → RunEnd → (lines : List (List ℕ)) → Ending → Deeds → Type 0
+ThenFill types c found input_end top s buffer pieces end lines =
+    ThenPattern (cluster_of c.options) input_end buffer
+    (Works rescue_faults (files_rows true c found top)
+    (ThenSweep s (filler s types buffer) found.mapfile pieces end lines))
+
+-- The work of a filling.
 abbrev pub Fills : (types : TypeSet) → Command → Found → (input_end top : ℕ) → Setting → (buffer : List ℕ)
     → List Swept → RunEnd → (lines : List (List ℕ)) → Ending → Deeds → Type 0
 Fills types c found input_end top s buffer pieces end lines =
-    Works rescue_faults (fill_rows c found input_end)
-    (ThenPattern (cluster_of c.options) input_end buffer
-    (Works rescue_faults (files_rows true c found top)
-    (ThenSweep s (filler s types buffer) found.mapfile pieces end lines)))
+    Works rescue_faults (fill_rows c found input_end) (ThenFill types c found input_end top s buffer pieces end lines)
 
 -- The work of a generating.
 abbrev pub Generates : Command → Found → (input_end : ℕ) → Setting → List Swept → RunEnd → (lines : List (List ℕ))

@@ -3,7 +3,7 @@ use Rattle.std.specs.Prelude.{◌≡◌, ◌⊎◌, ℕ, ◌<◌, ◌≤◌, ◌
 use Rattle.fault_count.specs.Counts.{raised}
 use Rattle.faulty_source.specs.Journal.{Reading}
 use Rattle.faulty_source.specs.SourceState.{SourceState}
-use Rattle.work_rules.specs.Work.{Deeds, IsIdle}
+use Rattle.program_promise.specs.Work.{Deeds, IsIdle}
 use Rattle.task_files.specs.declared.ending.Ending.{Ending}
 use Rattle.task_files.specs.declared.ending.Ending.TheVariants.{SourceLost, EmptyPattern, PatternUnread, NoMemory}
 use Rattle.task_files.specs.Outside.{HasGainedReads}

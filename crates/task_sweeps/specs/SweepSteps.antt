@@ -4,6 +4,7 @@ use Rattle.std.specs.Prelude.{◌≡◌, ◌⊎◌, ℕ, ◌<◌, ◌^◌, Bool,
 use Rattle.block_list.specs.declared.status.Status.{Status}
 use Rattle.block_list.specs.Tiled.{Tiled}
 use Rattle.block_list.specs.declared.types.TypeSet.{TypeSet}
+use Rattle.run_options.specs.Settings.{IsSound, Suits, HasPlaces}
 use Rattle.mapfile_text.specs.declared.state.MapState.{MapState}
 use Rattle.mapfile_text.specs.HeadingLines.{HeadingLines}
 use Rattle.faulty_source.specs.SourceState.{SourceState}
@@ -17,8 +18,7 @@ use Rattle.rescue_rules.specs.Setting.{Setting}
 use Rattle.rescue_rules.specs.Laws.{AreTimes}
 use Rattle.rescue_rules.specs.Lines.{opening_lines}
 use Rattle.rescue_rules.specs.Work.{Gain}
-use Rattle.rescue_core.specs.Across.{Across}
-use Rattle.rescue_core.specs.RunState.{HasPlaces, IsSound, Suits}
+use Rattle.rescue_rules.specs.Across.{Across}
 use Rattle.sweep_rules.specs.Sweep.{Sweeper, Swept, generator}
 use Rattle.sweep_rules.specs.SweepLaws.{AreGiven}
 use Rattle.fill_generate.specs.declared.job.Job.{Job}
@@ -92,7 +92,7 @@ SweepCause e site site' = (source : SourceState) → Causes e source source site
 
 -- What was outside, as far as it agrees with what is told, and what maps say of it.
 pub record IsOutside (c : Command) (o : Across) (w : Outside) : Type 0 where
-  pub agrees : Agrees c o w
+  pub agrees : Agrees c o w.found w.end w.maps w.did
   pub asked_maps : AreAskedFor c w.maps
   pub are_maps : AreMapsOfSweep c w.found w.maps
   pub fit : AreTimes w.did.gain.times

@@ -12,7 +12,7 @@ ghost use Rattle.task_files.specs.Answers.{Causes, drafting_left};
 ghost use Rattle.task_files.specs.Steps.{ending_of, heard_after, maps_read, SuitsInput, IsChecked};
 ghost use Rattle.task_sweeps.specs.Modes.{fill_setting};
 ghost use Rattle.task_sweeps.specs.SweepSteps.{DidSweep, SweepCause, WorkedFill};
-ghost use Rattle.rescue_core.specs.Across.{across};
+ghost use Rattle.rescue_rules.specs.Across.{across};
 ghost use Rattle.fill_generate.specs.Sweeping.{around};
 
 use crate::pattern::read_pattern;

@@ -4,7 +4,7 @@ ghost use Rattle.block_list.specs.Tiled.{Tiled};
 ghost use Rattle.faulty_source.specs.SourceChanges.{Keeps as SourceKeeps};
 ghost use Rattle.crash_site.specs.SiteChanges.{Keeps as SiteKeeps};
 ghost use Rattle.rescue_console.specs.ClockState.{Keeps as ClockKeeps};
-ghost use Rattle.rescue_core.specs.Across.{across};
+ghost use Rattle.rescue_rules.specs.Across.{across};
 ghost use Rattle.fill_generate.specs.Sweeping.{around};
 ghost use Rattle.ddrescue_words.specs.Asking.{told_by};
 ghost use Rattle.task_files.specs.Asked.{setting_of};

@@ -1,5 +1,6 @@
 -- Turns of a pass after copying.
 use Rattle.std.proofs.Common.{◌≡◌, ℕ, ◌+◌, ◌<◌, true, false, refl, sym, ap, ◌∙◌, subst}
+use Rattle.run_options.specs.Settings.{HasPlaces}
 use Rattle.rescue_rules.specs.Step.{limit_met}
 use Rattle.faulty_source.specs.SourceState.{SourceState}
 use Rattle.crash_site.specs.SiteState.{SiteState}
@@ -10,8 +11,8 @@ use Rattle.transfer_token.specs.declared.token.Request.{Request}
 use Rattle.rescue_rules.specs.declared.phase.Phase.{Phase}
 use Rattle.rescue_rules.specs.Machine.{IsRequest}
 use Rattle.rescue_core.specs.declared.turn.Turn.{Turn}
-use Rattle.rescue_core.specs.Across.{Across, across}
-use Rattle.rescue_core.specs.RunState.{RunState, setting_in, passed, HasPlaces}
+use Rattle.rescue_rules.specs.Across.{Across, across}
+use Rattle.rescue_core.specs.RunState.{RunState, setting_in, passed}
 use Rattle.rescue_core.specs.Turning.{Turned}
 use Rattle.copy_passes.specs.Turns.{WentByTurns}
 use Rattle.copy_passes.proofs.TurnLemmas.{IsOneMove, one_move, begins, goes_on_by_pass}

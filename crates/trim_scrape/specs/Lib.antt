@@ -1,5 +1,3 @@
 pub mod Past
-pub mod Bounds
-pub mod Endings
 pub mod Laws
 pub mod Passing

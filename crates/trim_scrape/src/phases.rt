@@ -1,10 +1,11 @@
 //! The phases of a rescue after copying. Each goes on until its passes have no request left, and stops when a turn
 //! does: for lack of memory, at a lost read, at a limit, or at a call on the output or the mapfile that failed.
 ghost use Rattle.std.specs.Prelude.{◌≡◌, ◌+◌, true, false, IfOk, OnOk};
+ghost use Rattle.run_options.specs.Settings.{HasPlaces};
 ghost use Rattle.rescue_domain.specs.Parts.{covers};
 ghost use Rattle.rescue_rules.specs.declared.phase.Phase.TheVariants.{Copying as CopyingPhase, Trimming as TrimmingPhase, Scraping as ScrapingPhase, Retrying as RetryingPhase};
-ghost use Rattle.rescue_core.specs.Across.{across};
-ghost use Rattle.rescue_core.specs.RunState.{setting_in, HasPlaces};
+ghost use Rattle.rescue_rules.specs.Across.{across};
+ghost use Rattle.rescue_core.specs.RunState.{setting_in};
 ghost use Rattle.copy_passes.specs.Turns.{TurnsEnd, PhaseEnds};
 ghost use Rattle.trim_scrape.specs.Past.{IsPast};
 ghost use Rattle.trim_scrape.specs.Passing.{IsBeforePass, PhaseLeavesNone, IsPassOf};

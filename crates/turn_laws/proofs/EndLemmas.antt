@@ -37,7 +37,7 @@ use Rattle.rescue_rules.proofs.MoveLemmas.{moves_more}
 use Rattle.rescue_rules.proofs.NamelessLemmas.{run_named}
 use Rattle.rescue_rules.proofs.RunDeedLemmas.{last_map}
 use Rattle.rescue_rules.proofs.RunStopLemmas.{run_stops_safely}
-use Rattle.rescue_core.specs.Across.{Across}
+use Rattle.rescue_rules.specs.Across.{Across}
 use Rattle.rescue_core.specs.RunState.{RunState, setting_in}
 use Rattle.rescue_core.specs.Closing.{LastSave, Saved, Unsaved}
 use Rattle.copy_passes.specs.Turns.{Went}
@@ -206,28 +206,28 @@ done_only : (stop : Option Stop) → RunDone ≡ end_of stop → stop ≡ None
 done_only None is = refl
 done_only (Some stop) is = absurd (cc)
 
-done_made : (s : Setting) (m : Machine) (es : List Event) (spare : ℕ) (site site' : SiteState) (gained : List Entry)
-    → site'.calls ≡ site.calls ++ gained → Ends (nameless s) m es spare gained RunDone → AllMade s m es site site'
-done_made s m es spare site site' gained grew (RunSaved stop ends is all) =
+done_made : (s : Setting) (m : Machine) (es : List Event) (site site' : SiteState) (gained : List Entry)
+    → site'.calls ≡ site.calls ++ gained → Ends (nameless s) m es gained RunDone → AllMade s m es site site'
+done_made s m es site site' gained grew (RunSaved stop ends is all) =
     let none : stop ≡ None = done_only stop is in
     let over : has_ended s (state_after s m es) ≡ true
-    = (subst (λ (o : Option Stop). EndsBy o (nameless s) (state_after (nameless s) m es) spare) none ends).0 in
+    = (subst (λ (o : Option Stop). EndsBy o (nameless s) (state_after (nameless s) m es)) none ends) in
     record {
       over = over;
       calls = grew ∙ ap (λ (c : List Entry). site.calls ++ c) all
           ∙ ap (λ (p : Snapshot). site.calls ++ map Done (run_calls s m es ++ closing_calls s p))
           (last_finished s (state_after s m es) over);
     }
-done_made s m es spare site site' gained grew (IsUnsaved stop call ends is broke) =
+done_made s m es site site' gained grew (IsUnsaved stop call ends is broke) =
     absurd (let no : RunDone ≡ SaveFailed call stop = is in cc)
-done_made s m es spare site site' gained grew (IsBroken before last call split none is broke) =
+done_made s m es site site' gained grew (IsBroken before last call split is broke) =
     absurd (let no : RunDone ≡ Stopped (Site call) = is in cc)
 
 -- its end by the setting with all names
 named_ends : (s : Setting) (r : RunState) (end : RunEnd) (heard : Bool) (o : Across) → setting_in r ≡ nameless s
-    → (w : WentToEnd r end heard o) → Ends (nameless s) r.machine w.events (length w.spare) w.gained end
+    → (w : WentToEnd r end heard o) → Ends (nameless s) r.machine w.events w.gained end
 named_ends s r end heard o setting w =
-    subst (λ (x : Setting). Ends x r.machine w.events (length w.spare) w.gained end) setting w.ends
+    subst (λ (x : Setting). Ends x r.machine w.events w.gained end) setting w.ends
 
 named_run : (s : Setting) (r : RunState) (end : RunEnd) (heard : Bool) (o : Across) → setting_in r ≡ nameless s
     → (w : WentToEnd r end heard o) → IsRun s r.machine w.events
@@ -238,32 +238,32 @@ pub done_ends_well : DoneEndsWell
 done_ends_well s r heard o setting ok under tells keeps w =
     all_made_ends s r.machine w.events o.site o.site' (sensible_named s r setting ok) (way_named s r setting under)
     (named_run s r RunDone heard o setting w) tells keeps
-    (done_made s r.machine w.events (length w.spare) o.site o.site' w.gained (w.grew tells)
+    (done_made s r.machine w.events o.site o.site' w.gained (w.grew tells)
     (named_ends s r RunDone heard o setting w))
 
 -- a whole run that stopped, but not at a call on the files, has not ended
-not_over : (s : Setting) (m : Machine) (other : Option Stop) (stop : Stop) (spare : ℕ) → Stopped stop ≡ end_of other
-    → EndsBy other s m spare → has_ended s m ≡ false
-not_over s m None stop spare is ends = absurd (let no : Stopped stop ≡ RunDone = is in cc)
-not_over s m (Some SourceLost) stop spare is ends = ends.0
-not_over s m (Some (Site call)) stop spare is ends = absurd ends
-not_over s m (Some (LimitMet limit)) stop spare is ends =
+not_over : (s : Setting) (m : Machine) (other : Option Stop) (stop : Stop) → Stopped stop ≡ end_of other
+    → EndsBy other s m → has_ended s m ≡ false
+not_over s m None stop is ends = absurd (let no : Stopped stop ≡ RunDone = is in cc)
+not_over s m (Some SourceLost) stop is ends = ends.0
+not_over s m (Some (Site call)) stop is ends = absurd ends
+not_over s m (Some (LimitMet limit)) stop is ends =
     let none : Bool = no_pass_left (ready s m).passes in
-    ap (λ (l : Option Limit). none && is_none l) ends.0 ∙ and-false none
-not_over s m (Some NoMemory) stop spare is ends = ends.0
+    ap (λ (l : Option Limit). none && is_none l) ends ∙ and-false none
+not_over s m (Some NoMemory) stop is ends = ends.0
 
-stopped_made : (s : Setting) (m : Machine) (es : List Event) (stop : Stop) (spare : ℕ) (old gained : List Entry)
-    → is_at_call stop ≡ false → Ends (nameless s) m es spare gained (Stopped stop)
+stopped_made : (s : Setting) (m : Machine) (es : List Event) (stop : Stop) (old gained : List Entry)
+    → is_at_call stop ≡ false → Ends (nameless s) m es gained (Stopped stop)
     → old ++ gained ≡ old ++ map Done (run_calls s m es ++ closing_calls s (snapshot_of (state_after s m es)))
-stopped_made s m es stop spare old gained off (RunSaved other ends is all) =
+stopped_made s m es stop old gained off (RunSaved other ends is all) =
     let k : Machine = state_after s m es in
-    let on : has_ended s k ≡ false = not_over (nameless s) k other stop spare is ends in
+    let on : has_ended s k ≡ false = not_over (nameless s) k other stop is ends in
     ap (λ (c : List Entry). old ++ c) all
     ∙ ap (λ (b : Bool). old
     ++ map Done (run_calls s m es ++ closing_calls s (if b then finished_snapshot k else snapshot_of k))) on
-stopped_made s m es stop spare old gained off (IsUnsaved other call ends is broke) =
+stopped_made s m es stop old gained off (IsUnsaved other call ends is broke) =
     absurd (let no : Stopped stop ≡ SaveFailed call other = is in cc)
-stopped_made s m es stop spare old gained off (IsBroken before last call split none is broke) =
+stopped_made s m es stop old gained off (IsBroken before last call split is broke) =
     let same : stop ≡ Site call = cc in
     absurd (let no : true ≡ false = sym (ap is_at_call same) ∙ off in cc)
 
@@ -271,22 +271,22 @@ pub stopped_is_saved : StoppedIsSaved
 stopped_is_saved s r stop heard o setting tells keeps off w =
     let p : Snapshot = snapshot_of (state_after s r.machine w.events) in
     closed_saved s r.machine w.events p o.site o.site' tells keeps
-    (w.grew tells ∙ stopped_made s r.machine w.events stop (length w.spare) o.site.calls w.gained off
+    (w.grew tells ∙ stopped_made s r.machine w.events stop o.site.calls w.gained off
     (named_ends s r (Stopped stop) heard o setting w))
 
 -- the calls of a run and of its last save come to this
 abbrev whole_calls : Setting → Machine → List Event → List Call
 whole_calls s m es = run_calls s m es ++ closing_calls s (last_snapshot s (state_after s m es))
 
-ends_come : (s : Setting) (m : Machine) (es : List Event) (spare : ℕ) (gained : List Entry) (end : RunEnd)
-    → Ends (nameless s) m es spare gained end → ComesTo (whole_calls s m es) gained
-ends_come s m es spare gained end (RunSaved stop ends is all) =
+ends_come : (s : Setting) (m : Machine) (es : List Event) (gained : List Entry) (end : RunEnd)
+    → Ends (nameless s) m es gained end → ComesTo (whole_calls s m es) gained
+ends_come s m es gained end (RunSaved stop ends is all) =
     subst (ComesTo (whole_calls s m es)) (sym all) (comes_all (whole_calls s m es))
-ends_come s m es spare gained end (IsUnsaved stop call ends is broke) =
+ends_come s m es gained end (IsUnsaved stop call ends is broke) =
     let turns : List Call = run_calls s m es in
     let g : Grew (end_calls s m es) (map Done turns) gained = broke_grew call (end_calls s m es) (map Done turns) gained broke in
     subst (ComesTo (whole_calls s m es)) (sym g.is) (comes_past turns (end_calls s m es) g.more g.comes)
-ends_come s m es spare gained end (IsBroken before last call split none is broke) =
+ends_come s m es gained end (IsBroken before last call split is broke) =
     let v : Move = move_of s (state_after s m before) last in
     let turns : List Call = run_calls s m before in
     let g : Grew (move_calls s v) (map Done turns) gained = broke_grew call (move_calls s v) (map Done turns) gained broke in
@@ -306,12 +306,12 @@ whole_run_is_held s start reads r end heard o files setting tells keeps w safe l
     let last : Snapshot = last_snapshot s (state_after s m w.events) in
     safe.each w.events last w.gained (l.moment - length o.site.calls) files (named_run s r end heard o setting w)
     (last_map s (state_after s m w.events))
-    (ends_come s m w.events (length w.spare) w.gained end (named_ends s r end heard o setting w))
+    (ends_come s m w.events w.gained end (named_ends s r end heard o setting w))
     (left_within o.site o.site' w.gained files tells keeps (w.grew tells) l)
 
 pub whole_run_is_kept : WholeRunIsKept
 whole_run_is_kept s began r end heard o files by setting tells keeps w alike rests l =
     run_stops_safely s began r.machine w.events (disk_of o.site) w.gained (l.moment - length o.site.calls) files
     by.sensible by.mapfile by.names by.order alike (named_run s r end heard o setting w) rests
-    (ends_come s r.machine w.events (length w.spare) w.gained end (named_ends s r end heard o setting w))
+    (ends_come s r.machine w.events w.gained end (named_ends s r end heard o setting w))
     (left_within o.site o.site' w.gained files tells keeps (w.grew tells) l)

@@ -11,6 +11,7 @@ use Rattle.crash_site.specs.SiteState.{SiteState}
 use Rattle.save_resume.specs.SaveStops.{disk_of}
 use Rattle.save_resume.specs.Saving.{save_calls}
 use Rattle.transfer_token.specs.declared.token.Request.{Request}
+use Rattle.save_resume.specs.MapNames.{names_in}
 use Rattle.rescue_rules.specs.declared.stop.Stop.{Stop}
 use Rattle.rescue_rules.specs.Setting.{Setting}
 use Rattle.rescue_rules.specs.Held.{Held}
@@ -23,8 +24,8 @@ use Rattle.rescue_rules.specs.RunCalls.{write_calls, move_calls, run_calls}
 use Rattle.rescue_rules.specs.RunStops.{ComesTo}
 use Rattle.rescue_rules.specs.Nameless.{nameless}
 use Rattle.rescue_rules.proofs.MoveLemmas.{run_rest}
-use Rattle.rescue_core.specs.Across.{Across}
-use Rattle.rescue_core.specs.RunState.{RunState, names_in, setting_in}
+use Rattle.rescue_rules.specs.Across.{Across}
+use Rattle.rescue_core.specs.RunState.{RunState, setting_in}
 use Rattle.rescue_core.specs.Turning.{IsEvent, move_by, Halted, Starved, Lost, Unwritten, Limited, Unsaved}
 use Rattle.copy_passes.proofs.AlikeLemmas.{run_alike}
 use Rattle.turn_laws.specs.SafeNow.{IsClear, IsBacked, IsSafeNow}

@@ -21,7 +21,7 @@ use Rattle.copy_passes.proofs.AlikeLemmas.{alike_by, alike_on, next_pass_is_alik
 use Rattle.copy_passes.specs.Copying.{MayCopy}
 use Rattle.copy_passes.proofs.CopyingLemmas.{first_of, wanted_here}
 use Rattle.trim_scrape.specs.Past.{IsPast}
-use Rattle.trim_scrape.proofs.OrderLemmas.{Follows, AreOrdered, ordered_from, never_follows, after_contains, has_last, has_trimming, has_scraping}
+use Rattle.run_laws.proofs.OrderLemmas.{Follows, AreOrdered, ordered_from, never_follows, after_contains, has_last, has_trimming, has_scraping}
 use Rattle.turn_laws.specs.UnderWay.{StillComes, Now, Later}
 use Rattle.turn_laws.specs.PassLaws.{passed_over, LeadsPast, SpentLeadsPast, passes_up_to, known_past, TypedLeadsPast, UnderWayMayCopy, CopyingIsUnderWay, PastIsUnderWay}
 

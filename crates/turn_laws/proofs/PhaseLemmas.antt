@@ -28,7 +28,7 @@ use Rattle.rescue_rules.proofs.MoveLemmas.{goes_on, reads_append}
 use Rattle.rescue_rules.proofs.NamelessLemmas.{run_named, request_named}
 use Rattle.rescue_rules.proofs.ReadyLemmas.{ready_here, stays_ready}
 use Rattle.rescue_rules.proofs.SearchLemmas.{request_seen}
-use Rattle.rescue_core.specs.Across.{Across}
+use Rattle.rescue_rules.specs.Across.{Across}
 use Rattle.rescue_core.specs.RunState.{RunState, setting_in}
 use Rattle.rescue_core.specs.Turning.{IsEvent, move_by}
 use Rattle.copy_passes.specs.Turns.{IsAlike, Went, WentUpTo}

@@ -12,6 +12,7 @@ use Rattle.crash_site.specs.SiteChanges.{Keeps}
 use Rattle.save_resume.specs.SaveStops.{disk_of}
 use Rattle.save_resume.specs.Saving.{save_calls}
 use Rattle.transfer_token.specs.declared.token.Request.{Request}
+use Rattle.save_resume.specs.MapNames.{names_in}
 use Rattle.rescue_rules.specs.declared.stop.Stop.{Stop}
 use Rattle.rescue_rules.specs.declared.stop.Limit.{Limit}
 use Rattle.rescue_rules.specs.Setting.{Setting}
@@ -25,8 +26,8 @@ use Rattle.rescue_rules.specs.Nameless.{nameless, RunsAlike}
 use Rattle.rescue_rules.proofs.NamelessLemmas.{run_named, runs_alike}
 use Rattle.rescue_rules.proofs.ReadyLemmas.{ready_here}
 use Rattle.rescue_rules.proofs.SearchLemmas.{request_seen}
-use Rattle.rescue_core.specs.Across.{Across}
-use Rattle.rescue_core.specs.RunState.{RunState, names_in, setting_in}
+use Rattle.rescue_rules.specs.Across.{Across}
+use Rattle.rescue_core.specs.RunState.{RunState, setting_in}
 use Rattle.rescue_core.specs.Turning.{IsEvent, move_by, Halted, Starved, Lost, Unwritten, Limited, Unsaved}
 use Rattle.turn_laws.specs.Safe.{IsHeldIn, IsSafe}
 use Rattle.turn_laws.specs.Laws.{IsLeftWithin, IsTurnOf, reads_by, TurnStaysSafe, TurnIsHeld, HaltedTurnIsHeld}

@@ -23,11 +23,11 @@ use Rattle.rescue_rules.proofs.ReadyLemmas.{order_begun, stays_ready}
 use Rattle.rescue_rules.proofs.SearchLemmas.{request_seen}
 use Rattle.rescue_rules.proofs.StatusLemmas.{rest_is}
 use Rattle.rescue_core.proofs.ChangeLemmas.{Kept, Missed, CutOff, Between, Stands}
-use Rattle.trim_scrape.proofs.CursorLemmas.{LiesAhead, JumpsNever, left_on, left_begun, left_seen}
-use Rattle.trim_scrape.proofs.OrderLemmas.{order, Follows, AreOrdered, follows_from, ordered_from, contains_cases, has_trimming, has_scraping}
-use Rattle.trim_scrape.proofs.OwedLemmas.{Owes, Now as OwedNow, Later as OwedLater, owes_ready, wanted_in, passes_are}
-use Rattle.trim_scrape.proofs.RunLemmas.{MayRun, Moves, moves_by, has_unready}
-use Rattle.trim_scrape.proofs.FailLemmas.{copies_first, trims_second}
+use Rattle.run_laws.proofs.CursorLemmas.{LiesAhead, JumpsNever, left_on, left_begun, left_seen}
+use Rattle.run_laws.proofs.OrderLemmas.{order, Follows, AreOrdered, follows_from, ordered_from, contains_cases, has_trimming, has_scraping}
+use Rattle.run_laws.proofs.OwedLemmas.{Owes, Now as OwedNow, Later as OwedLater, owes_ready, wanted_in, passes_are}
+use Rattle.run_laws.proofs.RunLemmas.{MayRun, Moves, moves_by, has_unready}
+use Rattle.run_laws.proofs.FailLemmas.{copies_first, trims_second}
 use Rattle.turn_laws.specs.UnderWay.{StillComes, Now, Later, IsToCome, IsUnderWay}
 use Rattle.turn_laws.specs.EndLaws.{RunStaysUnderWay, NextPassIsUnderWay}
 

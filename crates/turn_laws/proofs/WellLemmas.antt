@@ -17,12 +17,12 @@ use Rattle.rescue_rules.specs.Beginning.{first_pass, machine_of}
 use Rattle.rescue_rules.proofs.FitLemmas.{run_size, first_few}
 use Rattle.rescue_rules.proofs.OverLemmas.{live_before}
 use Rattle.rescue_rules.proofs.ReadyLemmas.{order_begins}
-use Rattle.trim_scrape.specs.Endings.{IsLeftWell, Rescued as RescuedAll, Untrimmed as UntrimmedAll, Unscraped as UnscrapedAll, Bad as BadAll}
-use Rattle.trim_scrape.proofs.FailLemmas.{owed_fails, none_owed}
-use Rattle.trim_scrape.proofs.OrderLemmas.{after_contains, has_trimming, has_scraping, has_retrying}
-use Rattle.trim_scrape.proofs.OwedLemmas.{Owes, owes_ready, owes_contains}
-use Rattle.trim_scrape.proofs.RunLemmas.{MayRun, run_live}
-use Rattle.trim_scrape.proofs.EndingLemmas.{owes_last}
+use Rattle.run_laws.specs.Endings.{IsLeftWell, Rescued as RescuedAll, Untrimmed as UntrimmedAll, Unscraped as UnscrapedAll, Bad as BadAll}
+use Rattle.run_laws.proofs.FailLemmas.{owed_fails, none_owed}
+use Rattle.run_laws.proofs.OrderLemmas.{after_contains, has_trimming, has_scraping, has_retrying}
+use Rattle.run_laws.proofs.OwedLemmas.{Owes, owes_ready, owes_contains}
+use Rattle.run_laws.proofs.RunLemmas.{MayRun, run_live}
+use Rattle.run_laws.proofs.EndingLemmas.{owes_last}
 use Rattle.turn_laws.specs.UnderWay.{StillComes, Later, IsUnderWay, IsLeftWellSince, Rescued, Untrimmed, Unscraped, Bad}
 use Rattle.turn_laws.specs.EndLaws.{StartIsUnderWay, UnderWayEndsWell, SinceStartIsWell}
 use Rattle.turn_laws.proofs.WayLemmas.{owes_by, comes_by, may_run, run_stays_under_way}

@@ -27,12 +27,12 @@ use Rattle.rescue_rules.specs.Preparation.{AreFinishedAlike}
 use Rattle.rescue_rules.specs.RunStops.{Rests, KeepsPromise, promise_of_run}
 use Rattle.rescue_rules.specs.Stops.{is_settle, is_write}
 use Rattle.rescue_rules.specs.StopsBy.{is_publish}
-use Rattle.rescue_core.specs.Across.{Across}
+use Rattle.rescue_rules.specs.Across.{Across}
 use Rattle.rescue_core.specs.RunState.{RunState, setting_in}
 use Rattle.rescue_core.specs.Closing.{Closes}
 use Rattle.copy_passes.specs.Turns.{Went}
 use Rattle.trim_scrape.specs.Past.{IsPast}
-use Rattle.trim_scrape.specs.Endings.{EndsWell}
+use Rattle.run_laws.specs.Endings.{EndsWell}
 use Rattle.task_rescue.specs.Running.{WentToEnd}
 use Rattle.turn_laws.specs.Safe.{IsHeldIn, IsSafe}
 use Rattle.turn_laws.specs.Laws.{IsLeftWithin}

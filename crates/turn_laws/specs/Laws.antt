@@ -27,7 +27,7 @@ use Rattle.rescue_rules.specs.MachineLaws.{IsInOrder}
 use Rattle.rescue_rules.specs.Nameless.{nameless}
 use Rattle.rescue_rules.specs.RunStops.{ComesTo, Rests}
 use Rattle.rescue_core.specs.declared.turn.Turn.{Turn}
-use Rattle.rescue_core.specs.Across.{Across}
+use Rattle.rescue_rules.specs.Across.{Across}
 use Rattle.rescue_core.specs.RunState.{RunState, setting_in}
 use Rattle.rescue_core.specs.Turning.{Turned, Halted, Starved, Lost, Unwritten, Limited, Unsaved}
 use Rattle.rescue_core.specs.Closing.{Closes}

@@ -12,7 +12,7 @@ use Rattle.rescue_rules.specs.Setting.{Setting}
 use Rattle.rescue_rules.specs.Machine.{Machine}
 use Rattle.rescue_rules.specs.Events.{reads_of}
 use Rattle.rescue_rules.specs.Nameless.{nameless}
-use Rattle.rescue_core.specs.Across.{Across}
+use Rattle.rescue_rules.specs.Across.{Across}
 use Rattle.rescue_core.specs.RunState.{RunState, setting_in}
 use Rattle.rescue_core.specs.Turning.{Halted}
 use Rattle.copy_passes.specs.Turns.{IsAlike, Went, WentUpTo}

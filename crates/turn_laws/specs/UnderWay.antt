@@ -9,7 +9,7 @@ use Rattle.rescue_rules.specs.Machine.{Machine, is_live, search_of, is_ahead}
 use Rattle.rescue_rules.specs.MachineLaws.{IsInOrder}
 use Rattle.rescue_rules.specs.Step.{Event, is_trimming}
 use Rattle.rescue_rules.specs.Moves.{moves, state_after}
-use Rattle.trim_scrape.specs.Endings.{FailedInPass}
+use Rattle.run_laws.specs.Endings.{FailedInPass}
 
 -- A pass still comes to a position: it is the present one and the position lies ahead (in trimming each does, since
 -- that goes back to the map's start), or it is a later one.

@@ -1,5 +1,5 @@
 use Rattle.std.proofs.Common.{◌≡◌}
-use Rattle.rescue_core.specs.Across.{across}
+use Rattle.rescue_rules.specs.Across.{across}
 use Rattle.copy_passes.specs.Turns.{WentByTurns}
 use Rattle.copy_passes.specs.Copying.{MayCopy}
 use Rattle.copy_passes.proofs.CopyingLemmas.{ahead_of}

@@ -1,7 +1,7 @@
 use Rattle.std.proofs.Common.{ℕ, List, cond, sym, arith}
 use Rattle.block_list.specs.declared.status.Status.{Status}
 use Rattle.rescue_domain.specs.Parts.{covers}
-use Rattle.map_algebra.specs.At.{status_at}
+use Rattle.map_counts.specs.At.{status_at}
 use Rattle.map_algebra.specs.Change.{changed_by}
 use Rattle.map_algebra.proofs.MapLemmas.{grown}
 use Rattle.map_algebra.proofs.change.change_types.Goals as goal

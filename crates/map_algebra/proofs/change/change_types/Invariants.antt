@@ -1,6 +1,6 @@
 use Rattle.std.proofs.Common.{◌≡◌, ◌≤◌, ◌-◌, cond}
 use Rattle.rescue_domain.specs.Parts.{covers}
-use Rattle.map_algebra.specs.At.{map_by, status_at}
+use Rattle.map_counts.specs.At.{map_by, status_at}
 use Rattle.map_algebra.specs.Change.{changed_by}
 use Rattle.map_algebra.proofs.change.change_types.Given as goal
 

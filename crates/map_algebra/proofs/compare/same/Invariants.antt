@@ -1,6 +1,6 @@
 use Rattle.std.proofs.Common.{◌≡◌, ℕ, ◌<◌, ◌-◌, true}
 use Rattle.rescue_domain.specs.Parts.{covers}
-use Rattle.map_algebra.specs.At.{status_at}
+use Rattle.map_counts.specs.At.{status_at}
 use Rattle.map_algebra.proofs.compare.same.Given as goal
 
 abbrev pub invariant-loop-at : goal.invariant-loop-at

@@ -1,7 +1,7 @@
 -- What is made so far is the map up to there.
 use Rattle.std.proofs.Common.{◌≡◌, ◌≤◌, ◌-◌}
 use Rattle.rescue_domain.specs.Parts.{covers}
-use Rattle.map_algebra.specs.At.{map_by, status_at}
+use Rattle.map_counts.specs.At.{map_by, status_at}
 use Rattle.map_algebra.specs.Create.{at_mark}
 use Rattle.map_algebra.proofs.create.created.Given as goal
 

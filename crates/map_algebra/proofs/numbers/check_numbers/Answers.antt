@@ -1,7 +1,7 @@
 -- One line more, or the first that has no number.
 use Rattle.std.proofs.Common.{◌≡◌, ℕ, ◌+◌, List, Result, Err, length, sym, ap, ◌∙◌, arith, rules}
 use Rattle.mapfile_text.specs.Lines.{Line}
-use Rattle.mapfile_text.specs.Cursor.{OpenLine}
+use Rattle.mapfile_reader.specs.Cursor.{OpenLine}
 use Rattle.map_algebra.specs.declared.numbers.NumberError.{NumberError}
 use Rattle.map_algebra.specs.Numbers.{numbers_in, numbers_of, checked}
 use Rattle.map_algebra.proofs.NumberLemmas.{few_filled, counted, counted-begin, counted-next, counted-fault, counted-end}

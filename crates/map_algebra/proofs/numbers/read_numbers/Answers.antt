@@ -2,7 +2,7 @@
 use Rattle.std.proofs.Common.{◌≡◌, ◌∷◌, [], ◌++◌, List, length, sym, ap, ◌∙◌, arith, rules}
 use Rattle.std.proofs.lemmas.List.Elements.{All-push}
 use Rattle.mapfile_text.specs.Lines.{Line}
-use Rattle.mapfile_text.specs.Cursor.{OpenLine}
+use Rattle.mapfile_reader.specs.Cursor.{OpenLine}
 use Rattle.map_algebra.specs.Numbers.{IsInRange, numbers_in, numbers_of}
 use Rattle.map_algebra.proofs.NumberLemmas.{after, after-begin, after-next}
 use Rattle.map_algebra.proofs.numbers.read_numbers.Goals as goal

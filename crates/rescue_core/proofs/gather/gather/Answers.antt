@@ -2,7 +2,7 @@ use Rattle.std.proofs.Common.{◌+◌, ◌∙◌, ap, sym, refl, subst, rules}
 use Rattle.faulty_source.specs.Journal.{kept}
 use Rattle.transfer_token.specs.declared.fetch.Fetched.{Fetched}
 use Rattle.transfer_token.specs.Tokens.{IsCut}
-use Rattle.rescue_core.specs.declared.settings.Settings.{Settings}
+use Rattle.run_options.specs.declared.settings.Settings.{Settings}
 use Rattle.rescue_core.specs.RunState.{setting_in}
 use Rattle.rescue_core.specs.Turning.{Lost, Unwritten}
 use Rattle.rescue_core.specs.TurnParts.{IsCutAt, fetched_of}

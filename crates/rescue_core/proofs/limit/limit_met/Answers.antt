@@ -1,21 +1,15 @@
 -- The first limit of three that is met.
-use Rattle.std.proofs.Common.{◌≡◌, ℕ, ◌-◌, Bool, true, false, Option, Some, None, is_some, is_none, not, refl, sym, ap, ◌∙◌, if◌then◌else◌}
+use Rattle.std.proofs.Common.{◌≡◌, ℕ, ◌-◌, Bool, true, false, Option, Some, None, not, refl, sym, ap, ◌∙◌, if◌then◌else◌}
 use Rattle.rescue_rules.specs.declared.report.Counts.{Counts}
-use Rattle.rescue_rules.specs.declared.report.Said.{Said}
 use Rattle.rescue_rules.specs.declared.stop.Limit.{Limit}
 use Rattle.rescue_rules.specs.declared.stop.Limit.TheVariants.{TooManyErrors, TooManyAreas, TimedOut}
 use Rattle.rescue_rules.specs.declared.tally.Tally.{Tally}
 use Rattle.rescue_rules.specs.Setting.{Setting}
 use Rattle.rescue_rules.specs.Machine.{Machine}
 use Rattle.rescue_rules.specs.Step.{areas_allowed, areas_of, exceeds, limit_met, time_allowed}
-use Rattle.rescue_core.specs.declared.settings.Settings.{Settings}
+use Rattle.run_options.specs.declared.settings.Settings.{Settings}
 use Rattle.rescue_core.specs.RunState.{RunState, HasCounts, setting_in}
 use Rattle.rescue_core.proofs.limit.limit_met.Goals as goal
-
--- a run with an event has its line
-has_line : (said : Option Said) (none : Bool) → is_some said ≡ not none → none ≡ false → is_none said ≡ false
-has_line None none is begun = absurd (let no : false ≡ true = is ∙ ap not begun in cc)
-has_line (Some line) none is begun = refl
 
 -- the later two limits are looked at if the first one isn't met
 asked_later : (unbegun errors : Bool) (first later : Option Limit) → unbegun ≡ false → errors ≡ false
@@ -33,18 +27,18 @@ abbrev later_limit : Setting → Machine → (areas : ℕ) → Option Limit
 later_limit s m areas = if exceeds (areas_allowed s m) areas then Some (TooManyAreas areas) else late_limit s m
 
 met_later : (r : RunState) (settings : Settings) (tally : Tally) (counts : Counts) → r.settings ≡ settings
-    → tally ≡ r.machine.tally → HasCounts r counts → is_none tally.said ≡ false
+    → tally ≡ r.machine.tally → HasCounts r counts → not tally.had_event ≡ false
     → exceeds settings.limits.errors tally.failed ≡ false
     → later_limit (setting_in r) r.machine counts.failed.areas ≡ limit_met (setting_in r) r.machine
 met_later r settings tally counts set is counted begun few =
     let s : Setting = setting_in r in
     let m : Machine = r.machine in
-    let begun_is : is_none m.tally.said ≡ false = ap (λ (t : Tally). is_none t.said) (sym is) ∙ begun in
+    let begun_is : not m.tally.had_event ≡ false = ap (λ (t : Tally). not t.had_event) (sym is) ∙ begun in
     let few_are : exceeds s.limits.errors m.tally.failed ≡ false =
     ap (λ (t : Settings). exceeds t.limits.errors m.tally.failed) set
     ∙ ap (λ (t : Tally). exceeds settings.limits.errors t.failed) (sym is) ∙ few in
     ap (λ (c : Counts). later_limit s m c.failed.areas) counted.counts_are
-    ∙ asked_later (is_none m.tally.said) (exceeds s.limits.errors m.tally.failed) (Some (TooManyErrors m.tally.failed))
+    ∙ asked_later (not m.tally.had_event) (exceeds s.limits.errors m.tally.failed) (Some (TooManyErrors m.tally.failed))
     (later_limit s m (areas_of s m)) begun_is few_are
 
 chosen : (b : Bool) (x y : Option Limit) → b ≡ true → x ≡ (if b then x else y)
@@ -61,7 +55,7 @@ returns-then-has_too_many c r set is counted =
     chosen (exceeds (areas_allowed (setting_in r) r.machine) n) (Some (TooManyAreas n)) (late_limit (setting_in r) r.machine)
     (sym (c.has_too_many.ensures r set is) ∙ c.if-has_too_many.true)
     ∙ met_later r c.args.settings.now c.args.tally c.args.counts set is counted
-    (has_line c.args.tally.said c.is_none.result c.is_none.ensures c.if-is_none.false)
+    (cc c.if-not-tally.false)
     (sym c.exceeds.ensures ∙ c.if-exceeds.false)
 
 pub returns-else-has_too_many : goal.returns-else-has_too_many
@@ -71,5 +65,5 @@ returns-else-has_too_many c r set is counted =
     ∙ passed_over (exceeds (areas_allowed (setting_in r) r.machine) n) (Some (TooManyAreas n))
     (late_limit (setting_in r) r.machine) (sym (c.has_too_many.ensures r set is) ∙ c.if-has_too_many.false)
     ∙ met_later r c.args.settings.now c.args.tally c.args.counts set is counted
-    (has_line c.args.tally.said c.is_none.result c.is_none.ensures c.if-is_none.false)
+    (cc c.if-not-tally.false)
     (sym c.exceeds.ensures ∙ c.if-exceeds.false)

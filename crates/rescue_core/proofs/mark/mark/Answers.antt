@@ -1,6 +1,6 @@
 use Rattle.std.proofs.Common.{ap}
 use Rattle.rescue_rules.specs.Passes.{Pass}
-use Rattle.rescue_core.specs.declared.settings.Settings.{Settings}
+use Rattle.run_options.specs.declared.settings.Settings.{Settings}
 use Rattle.rescue_core.specs.RunState.{setting_in}
 use Rattle.rescue_core.proofs.TurnMarkLemmas.{part_map, nothing_map}
 use Rattle.rescue_core.proofs.mark.mark.Goals as goal

@@ -2,7 +2,7 @@
 use Rattle.std.proofs.Common.{◌-◌, ◌∙◌, arith, refl, rules}
 use Rattle.std.proofs.lemmas.Result.{err_from_is_err_and}
 use Rattle.faulty_source.proofs.Keeping.{stays_more, stays_self}
-use Rattle.rescue_verify.proofs.CompareLemmas.{came_to_halt, can_take, halted_counts, none_yet, nothing_compared, takes_grow, takes_one}
+use Rattle.rescue_verify.proofs.CompareLemmas.{came_to_halt, can_take, ends_short, halted_counts, none_yet, nothing_compared, takes_grow, takes_one}
 use Rattle.rescue_verify.proofs.compare.compare.Goals as goal
 
 pub returns-in_default-clause-source : goal.returns-in_default-clause-source
@@ -28,6 +28,9 @@ pub compare_piece-requires-clause-piece : goal.compare_piece-requires-clause-pie
 compare_piece-requires-clause-piece g c =
     can_take _ _ c.in-Some.piece (g.T.Tiles.statuses c.args.tiles.now) _ c.requires.sound c.requires.within
     c.pieces.invariant.long c.in-Some.ensures.next
+
+pub compare_piece-requires-clause-run_place : goal.compare_piece-requires-clause-run_place
+compare_piece-requires-clause-run_place g c = ends_short _ _ _ c.requires.sound c.in-Some.ensures.run
 
 pub compare_piece-requires-clause-tally : goal.compare_piece-requires-clause-tally
 compare_piece-requires-clause-tally g c = record {

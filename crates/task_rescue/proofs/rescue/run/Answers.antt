@@ -5,7 +5,7 @@ use Rattle.task_files.specs.Asked.{Maps}
 use Rattle.task_files.specs.Steps.{maps_read}
 use Rattle.task_rescue.proofs.RanLemmas.{ran_by, ran_unbegun}
 use Rattle.task_rescue.proofs.rescue.run.Goals as goal
-use Rattle.rescue_core.specs.Across.{across}
+use Rattle.rescue_rules.specs.Across.{across}
 
 pub run_rescue-closed-requires-clause-copying : goal.run_rescue-closed-requires-clause-copying
 run_rescue-closed-requires-clause-copying g c =

@@ -1,4 +1,4 @@
-use Rattle.rescue_core.specs.Across.{across}
+use Rattle.rescue_rules.specs.Across.{across}
 use Rattle.std.proofs.Common.{subst, rules, None, Some}
 use Rattle.faulty_source.specs.SourceChanges.{Stays as SourceStays}
 use Rattle.rescue_domain.proofs.TestingLemmas.{stays_below}

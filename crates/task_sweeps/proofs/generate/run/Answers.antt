@@ -1,5 +1,5 @@
 use Rattle.std.proofs.Common.{rules, None, sym, ap, ◌∙◌, arith}
-use Rattle.rescue_core.specs.declared.settings.Settings.{Settings}
+use Rattle.run_options.specs.declared.settings.Settings.{Settings}
 use Rattle.ddrescue_words.specs.Asking.{told_by}
 use Rattle.task_files.specs.Answers.{drafting_left}
 use Rattle.task_files.specs.Asked.{Maps}

@@ -1,7 +1,7 @@
 use Rattle.std.proofs.Common.{length, refl, sym, subst}
 use Rattle.rescue_domain.specs.Parts.{covers}
-use Rattle.rescue_core.specs.declared.settings.Settings.{Settings}
-use Rattle.rescue_core.specs.RunState.{Suits}
+use Rattle.run_options.specs.declared.settings.Settings.{Settings}
+use Rattle.run_options.specs.Settings.{Suits}
 use Rattle.task_files.proofs.PlacedLemmas.{asked_placed, sound_settings}
 use Rattle.task_sweeps.proofs.sweep.make_job.Goals as goal
 

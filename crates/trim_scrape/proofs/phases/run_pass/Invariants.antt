@@ -1,5 +1,5 @@
 use Rattle.std.proofs.Common.{◌≡◌}
-use Rattle.rescue_core.specs.Across.{across}
+use Rattle.rescue_rules.specs.Across.{across}
 use Rattle.copy_passes.specs.Turns.{WentByTurns}
 use Rattle.trim_scrape.proofs.PassingLemmas.{IsInPass, left_of}
 use Rattle.trim_scrape.proofs.phases.run_pass.Given as goal

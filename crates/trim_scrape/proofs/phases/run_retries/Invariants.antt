@@ -1,5 +1,5 @@
 use Rattle.rescue_rules.specs.declared.phase.Phase.TheVariants.{Retrying}
-use Rattle.rescue_core.specs.Across.{across}
+use Rattle.rescue_rules.specs.Across.{across}
 use Rattle.copy_passes.specs.Turns.{WentByTurns}
 use Rattle.trim_scrape.specs.Passing.{IsBeforePass}
 use Rattle.trim_scrape.proofs.phases.run_retries.Given as goal

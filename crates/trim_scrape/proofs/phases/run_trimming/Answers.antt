@@ -1,5 +1,5 @@
 use Rattle.std.proofs.Common.{sym, ap, ◌∙◌}
-use Rattle.rescue_core.specs.declared.settings.Settings.{Settings}
+use Rattle.run_options.specs.declared.settings.Settings.{Settings}
 use Rattle.copy_passes.proofs.TurnLemmas.{begins}
 use Rattle.trim_scrape.proofs.PastLemmas.{past_trimming, past_no_trimming}
 use Rattle.trim_scrape.proofs.phases.run_trimming.Goals as goal

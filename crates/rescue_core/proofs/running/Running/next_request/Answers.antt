@@ -6,7 +6,7 @@ use Rattle.rescue_rules.specs.declared.phase.Phase.{Phase}
 use Rattle.rescue_rules.specs.declared.phase.Phase.TheVariants.{Trimming}
 use Rattle.rescue_rules.specs.Passes.{is_up, numbered}
 use Rattle.rescue_rules.specs.Machine.{IsRequest}
-use Rattle.rescue_core.specs.declared.settings.Settings.{Settings}
+use Rattle.run_options.specs.declared.settings.Settings.{Settings}
 use Rattle.rescue_core.specs.RunState.{RunState, run_at, setting_with, setting_in}
 use Rattle.rescue_core.proofs.RequestLemmas.{stands}
 use Rattle.rescue_core.proofs.WantedLemmas.{led_clear}

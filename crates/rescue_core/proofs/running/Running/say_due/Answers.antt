@@ -1,10 +1,10 @@
 use Rattle.std.proofs.Common.{◌≡◌, length, sym, subst}
 use Rattle.mapfile_text.specs.declared.heading.Program.TheVariants.{Ddrescue}
 use Rattle.rescue_console.specs.Speaking.{SpeaksOn}
+use Rattle.rescue_console.proofs.SpeakingLemmas.{says_none}
 use Rattle.rescue_rules.specs.declared.report.Counts.{Counts}
 use Rattle.rescue_core.specs.declared.keeper.Keeper.{Keeper}
 use Rattle.rescue_core.specs.RunState.{RunState, run_at, IsRunning, HasCounts}
-use Rattle.rescue_core.proofs.TurnEndLemmas.{says_none}
 use Rattle.rescue_core.proofs.KeeperLemmas.{heard_runs, heard_counts}
 use Rattle.rescue_core.proofs.ClosingLemmas.{said_with, said_in}
 use Rattle.rescue_core.proofs.running.Running.say_due.Goals as goal

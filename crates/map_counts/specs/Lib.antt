@@ -1,0 +1,3 @@
+pub mod At
+pub mod Summary
+pub mod Laws

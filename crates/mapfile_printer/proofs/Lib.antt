@@ -1,0 +1,5 @@
+mod Appended
+mod DigitLemmas
+mod LastDigits
+mod PartLemmas
+mod TakenOff

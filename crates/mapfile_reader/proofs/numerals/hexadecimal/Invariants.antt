@@ -1,0 +1,10 @@
+-- The value of the digits so far.
+use Rattle.std.proofs.Common.{◌≡◌, take}
+use Rattle.std.specs.Str.Parse.{AllDigits, digits_value}
+use Rattle.mapfile_reader.proofs.numerals.hexadecimal.Given as goal
+
+abbrev pub invariant-loop-byte : goal.invariant-loop-byte
+invariant-loop-byte l = record {
+  digits : AllDigits 16 (take l.byte-index l.digits);
+  value : l.value ≡ digits_value 16 (take l.byte-index l.digits);
+}

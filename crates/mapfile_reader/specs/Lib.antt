@@ -1,0 +1,4 @@
+pub mod Checking
+pub mod Cursor
+pub mod Reading
+pub mod Laws

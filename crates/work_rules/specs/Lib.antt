@@ -1,5 +1,0 @@
-pub mod Work
-pub mod Verdicts
-pub mod Parts
-pub mod Opens
-pub mod Holds
