@@ -21,7 +21,7 @@ use Rattle.task_files.specs.declared.ending.Ending.TheVariants.{Usage, NoMemory}
 use Rattle.task_files.specs.Answers.{drafting_left, files_of_task, row_of}
 use Rattle.task_files.specs.Refusals.{NamesRefused}
 use Rattle.task_files.specs.Work.{rescue_faults}
-use Rattle.task_sample.specs.Sampled.{Samples, TellsSample, sample_rows}
+use Rattle.task_rescue.specs.Sampled.{Samples, TellsSample, sample_rows}
 use Rattle.ddrescue_cli.specs.Tasks.{TaskOutside}
 use Rattle.ddrescue_cli.specs.Ddrescue.{KeepsAs, TaskSaid, rescue_program}
 use Rattle.ddrescue_cli.proofs.RefusalLemmas.{work_fits}

@@ -17,7 +17,7 @@ use Rattle.task_files.specs.Asked.{Maps, setting_of}
 use Rattle.task_files.specs.Maps.{Found, AreAskedFor, AreMapsIn}
 use Rattle.task_files.specs.Outside.{Outside, Agrees}
 use Rattle.task_files.specs.Work.{Rescues, rescue_rows}
-use Rattle.task_sample.specs.Sampled.{Samples, sample_rows}
+use Rattle.task_rescue.specs.Sampled.{Samples, sample_rows}
 use Rattle.task_sweeps.specs.Modes.{AreMapsOfSweep, IsMapEnd, FillStops, GenerateStops, ThenFill, ThenSweep, fill_rows, fill_setting, generate_rows}
 use Rattle.ddrescue_cli.specs.Told.{calls_of}
 use Rattle.ddrescue_cli.specs.ToldParts.{across}

@@ -12,7 +12,7 @@ abbrev pub handed : SourceState → SiteState → ClockState → ConsoleState �
 handed source site clock console =
     record { source = source; site = site; clock = clock; feed_ = no_feed; console = console }
 
--- what is told of a call of `ddrescue`; `ToldOf` is `Told` of `program_promise`
+-- what the objects tell of a call of `ddrescue`; `ToldOf` is `Told` of `program_promise`
 abbrev pub Told : Type 0
 Told = ToldOf Ending
 

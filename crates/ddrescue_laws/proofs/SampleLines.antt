@@ -7,7 +7,7 @@ use Rattle.ddrescue_words.specs.Command.{Sample}
 use Rattle.task_files.specs.declared.ending.Ending.{Ending}
 use Rattle.task_files.specs.declared.ending.Ending.TheVariants.{Done, NoMemory}
 use Rattle.task_files.specs.Work.{rescue_faults}
-use Rattle.task_sample.specs.Sampled.{Samples, sample_rows, sample_setting, sample_start, IsLineOf}
+use Rattle.task_rescue.specs.Sampled.{Samples, sample_rows, sample_setting, sample_start, IsLineOf}
 use Rattle.ddrescue_cli.specs.Ddrescue.{TaskDone}
 use Rattle.ddrescue_laws.specs.Laws.{SampleIsOneLine}
 

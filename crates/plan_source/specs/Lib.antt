@@ -1,4 +1,3 @@
-pub mod Blank
 pub mod Lines
 pub mod Printing
 pub mod Answering

@@ -5,6 +5,6 @@ pub mod laws;
 pub mod ready;
 pub mod run;
 
-pub use plan_source::blank::BlankSite;
 pub use plan_source::loss::PlanLoss;
 pub use plan_source::source::PlanSource;
+pub use rescue_sample::blank::BlankSite;

@@ -40,9 +40,7 @@ pub fn make_rescue(
     let domain = Domain::whole(alloc, options.input_position, options.size, command.length)?;
     let mut tiles = blank_map(alloc, command.length)?;
     prepare(&mut tiles, &domain, options.try_again, options.retrim)?;
-    let Ok(buf) = vec![in alloc; 0; options.cluster() as usize] else {
-        return Err(NoMemory);
-    };
+    let buf = vec![in alloc; 0; options.cluster() as usize]?;
     let settings = settings_for(&options);
     Ok(Rescue::start(buf, settings, domain, tiles, None, None, heading, 0, false))
 }

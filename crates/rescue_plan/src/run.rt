@@ -5,13 +5,13 @@ ghost use Rattle.rescue_plan.specs.Running.{BeginsPlannedRun, IsBegun, PutsPlan,
 
 use block_list::tiles::Tiles;
 use crash_site::site::Site;
-use memory_console::memory::{MemoryClock, MemoryConsole};
-use plan_source::blank::BlankSite;
 use plan_source::loss::PlanLoss;
 use plan_source::source::{Origin, PlanSource};
 use rescue_console::console::Console;
 use rescue_core::phases::{Copying, Rescue};
 use rescue_rules::stop::RunEnd;
+use rescue_sample::blank::{BlankConsole, BlankSite};
+use rescue_sample::clock::StillClock;
 use std::alloc::Global;
 use task_files::load::RunMap;
 use task_rescue::run::run_rescue;
@@ -56,8 +56,8 @@ pub fn put_plan<C: Console, T: Tiles, O: Origin>(
     let Ok(_regular) = site.image_open("", true) else {
         unreachable!()
     };
-    let mut clock = MemoryClock::new(Vec::new(alloc));
-    let mut quiet = MemoryConsole::new(alloc);
+    let mut clock = StillClock::new();
+    let mut quiet = BlankConsole;
     let closed = run_rescue(rescue, &mut source, &mut site, &mut clock, &mut quiet);
     let lost = source.lost();
     // The console is the caller's again.

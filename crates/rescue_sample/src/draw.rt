@@ -39,7 +39,7 @@ pub(crate) fn draw_sectors(alloc: Global, kib: u64) -> Result<Vec<u64>, NoMemory
     let count = (kib / 64 + 1) as usize;
     while sectors.len() < count {
         value = draw(value);
-        sectors.push(sector_of(kib, value)).map_err(|_| NoMemory)?;
+        sectors.push(sector_of(kib, value))?;
     }
     Ok(sectors)
 }

@@ -13,8 +13,7 @@ use std::alloc::Global;
 pub fn add(line: &mut Vec<u8>, text: &str) -> Result<(), NoMemory>
     ensures { OnOk result (line.new.items ≡ line.old.items ++ text.now) }
 {
-    line.extend_from_slice(text.as_bytes())
-        .map_err(|_| NoMemory)
+    Ok(line.extend_from_slice(text.as_bytes())?)
 }
 
 /// Adds a number, and a text after it.

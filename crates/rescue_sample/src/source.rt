@@ -66,9 +66,7 @@ impl SampleSource {
         ensures journal { IfOk result (λ s. (state_of s).journal ≡ []) }
     {
         let sectors = draw_sectors(alloc, kib)?;
-        let Ok(entries) = Vec::with_capacity(alloc, kib as usize * 6 + 1) else {
-            return Err(NoMemory);
-        };
+        let entries = Vec::with_capacity(alloc, kib as usize * 6 + 1)?;
         Ok(SampleSource {
             kib,
             sectors,

@@ -16,8 +16,8 @@ use Rattle.rescue_rules.specs.MachineLaws.{IsInOrder, StepsBy, AsksFor}
 use Rattle.rescue_rules.proofs.OverLemmas.{before_was, wanted_before}
 use Rattle.rescue_rules.proofs.SearchLemmas.{wanted_within}
 use Rattle.rescue_rules.proofs.StepLemmas.{trims_is}
-use Rattle.copy_passes.proofs.TopLemmas.{reach_few, reach_some, before_reach}
-use Rattle.copy_passes.proofs.CopyingLemmas.{wanted_seen, IsFoundBy, cursor_by, jump_of}
+use Rattle.rescue_phases.proofs.TopLemmas.{reach_few, reach_some, before_reach}
+use Rattle.rescue_phases.proofs.CopyingLemmas.{wanted_seen, IsFoundBy, cursor_by, jump_of}
 
 -- a position lies ahead of a cursor, upwards or downwards
 abbrev pub LiesAhead : (up : Bool) → (cursor x : ℕ) → Type 0

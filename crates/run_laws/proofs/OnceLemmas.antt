@@ -22,7 +22,7 @@ use Rattle.rescue_rules.proofs.ReadyLemmas.{order_ready, stays_ready}
 use Rattle.rescue_rules.proofs.StatusLemmas.{non_tried_stood, wanted_taken}
 use Rattle.rescue_rules.proofs.StepLemmas.{move_steps}
 use Rattle.rescue_core.proofs.StageLemmas.{copies_is}
-use Rattle.copy_passes.proofs.TriedLemmas.{untried}
+use Rattle.rescue_phases.proofs.TriedLemmas.{untried}
 use Rattle.run_laws.specs.Laws.{CopyingAsksOnce}
 
 -- what an event of a run does, from the state that is ready for it

@@ -13,8 +13,8 @@ use Rattle.run_options.specs.declared.settings.Settings.{Settings}
 use Rattle.run_options.specs.Settings.{IsSound as SettingsSound, Suits}
 use Rattle.rescue_core.specs.RunState.{RunState, setting_with, setting_in, started, run_showing}
 use Rattle.map_preparation.proofs.PrepareLemmas.{change_is_made}
-use Rattle.copy_passes.specs.Copying.{MayCopy}
-use Rattle.copy_passes.proofs.StartLemmas.{start_may_copy, shown_may_copy}
+use Rattle.rescue_phases.specs.Copying.{MayCopy}
+use Rattle.rescue_phases.proofs.StartLemmas.{start_may_copy, shown_may_copy}
 use Rattle.ddrescue_words.specs.declared.options.Options.{Options}
 use Rattle.ddrescue_words.specs.Asking.{AreInLimits}
 use Rattle.task_files.specs.Asked.{Maps, ArePlacedBy, domain_asked}

@@ -1,6 +1,6 @@
 -- How a run ends: its last save, or the turn that it stopped in.
-use Rattle.copy_passes.proofs.TurnLemmas.{went_event, went_on, setting_stands}
-use Rattle.copy_passes.proofs.AlikeLemmas.{limit_alike}
+use Rattle.rescue_phases.proofs.TurnLemmas.{went_event, went_on, setting_stands}
+use Rattle.rescue_phases.proofs.AlikeLemmas.{limit_alike}
 use Rattle.rescue_rules.specs.declared.stop.Limit.{Limit}
 use Rattle.std.proofs.Common.{◌≡◌, ℕ, ◌+◌, ◌<◌, ◌^◌, Bool, true, false, ◌&&◌, IsTrue, if◌then◌else◌, List, [], ◌∷◌, ◌++◌, map, length, All, Option, Some, None, is_none, refl, sym, ap, ◌∙◌, arith, subst, append_assoc, append-nil}
 use Rattle.std.proofs.lemmas.List.Elements.{All-nil, All-cons, All-append}
@@ -44,11 +44,11 @@ use Rattle.rescue_core.specs.RunState.{RunState, setting_in}
 use Rattle.rescue_core.specs.Turning.{IsEvent, stepped, move_by, Halted, Starved, Lost, Unwritten, Unsaved, Limited}
 use Rattle.rescue_core.specs.Closing.{LastSave, Saved, Unsaved as UnsavedEnd, Closes, closing_snapshot, last_pieces}
 use Rattle.rescue_rules.specs.Across.{Across, across}
-use Rattle.copy_passes.specs.Turns.{IsAlike, moved_to, Went, WentUpTo}
+use Rattle.rescue_phases.specs.Turns.{IsAlike, moved_to, Went, WentUpTo}
 use Rattle.faulty_source.specs.Journal.{IsFrom}
 use Rattle.save_resume.specs.MapNames.{names_in}
 use Rattle.rescue_core.proofs.ObjectLemmas.{timed_more}
-use Rattle.trim_scrape.specs.Past.{IsPast}
+use Rattle.rescue_phases.specs.Past.{IsPast}
 use Rattle.task_rescue.specs.Running.{WentToEnd}
 use Rattle.task_rescue.proofs.LastLemmas.{past_all}
 use Rattle.task_rescue.proofs.SpokenLemmas.{SaidMore, said_more, save_writes_none, saves_written, says_all, says_front}

@@ -7,7 +7,7 @@ use Rattle.rescue_rules.specs.Machine.{Machine, has_request}
 use Rattle.rescue_rules.specs.Step.{limit_met}
 use Rattle.rescue_rules.specs.Moves.{ready, at_next, no_pass_left, has_ended}
 use Rattle.rescue_core.specs.RunState.{RunState, setting_in}
-use Rattle.trim_scrape.specs.Past.{IsPast}
+use Rattle.rescue_phases.specs.Past.{IsPast}
 
 -- no pass is left where the present one has no request and none follows
 none_follows : (s : Setting) (m : Machine) → has_request s m ≡ false → drop 1 m.passes ≡ [] → no_pass_left (ready s m).passes ≡ true

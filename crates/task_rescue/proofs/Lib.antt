@@ -7,3 +7,4 @@ pub mod SpokenLemmas
 pub mod StoppedLemmas
 pub mod TestedLemmas
 pub mod TurnLemmas
+pub mod SampledLemmas

@@ -7,8 +7,8 @@ use Rattle.rescue_console.specs.ConsoleState.{ConsoleState}
 use Rattle.rescue_rules.specs.Across.{across}
 use Rattle.rescue_core.specs.RunState.{RunState}
 use Rattle.rescue_core.specs.Closing.{StoppedState}
-use Rattle.copy_passes.specs.Turns.{WentByTurns, PhaseEnds}
-use Rattle.copy_passes.proofs.TurnLemmas.{goes_on, objects_stay, went_up_to_on}
+use Rattle.rescue_phases.specs.Turns.{WentByTurns, PhaseEnds}
+use Rattle.rescue_phases.proofs.TurnLemmas.{goes_on, objects_stay, went_up_to_on}
 
 -- a phase after others, by its outcome
 pub ends_after : (r q : RunState) (result : Result RunState StoppedState) (a b c : SourceState) (d e f : SiteState)

@@ -31,9 +31,9 @@ use Rattle.rescue_core.specs.Turning.{IsEvent, stepped, move_by, move_pieces}
 use Rattle.rescue_rules.specs.Work.{end_of}
 use Rattle.rescue_core.specs.Closing.{LastSave, Saved, Unsaved, last_pieces}
 use Rattle.rescue_core.proofs.ObjectLemmas.{says_more}
-use Rattle.copy_passes.specs.Turns.{IsAlike, Went}
-use Rattle.copy_passes.proofs.AlikeLemmas.{RunMore, alike_on, run_more}
-use Rattle.copy_passes.proofs.TurnLemmas.{IsOneMove, one_move}
+use Rattle.rescue_phases.specs.Turns.{IsAlike, Went}
+use Rattle.rescue_phases.proofs.AlikeLemmas.{RunMore, alike_on, run_more}
+use Rattle.rescue_phases.proofs.TurnLemmas.{IsOneMove, one_move}
 
 -- alike states tell the same
 pub report_alike : (s : Setting) (m n : Machine) → IsAlike s m n → report_of s n ≡ report_of s m

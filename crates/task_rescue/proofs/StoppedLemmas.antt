@@ -13,7 +13,7 @@ use Rattle.rescue_rules.specs.Across.{Across, ObjectsStay}
 use Rattle.rescue_core.specs.Turning.{Starved, Lost, Unwritten, Limited as LimitedTurn, Unsaved as UnsavedTurn}
 use Rattle.rescue_core.specs.Closing.{LastSave, Saved, Unsaved, Closes, drafting_at_stop}
 use Rattle.program_promise.specs.Causes.{unchanged}
-use Rattle.copy_passes.specs.Turns.{WentUpTo}
+use Rattle.rescue_phases.specs.Turns.{WentUpTo}
 use Rattle.task_files.specs.declared.ending.Ending.TheVariants.{SiteFault}
 use Rattle.task_files.specs.Answers.{Causes, drafting_left}
 use Rattle.task_files.specs.Work.{answer_of}

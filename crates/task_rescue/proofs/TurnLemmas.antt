@@ -25,8 +25,8 @@ use Rattle.rescue_core.specs.RunState.{RunState, setting_in}
 use Rattle.rescue_core.specs.Turning.{IsEvent, move_by}
 use Rattle.rescue_rules.specs.Across.{Across}
 use Rattle.rescue_core.proofs.ObjectLemmas.{timed_more}
-use Rattle.copy_passes.specs.Turns.{IsAlike, Went}
-use Rattle.copy_passes.proofs.TurnLemmas.{times_append}
+use Rattle.rescue_phases.specs.Turns.{IsAlike, Went}
+use Rattle.rescue_phases.proofs.TurnLemmas.{times_append}
 
 -- A run of events that led to another run's state, or to one alike, and one more that reads that one's request.
 pub record EventMore (r r1 : RunState) (es : List Event) (e : Event) : Type 0 where

@@ -22,7 +22,7 @@ use Rattle.rescue_rules.specs.Lines.{lines_of, opening_lines}
 use Rattle.rescue_core.specs.RunState.{RunState, setting_in}
 use Rattle.rescue_rules.specs.Across.{Across}
 use Rattle.faulty_source.specs.Journal.{IsFrom}
-use Rattle.copy_passes.specs.Copying.{MayCopy}
+use Rattle.rescue_phases.specs.Copying.{MayCopy}
 use Rattle.ddrescue_words.specs.declared.options.Options.{Options}
 use Rattle.ddrescue_words.specs.Options.{cluster_of}
 use Rattle.ddrescue_words.specs.Command.{Command}

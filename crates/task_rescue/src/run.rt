@@ -7,22 +7,22 @@ ghost use Rattle.rescue_console.specs.ClockState.{Keeps as ClockKeeps};
 ghost use Rattle.rescue_domain.specs.Parts.{covers};
 ghost use Rattle.rescue_rules.specs.declared.phase.Phase.TheVariants.{Retrying as LastPhase};
 ghost use Rattle.rescue_rules.specs.Across.{across};
-ghost use Rattle.copy_passes.specs.Turns.{PhaseEnds};
-ghost use Rattle.copy_passes.specs.Copying.{MayCopy};
-ghost use Rattle.trim_scrape.specs.Past.{IsPast};
+ghost use Rattle.rescue_phases.specs.Turns.{PhaseEnds};
+ghost use Rattle.rescue_phases.specs.Copying.{MayCopy};
+ghost use Rattle.rescue_phases.specs.Past.{IsPast};
 ghost use Rattle.task_files.specs.Answers.{Causes, drafting_left};
 ghost use Rattle.task_files.specs.Work.{answer_of};
 ghost use Rattle.task_rescue.specs.Running.{AreReady, WentToEnd};
 
-use copy_passes::copy::run_copying;
 use crash_site::site::Site;
 use faulty_source::source::Source;
 use rescue_console::clock::Clock;
 use rescue_console::console::Console;
 use rescue_core::closing::Closed;
 use rescue_core::phases::{Copying, Finished, Rescue, Stopped};
+use rescue_phases::copy::run_copying;
+use rescue_phases::phases::{run_retrying, run_scraping, run_trimming};
 use task_files::load::RunMap;
-use trim_scrape::phases::{run_retrying, run_scraping, run_trimming};
 
 /// Makes the phases of a rescue in order: it copies, trims, scrapes and retries.
 pub fn run_phases<S: Source, D: Site, K: Clock, C: Console>(
@@ -39,18 +39,9 @@ pub fn run_phases<S: Source, D: Site, K: Clock, C: Console>(
         (D.state site.new) (K.state clock.old) (K.state clock.new) (C.state console.old) (C.state console.new)) }
     ensures past { IfOk result (λ r. IsPast LastPhase r) }
 {
-    let copied = match run_copying(rescue, source, site, clock, console) {
-        Ok(copied) => copied,
-        Err(stopped) => return Err(stopped),
-    };
-    let trimmed = match run_trimming(copied, source, site, clock, console) {
-        Ok(trimmed) => trimmed,
-        Err(stopped) => return Err(stopped),
-    };
-    let scraped = match run_scraping(trimmed, source, site, clock, console) {
-        Ok(scraped) => scraped,
-        Err(stopped) => return Err(stopped),
-    };
+    let copied = run_copying(rescue, source, site, clock, console)?;
+    let trimmed = run_trimming(copied, source, site, clock, console)?;
+    let scraped = run_scraping(trimmed, source, site, clock, console)?;
     run_retrying(scraped, source, site, clock, console)
 }
 

@@ -40,7 +40,7 @@ use Rattle.rescue_rules.proofs.RunStopLemmas.{run_stops_safely}
 use Rattle.rescue_rules.specs.Across.{Across}
 use Rattle.rescue_core.specs.RunState.{RunState, setting_in}
 use Rattle.rescue_core.specs.Closing.{LastSave, Saved, Unsaved}
-use Rattle.copy_passes.specs.Turns.{Went}
+use Rattle.rescue_phases.specs.Turns.{Went}
 use Rattle.task_rescue.specs.Running.{WentToEnd}
 use Rattle.task_rescue.proofs.EndLemmas.{after_over, finished_alike}
 use Rattle.task_rescue.proofs.LastLemmas.{past_all}

@@ -27,7 +27,7 @@ use Rattle.rescue_rules.proofs.MoveLemmas.{run_rest}
 use Rattle.rescue_rules.specs.Across.{Across}
 use Rattle.rescue_core.specs.RunState.{RunState, setting_in}
 use Rattle.rescue_core.specs.Turning.{IsEvent, move_by, Halted, Starved, Lost, Unwritten, Limited, Unsaved}
-use Rattle.copy_passes.proofs.AlikeLemmas.{run_alike}
+use Rattle.rescue_phases.proofs.AlikeLemmas.{run_alike}
 use Rattle.turn_laws.specs.SafeNow.{IsClear, IsBacked, IsSafeNow}
 use Rattle.turn_laws.specs.Laws.{IsTurnOf, reads_by}
 use Rattle.turn_laws.specs.NowLaws.{StaysSafeNow, IsMapped, TurnStaysSafeNow, HaltedStaysSafeNow, PhaseStaysSafeNow, StoppedStaysSafeNow}

@@ -17,10 +17,10 @@ use Rattle.rescue_rules.proofs.ReadyLemmas.{order_lead, request_none}
 use Rattle.rescue_rules.proofs.StatusLemmas.{wanted_taken}
 use Rattle.rescue_core.specs.RunState.{RunState, setting_in, passed, IsGone}
 use Rattle.rescue_core.specs.Stages.{Known, IsTrimmed}
-use Rattle.copy_passes.proofs.AlikeLemmas.{alike_by, alike_on, next_pass_is_alike}
-use Rattle.copy_passes.specs.Copying.{MayCopy}
-use Rattle.copy_passes.proofs.CopyingLemmas.{first_of, wanted_here}
-use Rattle.trim_scrape.specs.Past.{IsPast}
+use Rattle.rescue_phases.proofs.AlikeLemmas.{alike_by, alike_on, next_pass_is_alike}
+use Rattle.rescue_phases.specs.Copying.{MayCopy}
+use Rattle.rescue_phases.proofs.CopyingLemmas.{first_of, wanted_here}
+use Rattle.rescue_phases.specs.Past.{IsPast}
 use Rattle.run_laws.proofs.OrderLemmas.{Follows, AreOrdered, ordered_from, never_follows, after_contains, has_last, has_trimming, has_scraping}
 use Rattle.turn_laws.specs.UnderWay.{StillComes, Now, Later}
 use Rattle.turn_laws.specs.PassLaws.{passed_over, LeadsPast, SpentLeadsPast, passes_up_to, known_past, TypedLeadsPast, UnderWayMayCopy, CopyingIsUnderWay, PastIsUnderWay}

@@ -31,9 +31,9 @@ use Rattle.rescue_rules.proofs.SearchLemmas.{request_seen}
 use Rattle.rescue_rules.specs.Across.{Across}
 use Rattle.rescue_core.specs.RunState.{RunState, setting_in}
 use Rattle.rescue_core.specs.Turning.{IsEvent, move_by}
-use Rattle.copy_passes.specs.Turns.{IsAlike, Went, WentUpTo}
-use Rattle.copy_passes.proofs.AlikeLemmas.{moves_alike, next_alike, run_alike}
-use Rattle.copy_passes.proofs.TurnLemmas.{setting_stands}
+use Rattle.rescue_phases.specs.Turns.{IsAlike, Went, WentUpTo}
+use Rattle.rescue_phases.proofs.AlikeLemmas.{moves_alike, next_alike, run_alike}
+use Rattle.rescue_phases.proofs.TurnLemmas.{setting_stands}
 use Rattle.turn_laws.specs.Safe.{IsHeldIn, IsSafe}
 use Rattle.turn_laws.specs.Laws.{IsLeftWithin, reads_by}
 use Rattle.turn_laws.specs.PhaseLaws.{AlikeAreSafe, PhaseStaysSafe, PhaseIsHeld, StoppedTurnsStaySafe, StoppedTurnsAreHeld}

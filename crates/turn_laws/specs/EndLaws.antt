@@ -30,8 +30,8 @@ use Rattle.rescue_rules.specs.StopsBy.{is_publish}
 use Rattle.rescue_rules.specs.Across.{Across}
 use Rattle.rescue_core.specs.RunState.{RunState, setting_in}
 use Rattle.rescue_core.specs.Closing.{Closes}
-use Rattle.copy_passes.specs.Turns.{Went}
-use Rattle.trim_scrape.specs.Past.{IsPast}
+use Rattle.rescue_phases.specs.Turns.{Went}
+use Rattle.rescue_phases.specs.Past.{IsPast}
 use Rattle.run_laws.specs.Endings.{EndsWell}
 use Rattle.task_rescue.specs.Running.{WentToEnd}
 use Rattle.turn_laws.specs.Safe.{IsHeldIn, IsSafe}

@@ -30,7 +30,7 @@ use Rattle.rescue_rules.specs.Across.{Across}
 use Rattle.rescue_core.specs.RunState.{RunState, setting_in}
 use Rattle.rescue_core.specs.Turning.{Turned, Halted}
 use Rattle.rescue_core.specs.Closing.{Closes}
-use Rattle.copy_passes.specs.Turns.{Went, WentUpTo}
+use Rattle.rescue_phases.specs.Turns.{Went, WentUpTo}
 use Rattle.turn_laws.specs.Safe.{IsHeldIn, IsSafe}
 use Rattle.turn_laws.specs.SafeNow.{IsSafeNow}
 use Rattle.turn_laws.specs.Laws.{IsTurnOf, reads_by}

@@ -9,9 +9,9 @@ use Rattle.rescue_rules.specs.MachineLaws.{IsInOrder, HasNone}
 use Rattle.rescue_rules.specs.Step.{limit_met}
 use Rattle.rescue_core.specs.RunState.{RunState, setting_in, passed}
 use Rattle.rescue_core.specs.Stages.{Reached, Copied, Trimmed, Scraped, Over, Known}
-use Rattle.copy_passes.specs.Turns.{IsAlike}
-use Rattle.copy_passes.specs.Copying.{MayCopy}
-use Rattle.trim_scrape.specs.Past.{IsPast}
+use Rattle.rescue_phases.specs.Turns.{IsAlike}
+use Rattle.rescue_phases.specs.Copying.{MayCopy}
+use Rattle.rescue_phases.specs.Past.{IsPast}
 use Rattle.turn_laws.specs.UnderWay.{IsUnderWay}
 
 -- a run that has begun these passes, one after another

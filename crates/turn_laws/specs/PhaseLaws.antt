@@ -15,7 +15,7 @@ use Rattle.rescue_rules.specs.Nameless.{nameless}
 use Rattle.rescue_rules.specs.Across.{Across}
 use Rattle.rescue_core.specs.RunState.{RunState, setting_in}
 use Rattle.rescue_core.specs.Turning.{Halted}
-use Rattle.copy_passes.specs.Turns.{IsAlike, Went, WentUpTo}
+use Rattle.rescue_phases.specs.Turns.{IsAlike, Went, WentUpTo}
 use Rattle.turn_laws.specs.Safe.{IsHeldIn, IsSafe}
 use Rattle.turn_laws.specs.Laws.{IsLeftWithin, IsTurnOf, reads_by}
 

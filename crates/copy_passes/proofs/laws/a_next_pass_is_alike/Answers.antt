@@ -1,5 +1,0 @@
-use Rattle.copy_passes.proofs.AlikeLemmas.{next_pass_is_alike}
-use Rattle.copy_passes.proofs.laws.a_next_pass_is_alike.Goals as goal
-
-pub returns : goal.returns
-returns c = next_pass_is_alike

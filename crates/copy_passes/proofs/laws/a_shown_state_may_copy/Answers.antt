@@ -1,5 +1,0 @@
-use Rattle.copy_passes.proofs.StartLemmas.{shown_may_copy}
-use Rattle.copy_passes.proofs.laws.a_shown_state_may_copy.Goals as goal
-
-pub returns : goal.returns
-returns c = shown_may_copy

@@ -1,6 +1,0 @@
-mod PastLemmas
-mod AskedLemmas
-mod CountLemmas
-mod GoingLemmas
-mod PassingLemmas
-mod SweepLemmas
