@@ -1,10 +1,10 @@
 //! Runs of ddrescueshow.
-use crate::refusal::Refusal;
 use ddrescueshow_cli::ending::ShowEnding;
 use ddrescueshow_cli::show::ddrescueshow;
 use memory_console::memory::MemoryConsole;
 use memory_site::memory::MemorySite;
 use option_words::words::Words;
+use scene_text::refusal::{Refusal, refuse_starved};
 use std::alloc::Global;
 
 /// Runs ddrescueshow, on no terminal. If it finds no memory there is no answer: a scene can't ask for that.
@@ -16,8 +16,6 @@ pub(crate) fn draw(
 ) -> Result<ShowEnding, Refusal> {
     let starved = site.starved();
     let ending = ddrescueshow(alloc, words, site, console, false);
-    if matches!(ending, ShowEnding::NoMemory) || site.starved() > starved || console.starved() > 0 {
-        return Err(Refusal::NoMemory);
-    }
+    refuse_starved(ending.code(), starved, site, console)?;
     Ok(ending)
 }

@@ -1,6 +1,6 @@
 //! Files of scenes: each is played, and its results are compared with the file.
 use crate::player::play;
-use crate::report::{ENDING, append_report};
+use scene_text::report::{ENDING, append_report};
 use std::fs;
 use std::io::{self, ErrorKind, Write};
 use std::rt::Runtime;

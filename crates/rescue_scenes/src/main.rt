@@ -2,24 +2,12 @@
 //! text, or writes the text back with its results.
 #![tactic(auto)]
 
-mod blocks;
-mod command;
 mod drawn;
-mod fields;
 mod files;
-mod kinds;
-mod paced;
 mod part;
 mod planned;
 mod player;
-mod refusal;
-mod report;
-mod results;
 mod scene;
-mod shown;
-mod stated;
-mod texts;
-mod values;
 mod verified;
 
 use crate::files::{play_files, scene_files};

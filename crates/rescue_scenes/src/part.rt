@@ -1,11 +1,11 @@
 //! A run of ddrescuepart.
-use crate::refusal::Refusal;
-use crate::results::{append_console, append_ending, append_reads};
 use ddrescuepart_cli::ending::PartEnding;
 use ddrescuepart_cli::part::ddrescuepart;
 use memory_console::memory::MemoryConsole;
 use memory_source::memory::MemorySource;
 use option_words::words::Words;
+use scene_text::refusal::Refusal;
+use scene_text::results::{append_console, append_ending, append_reads};
 use std::alloc::Global;
 
 /// Runs ddrescuepart, and adds its results. If it finds no memory there is no answer: a scene can't ask for that.

@@ -1,10 +1,10 @@
 //! Runs of ddrescueplan.
-use crate::refusal::Refusal;
 use ddrescueplan_cli::ending::PlanEnding;
 use ddrescueplan_cli::plan::ddrescueplan;
 use memory_console::memory::MemoryConsole;
 use memory_site::memory::MemorySite;
 use option_words::words::Words;
+use scene_text::refusal::{Refusal, refuse_starved};
 use std::alloc::Global;
 
 /// Runs ddrescueplan. If it finds no memory there is no answer: a scene can't ask for that.
@@ -16,8 +16,6 @@ pub(crate) fn plan(
 ) -> Result<PlanEnding, Refusal> {
     let starved = site.starved();
     let ending = ddrescueplan(alloc, words, site, console);
-    if matches!(ending, PlanEnding::NoMemory) || site.starved() > starved || console.starved() > 0 {
-        return Err(Refusal::NoMemory);
-    }
+    refuse_starved(ending.code(), starved, site, console)?;
     Ok(ending)
 }

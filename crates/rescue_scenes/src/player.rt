@@ -1,8 +1,8 @@
 //! The lines of a transcript, and what is written below them.
-use crate::command::{Command, read_command};
-use crate::refusal::Refusal;
 use crate::scene::Scene;
 use block_list::tiles::NoMemory;
+use scene_text::command::{Command, read_command};
+use scene_text::refusal::Refusal;
 use std::alloc::Global;
 use std::io::{self, Write};
 

@@ -2,18 +2,9 @@
 ghost use Rattle.std.specs.Prelude.{◌≡◌, false};
 ghost use Rattle.memory_site.specs.MemoryState.{state_of};
 
-use crate::blocks::{append_blocks, append_maps};
-use crate::command::{FailingCall, Object, Stops, View};
 use crate::drawn::draw;
-use crate::kinds::{KINDS, Left};
-use crate::paced::{PacedClock, PacedConsole, PacedSource};
 use crate::part::play_part;
 use crate::planned::plan;
-use crate::refusal::Refusal;
-use crate::results::{append_calls, append_console, append_ending, append_reads};
-use crate::shown::{append_escaped, append_lines, append_shown};
-use crate::stated::Stated;
-use crate::values::BYTES_LIMIT;
 use crate::verified::verify;
 use ddrescue_cli::rescue::ddrescue;
 use ddrescuelog_cli::ending::LogEnding;
@@ -21,8 +12,18 @@ use ddrescuelog_cli::log::ddrescuelog;
 use faulty_source::bad_range::BadRange;
 use memory_console::memory::{MemoryClock, MemoryConsole, MemoryFeed};
 use memory_site::memory::MemorySite;
+use memory_site::memory::stop::Left;
 use memory_source::memory::MemorySource;
 use option_words::words::Words;
+use scene_text::blocks::{append_blocks, append_maps};
+use scene_text::command::{FailingCall, Object, Stops, View};
+use scene_text::kinds::KINDS;
+use scene_text::paced::{PacedClock, PacedConsole, PacedSource};
+use scene_text::refusal::{Refusal, refuse_starved};
+use scene_text::results::{append_calls, append_console, append_ending, append_reads};
+use scene_text::shown::{append_escaped, append_lines, append_shown};
+use scene_text::stated::Stated;
+use scene_text::values::BYTES_LIMIT;
 use std::alloc::Global;
 use std::cell::Cell;
 use std::io::Write;
@@ -94,9 +95,7 @@ fn rescue(
         let mut clock = MemoryClock::new(Vec::from_slice(alloc, readings)?);
         ddrescue(alloc, words, source, site, &mut clock, console)
     };
-    if matches!(ending, Ending::NoMemory) || site.starved() > starved || console.starved() > 0 {
-        return Err(Refusal::NoMemory);
-    }
+    refuse_starved(ending.code(), starved, site, console)?;
     Ok(ending)
 }
 
@@ -112,9 +111,7 @@ fn read_maps(
 {
     let starved = site.starved();
     let ending = ddrescuelog(alloc, words, site, feed, console);
-    if matches!(ending, LogEnding::NoMemory) || site.starved() > starved || console.starved() > 0 {
-        return Err(Refusal::NoMemory);
-    }
+    refuse_starved(ending.code(), starved, site, console)?;
     Ok(ending)
 }
 

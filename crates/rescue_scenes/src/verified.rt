@@ -2,13 +2,13 @@
 ghost use Rattle.std.specs.Prelude.{◌≡◌, false};
 ghost use Rattle.memory_site.specs.MemoryState.{state_of};
 
-use crate::refusal::Refusal;
 use ddrescueverify_cli::ending::VerifyEnding;
 use ddrescueverify_cli::verify::ddrescueverify;
 use memory_console::memory::MemoryConsole;
 use memory_site::memory::MemorySite;
 use memory_source::memory::MemorySource;
 use option_words::words::Words;
+use scene_text::refusal::{Refusal, refuse_starved};
 use std::alloc::Global;
 
 /// Runs ddrescueverify. If it finds no memory there is no answer: a scene can't ask for that.
@@ -23,11 +23,6 @@ pub(crate) fn verify(
 {
     let starved = site.starved();
     let ending = ddrescueverify(alloc, words, source, site, console);
-    if matches!(ending, VerifyEnding::NoMemory)
-        || site.starved() > starved
-        || console.starved() > 0
-    {
-        return Err(Refusal::NoMemory);
-    }
+    refuse_starved(ending.code(), starved, site, console)?;
     Ok(ending)
 }

@@ -1,6 +1,0 @@
-use Rattle.std.proofs.Common.{◌≡◌, ◌+◌, drop}
-use Rattle.rescue_scenes.specs.Texts.{part_length}
-use Rattle.rescue_scenes.proofs.texts.first_part.Given as goal
-
-abbrev pub invariant-loop-at : goal.invariant-loop-at
-invariant-loop-at l = l.at + part_length (drop l.at l.text) ≡ part_length l.text
