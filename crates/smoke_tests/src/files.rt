@@ -1,7 +1,5 @@
-//! Tests of the forms for real files.
-use crash_site::site::{ImageKind, MapRead, Site};
-use faulty_source::source::{Got, Source};
-use file_source::file::FileSource;
+//! A test of the form for real files.
+use crash_site::site::{MapRead, Site};
 use folder_site::folder::FolderSite;
 use std::path::PathBuf;
 use std::test::Fail;
@@ -15,20 +13,14 @@ pub(crate) fn own_name(rt: &HostRuntime, word: &str) -> io::Result<PathBuf> {
 }
 
 #[test]
-fn an_image_and_a_mapfile_are_kept(rt: HostRuntime) -> Result<(), Fail> {
+fn a_mapfile_is_read_after_each_save(rt: HostRuntime) -> Result<(), Fail> {
     let folder = own_name(&rt, "site")?;
     fs::create_dir(&rt, folder.as_path())?;
-    let image = folder.join(rt.alloc(), "image")?;
     let map = folder.join(rt.alloc(), "map")?;
     let draft = folder.join(rt.alloc(), "map.tmp")?;
-    let (image, map) = (image.as_path().as_str(), map.as_path().as_str());
+    let map = map.as_path().as_str();
     let mut site = FolderSite::new(rt.clone()?);
     let mut buf = [0; 4];
-    assert_eq!(rt; site.image_open(image, true)?, ImageKind::Regular);
-    site.image_write(2, b"abc")?;
-    site.image_sync()?;
-    assert_eq!(rt; site.image_read(1, &mut buf)?, 4);
-    assert_eq!(rt; buf, *b"\0abc");
     for text in [b"old", b"new"] {
         site.draft_begin(draft.as_path().as_str())?;
         site.draft_append(text)?;
@@ -41,41 +33,5 @@ fn an_image_and_a_mapfile_are_kept(rt: HostRuntime) -> Result<(), Fail> {
     site.map_remove(map)?;
     assert_eq!(rt; site.map_read(map, 1, &mut buf)?, MapRead::Absent);
     fs::remove_dir_all(&rt, folder.as_path())?;
-    Ok(())
-}
-
-#[test]
-fn what_is_expected_is_read_ahead(rt: HostRuntime) -> Result<(), Fail> {
-    let path = own_name(&rt, "ahead")?;
-    fs::write(&rt, &path, "abcdef")?;
-    let mut source = FileSource::new(rt.clone()?);
-    let mut buf = [0; 2];
-    source.read_ahead_in(vec![in rt.alloc(); 0; 16]?);
-    assert_eq!(rt; source.open_input(path.as_path().as_str())?, 6);
-    source.expect(0, 4);
-    assert_eq!(rt; source.read_at(0, &mut buf)?, Got::Read(2));
-    fs::write(&rt, &path, "ABCDEF")?;
-    assert_eq!(rt; source.read_at(2, &mut buf)?, Got::Read(2));
-    assert_eq!(rt; buf, *b"cd");
-    assert_eq!(rt; source.read_at(2, &mut buf)?, Got::Read(2));
-    assert_eq!(rt; buf, *b"CD");
-    fs::remove_file(&rt, &path)?;
-    Ok(())
-}
-
-#[test]
-fn what_is_written_was_not_read_ahead(rt: HostRuntime) -> Result<(), Fail> {
-    let path = own_name(&rt, "image")?;
-    fs::write(&rt, &path, "abcdef")?;
-    let image = path.as_path().as_str();
-    let mut site = FolderSite::new(rt.clone()?);
-    let mut buf = [0; 2];
-    site.read_ahead_in(vec![in rt.alloc(); 0; 16]?);
-    assert_eq!(rt; site.image_open(image, false)?, ImageKind::Regular);
-    assert_eq!(rt; site.image_read(0, &mut buf)?, 2);
-    site.image_write(3, b"D")?;
-    assert_eq!(rt; site.image_read(2, &mut buf)?, 2);
-    assert_eq!(rt; buf, *b"cD");
-    fs::remove_file(&rt, &path)?;
     Ok(())
 }

@@ -1,5 +1,5 @@
-//! A run over real files, small tests of what no program asks of them, two of maps of many blocks, and one of files in
-//! memory. No other crate has tests: the gate proves a crate that has some twice.
+//! A run over real files, and small tests of what no program asks of them and no clause says. No other crate has tests:
+//! the gate proves a crate that has some twice.
 #![tactic(auto)]
 
 #[cfg(test)]
@@ -7,8 +7,4 @@ mod direct;
 #[cfg(test)]
 mod files;
 #[cfg(test)]
-mod maps;
-#[cfg(test)]
 mod runs;
-#[cfg(test)]
-mod stops;

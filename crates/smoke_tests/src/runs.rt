@@ -2,7 +2,7 @@
 ghost use Rattle.std.specs.Prelude.{◌<◌, ◌^◌, IfOk};
 ghost use Rattle.run_options.specs.Settings.{HasPlaces};
 ghost use Rattle.rescue_domain.specs.Parts.{covers};
-ghost use Rattle.copy_passes.specs.Copying.{MayCopy};
+ghost use Rattle.rescue_phases.specs.Copying.{MayCopy};
 
 use crate::files::own_name;
 use ddrescue_words::command::sample_command;
