@@ -37,7 +37,7 @@ use Rattle.rescue_safety.specs.Safe.{Target, HasPlace, Run, reads_until, by_then
 use Rattle.rescue_safety.specs.Rescue.{Rescue, target_of, run_by, run_of, files_at_first}
 use Rattle.rescue_safety.specs.AskedFor.{AreSeen, NoRead, Untested, Tested, IsAskedFor}
 use Rattle.rescue_safety.specs.Laws.{AnyStopIsSafe, AnyTestedStopIsSafe}
-use Rattle.rescue_safety.specs.AskedLaws.{EachIsTold, GivesWhatIsAskedFor, LeavesTheRest, NoneIsReadAgain, StaysResumable, WritesAreOfReads}
+use Rattle.rescue_safety.specs.AskedLaws.{EachIsTold, GivesWhatIsAskedFor, LeavesTheRest, StaysResumable, WritesAreOfReads}
 use Rattle.rescue_safety.proofs.SaveLemmas.{goes_made, numbered}
 use Rattle.rescue_safety.proofs.QuietLemmas.{SavesNone, none_or_stands}
 use Rattle.rescue_safety.proofs.FinishedLemmas.{StandsAt, At, stands_at, StandsFinished, stands_finished, calls_finished, finished_has}
@@ -412,8 +412,12 @@ each_is_told t c mapfile promised asks named site_tells source_tells =
       refl,
     )
 
-pub none_is_read_again : NoneIsReadAgain
-none_is_read_again r reads k files x are le left is fin =
+-- if the mapfile found calls a position finished, what reads gave it was given by then
+pub given_by_then : (r : Rescue) (reads : List Reading) (k : ℕ) (files : List ℕ → Option File) (x : ℕ) → AreSeen r reads
+    → k ≤ length r.did.call.calls → LeftBy (b r) r.did.call.calls k files
+    → has_barrier (take k r.did.call.calls) ≡ true → CallsFinished (files r.mapfile) x
+    → gives (by_then (run_of r reads) k) x ≡ gives (run_of r reads) x
+given_by_then r reads k files x are le left is fin =
     let alone : reads ≡ (g r).reads = seen_alone r reads are in
     let le' : k ≤ length (g r).calls = subst (λ (l : List Entry). k ≤ length l) (calls_are r) le in
     let left' : LeftBy (b r) (g r).calls k files = subst (λ (l : List Entry). LeftBy (b r) l k files) (calls_are r) left in

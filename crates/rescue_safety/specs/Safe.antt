@@ -80,7 +80,8 @@ pub record IsSafe (r : Run) (k : ℕ) (files : List ℕ → Option File) : Type 
 abbrev pub IsOwn : (input : List ℕ) → Reading → Type 0
 IsOwn input read = (i b : ℕ) → slice_get read.given i ≡ Some b → slice_get input (read.pos + i) ≡ Some b
 
--- Each read of a rescue gave the input's own bytes; and wherever it is stopped, it is safe by what it had read by then.
+-- Each read of a rescue gave the input's own bytes; and wherever it is stopped, it is safe by the reads
+-- that had begun to be written by then.
 pub record IsSafeAnywhere (r : Run) : Type 0 where
   pub own : All (IsOwn r.input) r.reads
   pub safe : (k : ℕ) (files : List ℕ → Option File) → k ≤ length r.calls → LeftBy r.past r.calls k files

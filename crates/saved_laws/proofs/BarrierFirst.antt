@@ -1,19 +1,22 @@
--- Once a save has returned, so has the barrier.
+-- Once a save has returned, so has the barrier, and nothing is read before it.
 use Rattle.std.proofs.Common.{◌≡◌, ◌⊎◌, inl, inr, ⊎_elim, ℕ, ◌<◌, ◌≤◌, Bool, true, false, List, [], ◌∷◌, ◌++◌, take, map, Option, refl, sym, ap, ◌∙◌, subst, arith, append_assoc}
 use Rattle.std.proofs.lemmas.List.Elements.{All-head, All-tail}
 use Rattle.block_list.specs.declared.status.Status.{Status}
 use Rattle.mapfile_text.specs.declared.state.MapState.{MapState}
+use Rattle.crash_site.specs.Files.{File}
 use Rattle.crash_site.specs.Calls.{Call, Entry, Done, Failed, image_open, image_sync, map_read, map_settle}
 use Rattle.rescue_rules.specs.Setting.{Setting}
-use Rattle.rescue_rules.specs.Stops.{has_barrier, is_settle, returned}
-use Rattle.rescue_rules.specs.Work.{Gain, AreMapReads, is_map_read}
+use Rattle.rescue_rules.specs.Stops.{files_before, has_barrier, is_settle, returned}
+use Rattle.rescue_rules.specs.Work.{Gain, opening_calls, GoesOn, InOpening, InLoad, InRun, Goes, InMaps, AfterMaps, AreMapReads, is_map_read}
 use Rattle.rescue_rules.proofs.CutLemmas.{Cut, add, cut_all}
-use Rattle.rescue_rules.proofs.MapfileLemmas.{opening_by}
+use Rattle.rescue_rules.proofs.MapfileLemmas.{opening_by, opening_is}
 use Rattle.rescue_safety.proofs.BegunLemmas.{Past, cut_split, count_both, count_step}
+use Rattle.rescue_safety.proofs.SafeLemmas.{s, g, b, on, goes, calls_are, seen_alone}
 use Rattle.rescue_safety.proofs.SaveLemmas.{Made, calls_of_run}
 use Rattle.rescue_safety.proofs.SettleLemmas.{settled}
 use Rattle.rescue_safety.proofs.Texts.{cut_take}
 use Rattle.rescue_safety.proofs.ThenLemmas.{load as loaded}
+use Rattle.saved_laws.specs.Laws.{ReadsComeAfterTheBarrier}
 use Rattle.saved_laws.proofs.SavedLemmas.{synced}
 
 -- ---- reads of maps settle nothing
@@ -133,3 +136,34 @@ module _ (s : Setting) (began : List Status) (state : Option MapState) (g : Gain
       (reads_unsettled made.maps (map Done made.maps) made.are_reads (cut_all made.maps)) some
       (opening_first s.outfile s.names.map true (loaded s began state g made ++ calls_of_run s began state g) c.rest c.cut))
       (cut_split made.maps rest part (cut_take k (made.maps ++ rest) g.calls made.cut))
+
+-- ---- and reads come after it
+
+module _ (s : Setting) (on : s.has_mapfile ≡ true) (files : List ℕ → Option File) where
+  run_synced : (maps load : List Call) (rest : List Entry)
+      → has_barrier (map Done maps ++ (map Done (opening_calls s ++ load) ++ rest)) ≡ true
+  run_synced maps load rest =
+      let two : List Entry = Done (image_open s.outfile true) ∷ Done (map_settle s.names.map) ∷ [] in
+      ap (λ (l : List Call). has_barrier (map Done maps ++ (map Done (l ++ load) ++ rest))) (opening_is s on)
+      ∙ ap has_barrier (sym (append_assoc (map Done maps) two (Done image_sync ∷ (map Done load ++ rest))))
+      ∙ synced (map Done maps ++ two) (map Done load ++ rest)
+
+  on_unread : (maps : List Call) (calls : List Entry) (g : Gain) → GoesOn s files g → calls ≡ map Done maps ++ g.calls
+      → has_barrier calls ≡ false → g.reads ≡ []
+  on_unread maps calls g (InOpening front back is none h) same off = none
+  on_unread maps calls g (InLoad load there begins none h) same off = none
+  on_unread maps calls g (InRun load statuses state end rest loaded stands is runs) same off =
+      let on_it : has_barrier calls ≡ true
+      = ap has_barrier (same ∙ ap (λ (l : List Entry). map Done maps ++ l) is) ∙ run_synced maps load rest in
+      let no : true ≡ false = sym on_it ∙ off in
+      absurd (cc)
+
+  goes_unread : (g : Gain) → Goes s files g → has_barrier g.calls ≡ false → g.reads ≡ []
+  goes_unread g (InMaps maps reads none broke) off = none
+  goes_unread g (AfterMaps maps rest reads is goes_on) off =
+      on_unread maps g.calls (record g { calls = rest }) goes_on is off
+
+pub reads_come_after_the_barrier : ReadsComeAfterTheBarrier
+reads_come_after_the_barrier r reads seen off =
+    seen_alone r reads seen
+    ∙ goes_unread (s r) (on r) (files_before (b r)) (g r) (goes r) (sym (ap has_barrier (calls_are r)) ∙ off)

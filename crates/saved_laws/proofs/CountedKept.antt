@@ -20,9 +20,9 @@ use Rattle.rescue_rules.specs.Moves.{ready, move_of, state_after, IsRun}
 use Rattle.rescue_rules.specs.Events.{began_at, events_of, reads_of}
 use Rattle.rescue_rules.specs.Given.{given, last_of_both}
 use Rattle.rescue_rules.specs.Snapshots.{Snapshot, snapshot_of, is_due, last_snapshot, snapshots}
-use Rattle.rescue_rules.specs.Stops.{files_before, has_barrier, returned, LeftBy}
+use Rattle.rescue_rules.specs.Stops.{Before, files_before, has_barrier, returned, StopOf, LeftBy}
 use Rattle.rescue_rules.specs.StopsBy.{IsSave, saves_of}
-use Rattle.rescue_rules.specs.Work.{begins, events_in}
+use Rattle.rescue_rules.specs.Work.{Gain, begins, events_in}
 use Rattle.rescue_rules.proofs.FinishLemmas.{run_steps}
 use Rattle.rescue_rules.proofs.MoveLemmas.{run_rest}
 use Rattle.rescue_rules.proofs.MoveStages.{due_first}
@@ -34,9 +34,10 @@ use Rattle.rescue_safety.proofs.BegunLemmas.{own}
 use Rattle.rescue_safety.proofs.ClaimLemmas.{goes_ran, FinishesIt, some_or_none, never_some}
 use Rattle.rescue_safety.proofs.FinishedLemmas.{StandsAt, At, calls_finished}
 use Rattle.rescue_safety.proofs.SaveLemmas.{goes_made}
-use Rattle.rescue_safety.proofs.SafeLemmas.{p, s, g, b, on, ok, goes, over, calls_are, map_is, seen_alone}
+use Rattle.rescue_safety.proofs.SafeLemmas.{p, s, g, b, on, ok, goes, safe, calls_are, map_is, seen_alone}
 use Rattle.saved_laws.specs.Failed.{MarksTried, FailedOf}
 use Rattle.saved_laws.specs.Dues.{dues_by}
+use Rattle.saved_laws.specs.GoesLaws.{GoesSafely}
 use Rattle.saved_laws.specs.Laws.{ReturnedSavesKeep}
 use Rattle.saved_laws.proofs.BarrierFirst.{saved_past}
 use Rattle.saved_laws.proofs.DuesReturned.{due_here, ready_at, no_events}
@@ -126,67 +127,92 @@ module _ (s : Setting) (ok : IsSensible s) (x : ℕ) where
 
 -- ---- a rescue
 
-module _ (r : Rescue) (k : ℕ) (files : List ℕ → Option File) (old more : List Event) (x : ℕ)
-    (le : k ≤ length (g r).calls) (left : LeftBy (b r) (g r).calls k files)
-    (is : events_in (g r) ≡ old ++ more)
-    (fewer : dues_by (began_at (g r).times) old < returned (take k (g r).calls)) where
+module _ (b : Before) (s : Setting) (g : Gain) (q : GoesSafely b s g) (k : ℕ) (files : List ℕ → Option File)
+    (old more : List Event) (x : ℕ)
+    (le : k ≤ length g.calls) (left : LeftBy b g.calls k files)
+    (is : events_in g ≡ old ++ more)
+    (fewer : dues_by (began_at g.times) old < returned (take k g.calls)) where
+  abbrev stop : StopOf b g.calls
+  stop = record { k = k; files = files; within = le; left = left }
+
   number_has : (began : List Status) (was : Option MapState) (Goal : List Status → Type 0)
-      → ((i : ℕ) (p : Snapshot) → slice_get (snapshots (s r) (begins (s r) began was (g r)) (old ++ more)) i ≡ Some p
-      → dues_by (began_at (g r).times) old ≤ i → Goal p.map)
-      → (number : ℕ) (mapfile found : Option File) (statuses : List Status) → returned (take k (g r).calls) ≤ number
-      → IsSave mapfile began (s r).line (saves_of (s r) began was (g r)) number found statuses → Goal statuses
+      → ((i : ℕ) (p : Snapshot) → slice_get (snapshots s (begins s began was g) (old ++ more)) i ≡ Some p
+      → dues_by (began_at g.times) old ≤ i → Goal p.map)
+      → (number : ℕ) (mapfile found : Option File) (statuses : List Status) → returned (take k g.calls) ≤ number
+      → IsSave mapfile began s.line (saves_of s began was g) number found statuses → Goal statuses
   number_has began was Goal each zero mapfile found statuses few save =
       absurd (let no : ⊥ = omega (arith, few, fewer) in no)
   number_has began was Goal each (suc i) mapfile found statuses few save =
       subst Goal (sym save.2)
       (each i save.0
-      (subst (λ (l : List Event). slice_get (snapshots (s r) (begins (s r) began was (g r)) l) i ≡ Some save.0) is save.1)
+      (subst (λ (l : List Event). slice_get (snapshots s (begins s began was g) l) i ≡ Some save.0) is save.1)
       (omega (arith, few, fewer)))
 
   module _ (began : List Status) (was : Option MapState)
-      (there : Stands (files_before (b r) (s r).names.map) (s r).end began was) where
+      (there : Stands (files_before b s.names.map) s.end began was) where
     abbrev m : Machine
-    m = begins (s r) began was (g r)
+    m = begins s began was g
 
-    run : IsRun (s r) m (old ++ more)
+    run : IsRun s m (old ++ more)
     run =
-        subst (λ (l : List Event). IsRun (s r) m l) is
-        (goes_ran (s r) (files_before (b r)) (g r) began was (on r) (goes r) there).run
+        subst (λ (l : List Event). IsRun s m l) is
+        (goes_ran s (files_before b) g began was q.named q.goes there).run
 
-    order : IsInOrder (s r) m
-    order = order_over (s r) began was (began_at (g r).times)
+    order : IsInOrder s m
+    order = order_over s began was (began_at g.times)
 
-    barrier : has_barrier (take k (g r).calls) ≡ true
+    barrier : has_barrier (take k g.calls) ≡ true
     barrier =
-        saved_past (s r) began was (g r) (goes_made (s r) (files_before (b r)) (g r) began was (on r) (goes r) there) k
+        saved_past s began was g (goes_made s (files_before b) g began was q.named q.goes there) k
         (omega (arith, fewer))
 
     abbrev last : Snapshot
-    last = last_snapshot (s r) (state_after (s r) m (old ++ more))
+    last = last_snapshot s (state_after s m (old ++ more))
 
-    over_finished : (byte : ℕ) → given (s r).sector (reads_of old) x ≡ Some byte → CallsFinished (files (s r).names.map) x
+    over_finished : (byte : ℕ) → given s.sector (reads_of old) x ≡ Some byte → CallsFinished (files s.names.map) x
     over_finished byte gave =
-        let kept = (over r k files le left barrier).kept began was there in
-        calls_finished (files (s r).names.map) (s r).end x kept.statuses kept.shows kept.stands
+        let kept = (q.stops.past stop barrier).kept began was there in
+        calls_finished (files s.names.map) s.end x kept.statuses kept.shows kept.stands
         (number_has began was (λ (l : List Status). Has l Finished x)
-        (λ i p at few. counted_finish (s r) (ok r) x m old more last order run byte gave i p at few)
-        kept.number (files_before (b r) (s r).names.map) (files (s r).names.map) kept.statuses kept.no_older kept.is_save)
+        (λ i p at few. counted_finish s q.sensible x m old more last order run byte gave i p at few)
+        kept.number (files_before b s.names.map) (files s.names.map) kept.statuses kept.no_older kept.is_save)
 
-    over_tried : FailedOf (s r).sector (reads_of old) x → MarksTried (files (s r).names.map) x
+    over_tried : FailedOf s.sector (reads_of old) x → MarksTried (files s.names.map) x
     over_tried f =
-        let kept = (over r k files le left barrier).kept began was there in
-        marks_tried (files (s r).names.map) (s r).end x kept.statuses kept.shows kept.stands
+        let kept = (q.stops.past stop barrier).kept began was there in
+        marks_tried (files s.names.map) s.end x kept.statuses kept.shows kept.stands
         (number_has began was (λ (l : List Status). Tried l x)
-        (λ i p at few. counted_tried (s r) (ok r) x m old more last order run f i p at few)
-        kept.number (files_before (b r) (s r).names.map) (files (s r).names.map) kept.statuses kept.no_older kept.is_save)
+        (λ i p at few. counted_tried s q.sensible x m old more last order run f i p at few)
+        kept.number (files_before b s.names.map) (files s.names.map) kept.statuses kept.no_older kept.is_save)
 
-  found_finished : (byte : ℕ) → given (s r).sector (reads_of old) x ≡ Some byte
-      → StandsAt (files_before (b r) (s r).names.map) (s r).end → CallsFinished (files (s r).names.map) x
+  found_finished : (byte : ℕ) → given s.sector (reads_of old) x ≡ Some byte
+      → StandsAt (files_before b s.names.map) s.end → CallsFinished (files s.names.map) x
   found_finished byte gave (At began was there) = over_finished began was there byte gave
 
-  found_tried : FailedOf (s r).sector (reads_of old) x → StandsAt (files_before (b r) (s r).names.map) (s r).end
-      → MarksTried (files (s r).names.map) x
+  found_tried : FailedOf s.sector (reads_of old) x → StandsAt (files_before b s.names.map) s.end
+      → MarksTried (files s.names.map) x
   found_tried f (At began was there) = over_tried began was there f
+
+  pub counted_keep : ((byte : ℕ) → given s.sector (reads_of old) x ≡ Some byte → CallsFinished (files s.names.map) x)
+      × (FailedOf s.sector (reads_of old) x → MarksTried (files s.names.map) x)
+  counted_keep =
+      ⊎_elim
+      (λ (unread : g.reads ≡ []).
+      let empty : old ≡ [] = no_events g.reads g.times unread old more is in (
+        (λ byte gave. absurd (never_some byte (given s.sector (reads_of old) x)
+            (ap (λ (l : List Event). given s.sector (reads_of l) x) empty) gave)),
+        (λ f. absurd (none-some f.read
+            (subst (λ (l : List Event). slice_get (reads_of l) f.number ≡ Some f.read) empty f.is))),
+      ))
+      (λ (there : StandsAt (files_before b s.names.map) s.end). (
+        (λ byte gave. found_finished byte gave there),
+        (λ f. found_tried f there),
+      ))
+      (unread_or_stands s (files_before b) g q.named q.goes)
+
+-- a rescue that was called for
+pub went : (r : Rescue) → GoesSafely (b r) (s r) (g r)
+went r = record { sensible = ok r; named = on r; goes = goes r; stops = safe r }
 
 pub returned_saves_keep : ReturnedSavesKeep
 returned_saves_keep r reads k files times old more x seen tells readings le left is fewer =
@@ -202,18 +228,6 @@ returned_saves_keep r reads k files times old more x seen tells readings le left
     let fewer' : dues_by (began_at (g r).times) old < returned (take k (g r).calls)
     = subst (λ (ts : List ℕ). dues_by (began_at ts) old < returned (take k (g r).calls)) same
     (subst (λ (l : List Entry). dues_by (began_at times) old < returned (take k l)) (calls_are r) fewer) in
-    ⊎_elim
-    (λ (unread : (g r).reads ≡ []).
-    let empty : old ≡ [] = no_events (g r).reads (g r).times unread old more at in (
-      (λ byte gave. absurd (never_some byte (given sector (reads_of old) x)
-          (ap (λ (l : List Event). given sector (reads_of l) x) empty) gave)),
-      (λ f. absurd (none-some f.read
-          (subst (λ (l : List Event). slice_get (reads_of l) f.number ≡ Some f.read) empty f.is))),
-    ))
-    (λ (there : StandsAt (files_before (b r) (s r).names.map) (s r).end). (
-      (λ byte gave. subst (λ (m : List ℕ). CallsFinished (files m) x) (map_is r)
-          (found_finished r k files old more x le' left' at fewer' byte gave there)),
-      (λ f. subst (λ (m : List ℕ). MarksTried (files m) x) (map_is r)
-          (found_tried r k files old more x le' left' at fewer' f there)),
-    ))
-    (unread_or_stands (s r) (files_before (b r)) (g r) (on r) (goes r))
+    subst (λ (m : List ℕ). ((byte : ℕ) → given sector (reads_of old) x ≡ Some byte → CallsFinished (files m) x)
+    × (FailedOf sector (reads_of old) x → MarksTried (files m) x)) (map_is r)
+    (counted_keep (b r) (s r) (g r) (went r) k files old more x le' left' at fewer')

@@ -35,7 +35,7 @@ use Rattle.saved_laws.specs.Laws.{FinishedAtEnd}
 use Rattle.rescue_safety.proofs.BegunLemmas.{writes_in, count_both, begun, begun_step, own, is_kept, write_counted, save_unwritten}
 use Rattle.rescue_safety.proofs.ClaimLemmas.{never_some}
 use Rattle.saved_laws.proofs.EndedLemmas.{NoneFailed, EndedWork, ended_works}
-use Rattle.rescue_safety.proofs.SafeLemmas.{p, w, s, g, b, on, ok, calls_are, map_is, safe_anywhere, seen_alone, none_is_read_again}
+use Rattle.rescue_safety.proofs.SafeLemmas.{p, w, s, g, b, on, ok, calls_are, map_is, safe_anywhere, seen_alone, given_by_then}
 use Rattle.rescue_safety.proofs.HoldsLemmas.{holds_finished}
 use Rattle.saved_laws.proofs.SavedLemmas.{began_or, found_finished, synced}
 
@@ -154,7 +154,7 @@ given_held : (r : Rescue) (reads : List Reading) (k : ℕ) (files : List ℕ →
 given_held r reads k files x byte seen le left barrier fin gave =
     let d : Run = run_of r reads in
     let same : gives (by_then d k) x ≡ gives d x
-    = none_is_read_again r reads k files x seen le left barrier fin in
+    = given_by_then r reads k files x seen le left barrier fin in
     ⊎_elim
     (λ (h : HoldsGiven (by_then d k) files x).
     record { byte = h.byte; given = sym same ∙ h.given; own = h.own; place = h.place; at = h.at; holds = h.holds })

@@ -1,5 +1,5 @@
 -- What a stop of the small rescue finds.
-use Rattle.std.proofs.Common.{◌≡◌, ◌≢◌, ℕ, zero, suc, ◌+◌, ◌^◌, ◌<◌, ◌≤◌, true, false, List, [], ◌∷◌, ◌++◌, length, length-append, sum, take, map, replicate, Option, Some, None, refl, sym, ap, ◌∙◌, subst, arith, append_assoc, append-nil}
+use Rattle.std.proofs.Common.{◌≡◌, ◌≢◌, ℕ, zero, suc, ◌+◌, ◌^◌, ◌<◌, ◌≤◌, true, false, List, [], ◌∷◌, ◌++◌, length, length-append, sum, take, map, replicate, All, Option, Some, None, refl, sym, ap, ◌∙◌, subst, arith, append_assoc, append-nil}
 use Rattle.std.specs.List.{slice_get}
 use Rattle.std.proofs.lemmas.List.{length-map, map-append}
 use Rattle.std.proofs.lemmas.List.Elements.{All-nil, All-cons}
@@ -22,7 +22,8 @@ use Rattle.rescue_rules.specs.Laws.{AreThreeNames, AreTimes}
 use Rattle.rescue_rules.specs.Machine.{Machine}
 use Rattle.rescue_rules.specs.Step.{Event, save_interval}
 use Rattle.rescue_rules.specs.Moves.{state_after, move_of}
-use Rattle.rescue_rules.specs.Events.{events_of, reads_of}
+use Rattle.rescue_rules.specs.Events.{began_at, events_of, reads_of}
+use Rattle.rescue_rules.specs.Given.{given}
 use Rattle.rescue_rules.specs.RunCalls.{move_calls, run_calls, end_calls}
 use Rattle.rescue_rules.specs.Snapshots.{Snapshot, text_of}
 use Rattle.rescue_rules.specs.Start.{Stands}
@@ -33,9 +34,11 @@ use Rattle.rescue_rules.proofs.StopsLemmas.{rescue_stops_by}
 use Rattle.rescue_safety.specs.Safe.{reads_until, by_then}
 use Rattle.rescue_safety.proofs.BegunLemmas.{writes_in, count_both, save_published, save_unwritten}
 use Rattle.rescue_safety.proofs.SettleLemmas.{settled, save_settled}
-use Rattle.saved_laws.specs.Examples.{five, five_start, old_reads, late_read, last_reads, five_reads, opening, five_gain, five_run, two_writes, third, StopFindsWhatIsOld}
+use Rattle.saved_laws.specs.Examples.{five, five_start, read_at, old_reads, late_read, last_reads, five_reads, opening, five_gain, five_run, two_writes, third, StopFindsWhatIsOld, StopKeepsWhatIsOld}
+use Rattle.saved_laws.specs.GoesLaws.{GoesSafely, AreOld}
 use Rattle.saved_laws.proofs.ExampleLemmas.{saves_what_is_old}
 use Rattle.saved_laws.proofs.FailedLemmas.{has_by, calls_by}
+use Rattle.saved_laws.proofs.LossBounded.{loss_in}
 
 -- ---- it goes as a rescue does
 
@@ -325,12 +328,16 @@ two_counted = ap writes_in two_begun ∙ (let two : writes_in (two_writes ++ Don
 abbrev IsOld : ℕ → Type 0
 IsOld t = t + save_interval ≤ late_read.after
 
+all_old : All IsOld (began_at five_gain.times ∷ map (λ e. e.after) old_reads)
+all_old =
+    All-cons IsOld 0 (0 ∷ 5 ∷ []) (omega arith)
+    (All-cons IsOld 0 (5 ∷ []) (omega arith) (All-cons IsOld 5 [] (omega arith) (All-nil IsOld)))
+
 pub stop_finds_what_is_old : StopFindsWhatIsOld
 stop_finds_what_is_old = record {
   goes = goes_five;
   begun = ap (λ (rs : List Reading). events_of rs five_gain.times) all_reads;
-  late = All-cons IsOld 0 (0 ∷ 5 ∷ []) (omega arith)
-      (All-cons IsOld 0 (5 ∷ []) (omega arith) (All-cons IsOld 5 [] (omega arith) (All-nil IsOld)));
+  late = all_old;
   saving = save_middle;
   saved = take_third ∙ ap (λ (l : List Entry). two_writes ++ l) save_is;
   counted = ap (λ (n : ℕ). reads_until five.sector n (reads_of five_reads)) two_counted;
@@ -339,4 +346,34 @@ stop_finds_what_is_old = record {
         has_by status (λ is. other (sym is)) (files five.names.map) 10 x shot.map found.shows found.stands,
         calls_by status (λ is. other (sym is)) (files five.names.map) 10 x shot.map found.shows found.stands,
       );
+}
+
+-- ---- it is a case of the bound
+
+went_five : GoesSafely five_run.past five five_gain
+went_five = record { sensible = sensible; named = refl; goes = goes_five; stops = stops }
+
+are_old : AreOld five five_gain third old_reads
+are_old = record {
+  between = [];
+  late = late_read;
+  later = read_at 6 0 40000 50;
+  more = read_at 8 2 50 100 ∷ [];
+  begun = ap (λ (rs : List Reading). events_of rs five_gain.times) all_reads;
+  enough = all_old;
+}
+
+first_gave : (x : ℕ) → x < 2 → given five.sector (reads_of old_reads) x ≡ Some 7
+first_gave zero low = refl
+first_gave (suc zero) low = refl
+first_gave (suc (suc n)) low = absurd (let no : ⊥ = omega (arith, low) in no)
+
+pub stop_keeps_what_is_old : StopKeepsWhatIsOld
+stop_keeps_what_is_old = record {
+  went = went_five;
+  within = within;
+  old = are_old;
+  keeps = λ files left x low.
+      let found = loss_in five_run.past five five_gain third files old_reads x went_five within left are_old in
+      found.0 7 (first_gave x low);
 }

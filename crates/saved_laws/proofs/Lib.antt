@@ -14,6 +14,7 @@ mod DuesReturned
 mod ReadsWaited
 mod CountedKept
 mod LossBounded
+mod AnsweredLemmas
 mod GrowLemmas
 mod ExampleLemmas
 mod ExampleStops

@@ -1,30 +1,35 @@
 -- A stop costs at most the reads of half a minute, and by due saves less.
-use Rattle.std.proofs.Common.{◌≡◌, ⊎_elim, ℕ, suc, ◌+◌, ◌<◌, ◌≤◌, Bool, true, false, if◌then◌else◌, nat_le, List, [], ◌∷◌, ◌++◌, take, drop, map, All, IsTrue, refl, sym, ap, ◌∙◌, subst, arith, append_assoc}
+use Rattle.std.proofs.Common.{◌≡◌, ⊎_elim, ℕ, suc, ◌+◌, ◌<◌, ◌≤◌, Bool, true, false, if◌then◌else◌, nat_le, List, [], ◌∷◌, ◌++◌, length, take, drop, map, All, Option, Some, IsTrue, refl, sym, ap, ◌∙◌, subst, arith, append_assoc}
 use Rattle.std.proofs.lemmas.Bool.{cases_Bool, le-leb}
 use Rattle.std.proofs.lemmas.List.{append_cancel_left}
 use Rattle.std.proofs.lemmas.List.Elements.{All-head, All-tail}
 use Rattle.faulty_source.specs.Journal.{Reading}
+use Rattle.crash_site.specs.Files.{File}
 use Rattle.crash_site.specs.Calls.{Entry}
 use Rattle.rescue_rules.specs.Setting.{Setting, IsSensible}
 use Rattle.rescue_rules.specs.Machine.{Machine}
 use Rattle.rescue_rules.specs.Step.{Event, save_interval, is_timely}
 use Rattle.rescue_rules.specs.Moves.{ready, move_of, IsRun}
-use Rattle.rescue_rules.specs.Events.{began_at, with_times, events_of}
+use Rattle.rescue_rules.specs.Events.{began_at, with_times, events_of, reads_of}
+use Rattle.rescue_rules.specs.Given.{given}
 use Rattle.rescue_rules.specs.Snapshots.{snapshot_of, is_due}
-use Rattle.rescue_rules.specs.Stops.{files_before, returned}
-use Rattle.rescue_rules.specs.Work.{begins}
+use Rattle.rescue_rules.specs.Stops.{Before, files_before, returned, LeftBy}
+use Rattle.rescue_rules.specs.Work.{Gain, begins, events_in}
 use Rattle.rescue_rules.proofs.MoveLemmas.{run_rest}
+use Rattle.rescue_safety.specs.Saves.{CallsFinished}
 use Rattle.rescue_safety.specs.Safe.{reads_until}
 use Rattle.rescue_safety.specs.AskedFor.{AreSeen}
 use Rattle.rescue_safety.specs.Rescue.{Rescue}
 use Rattle.rescue_safety.proofs.BegunLemmas.{writes_in}
 use Rattle.rescue_safety.proofs.ClaimLemmas.{goes_ran}
 use Rattle.rescue_safety.proofs.FinishedLemmas.{StandsAt, At}
-use Rattle.rescue_safety.proofs.SafeLemmas.{p, s, g, b, on, ok, goes, calls_are, seen_alone}
+use Rattle.rescue_safety.proofs.SafeLemmas.{p, s, g, b, calls_are, map_is, seen_alone}
 use Rattle.rescue_safety.proofs.SaveLemmas.{goes_made}
 use Rattle.saved_laws.specs.Dues.{dues_by}
+use Rattle.saved_laws.specs.Failed.{MarksTried, FailedOf}
+use Rattle.saved_laws.specs.GoesLaws.{GoesSafely, LossIsBoundedIn}
 use Rattle.saved_laws.specs.Laws.{DueSavesHaveReturned, LossIsBoundedByDues, LossIsBounded}
-use Rattle.saved_laws.proofs.CountedKept.{returned_saves_keep}
+use Rattle.saved_laws.proofs.CountedKept.{counted_keep, went}
 use Rattle.saved_laws.proofs.DuesReturned.{due_here, ready_at}
 use Rattle.saved_laws.proofs.LossLemmas.{due_settles, settles_more, save_settles, due_before}
 use Rattle.saved_laws.proofs.MovesPassed.{all_events, enough_settled, began_or}
@@ -60,27 +65,27 @@ module _ (s : Setting) (ok : IsSensible s) (on : s.has_mapfile ≡ true) (x : �
 
 -- ---- a rescue
 
-module _ (r : Rescue) (k : ℕ) (first more : List Event) (next : Event)
-    (is : with_times (reads_until (s r).sector (writes_in (take (k + 1) (g r).calls)) (g r).reads) (drop 1 (g r).times)
+module _ (b : Before) (s : Setting) (g : Gain) (q : GoesSafely b s g) (k : ℕ) (first more : List Event) (next : Event)
+    (is : with_times (reads_until s.sector (writes_in (take (k + 1) g.calls)) g.reads) (drop 1 g.times)
     ≡ first ++ next ∷ more) where
-  over_returned : StandsAt (files_before (b r) (s r).names.map) (s r).end
-      → dues_by (began_at (g r).times) first ≤ returned (take k (g r).calls)
+  over_returned : StandsAt (files_before b s.names.map) s.end
+      → dues_by (began_at g.times) first ≤ returned (take k g.calls)
   over_returned (At began was there) =
-      let made = goes_made (s r) (files_before (b r)) (g r) began was (on r) (goes r) there in
-      let ran = goes_ran (s r) (files_before (b r)) (g r) began was (on r) (goes r) there in
-      let m : Machine = begins (s r) began was (g r) in
-      let after : List Event = (all_events r k first more next 0 is).0 in
-      let run : IsRun (s r) m (first ++ next ∷ after)
-      = subst (λ (l : List Event). IsRun (s r) m l) (all_events r k first more next 0 is).1 ran.run in
-      let few : dues_by (began_at (g r).times) first ≤ due_settles (s r) (ok r) (on r) 0 m first
-      = dues_settled (s r) (ok r) (on r) 0 m first after next run in
-      omega (arith, few, enough_settled r k first more next 0 is began was made ran)
+      let made = goes_made s (files_before b) g began was q.named q.goes there in
+      let ran = goes_ran s (files_before b) g began was q.named q.goes there in
+      let m : Machine = begins s began was g in
+      let after : List Event = (all_events b s g q k first more next 0 is).0 in
+      let run : IsRun s m (first ++ next ∷ after)
+      = subst (λ (l : List Event). IsRun s m l) (all_events b s g q k first more next 0 is).1 ran.run in
+      let few : dues_by (began_at g.times) first ≤ due_settles s q.sensible q.named 0 m first
+      = dues_settled s q.sensible q.named 0 m first after next run in
+      omega (arith, few, enough_settled b s g q k first more next 0 is began was made ran)
 
-  have_returned : dues_by (began_at (g r).times) first ≤ returned (take k (g r).calls)
-  have_returned = over_returned (began_or r k first more next 0 is)
+  have_returned : dues_by (began_at g.times) first ≤ returned (take k g.calls)
+  have_returned = over_returned (began_or b s g q k first more next 0 is)
 
 -- the times of a rescue whose clock tells
-times_are : (r : Rescue) (times : List ℕ) → IsTrue r.did.call.told.after.clock.tells
+pub times_are : (r : Rescue) (times : List ℕ) → IsTrue r.did.call.told.after.clock.tells
     → r.did.call.told.after.clock.readings ≡ r.did.call.told.before.clock.readings ++ times → times ≡ (g r).times
 times_are r times tells readings =
     append_cancel_left r.did.call.told.before.clock.readings times (g r).times
@@ -105,24 +110,41 @@ due_saves_have_returned r reads k times first more next seen tells readings is =
     let at = then_events r reads k times (first ++ next ∷ more) seen same is in
     let few : dues_by (began_at times) first ≤ returned (take k (g r).calls)
     = subst (λ (ts : List ℕ). dues_by (began_at ts) first ≤ returned (take k (g r).calls)) (sym same)
-    (have_returned r k first more next at) in
+    (have_returned (b r) (s r) (g r) (went r) k first more next at) in
     subst (λ (l : List Entry). dues_by (began_at times) first ≤ returned (take k l)) (sym (calls_are r)) few
+
+-- what is found has what these reads gave, and asked for in vain
+abbrev Keeps : (sector : ℕ) → (old : List Event) → (mapfile : Option File) → (x : ℕ) → Type 0
+Keeps sector old mapfile x =
+    ((byte : ℕ) → given sector (reads_of old) x ≡ Some byte → CallsFinished mapfile x)
+    × (FailedOf sector (reads_of old) x → MarksTried mapfile x)
+
+loss_by_dues_in : (b : Before) (s : Setting) (g : Gain) (q : GoesSafely b s g) (k : ℕ) (files : List ℕ → Option File)
+    (old between more : List Event) (later : Event) (x : ℕ) → k ≤ length g.calls → LeftBy b g.calls k files
+    → events_of (reads_until s.sector (writes_in (take (k + 1) g.calls)) g.reads) g.times
+    ≡ old ++ (between ++ later ∷ more)
+    → dues_by (began_at g.times) old < dues_by (began_at g.times) (old ++ between)
+    → Keeps s.sector old (files s.names.map) x
+loss_by_dues_in b s g q k files old between more later x le left is fewer =
+    let first : List Event = old ++ between in
+    let here = is ∙ sym (append_assoc old between (later ∷ more)) in
+    let all = all_events b s g q k first more later 0 here in
+    let events : events_in g ≡ old ++ (between ++ later ∷ all.0) = all.1 ∙ append_assoc old between (later ∷ all.0) in
+    let back : dues_by (began_at g.times) first ≤ returned (take k g.calls)
+    = have_returned b s g q k first more later here in
+    counted_keep b s g q k files old (between ++ later ∷ all.0) x le left events (omega (arith, fewer, back))
 
 pub loss_by_dues : LossIsBoundedByDues
 loss_by_dues r reads k files times old between more later x seen tells readings le left is fewer =
-    let first : List Event = old ++ between in
     let same : times ≡ (g r).times = times_are r times tells readings in
-    let here = is ∙ sym (append_assoc old between (later ∷ more)) in
-    let at = then_events r reads k times (first ++ later ∷ more) seen same here in
-    let all = all_events r k first more later 0 at in
-    let events : events_of reads times ≡ old ++ (between ++ later ∷ all.0)
-    = ap (λ (ts : List ℕ). events_of reads ts) same
-    ∙ ap (λ (rs : List Reading). events_of rs (g r).times) (seen_alone r reads seen)
-    ∙ all.1 ∙ append_assoc old between (later ∷ all.0) in
-    let back : dues_by (began_at times) first ≤ returned (take k r.did.call.calls)
-    = due_saves_have_returned r reads k times first more later seen tells readings here in
-    returned_saves_keep r reads k files times old (between ++ later ∷ all.0) x seen tells readings le left events
-    (omega (arith, fewer, back))
+    let at = then_events r reads k times (old ++ (between ++ later ∷ more)) seen same is in
+    let le' : k ≤ length (g r).calls = subst (λ (l : List Entry). k ≤ length l) (calls_are r) le in
+    let left' : LeftBy (b r) (g r).calls k files
+    = subst (λ (l : List Entry). LeftBy (b r) l k files) (calls_are r) left in
+    let fewer' : dues_by (began_at (g r).times) old < dues_by (began_at (g r).times) (old ++ between)
+    = subst (λ (ts : List ℕ). dues_by (began_at ts) old < dues_by (began_at ts) (old ++ between)) same fewer in
+    subst (λ (m : List ℕ). Keeps r.command.options.sector old (files m) x) (map_is r)
+    (loss_by_dues_in (b r) (s r) (g r) (went r) k files old between more later x le' left' at fewer')
 
 -- ---- by half a minute
 
@@ -173,11 +195,30 @@ more_due last (e ∷ old) mid late low each =
     ) in lt)
     (cases_Bool (nat_le (last + save_interval) e.after))
 
+pub loss_in : LossIsBoundedIn
+loss_in b s g k files old x q le left are =
+    let P : ℕ → Type 0 = λ t. t + save_interval ≤ are.late.after in
+    let afters : List ℕ = map (λ e. e.after) old in
+    loss_by_dues_in b s g q k files old (are.between ++ are.late ∷ []) are.more are.later x le left
+    (are.begun
+    ∙ ap (λ (l : List Event). old ++ l) (sym (append_assoc are.between (are.late ∷ []) (are.later ∷ are.more))))
+    (more_due (began_at g.times) old are.between are.late (All-head P (began_at g.times) afters are.enough)
+    (All-tail P (began_at g.times) afters are.enough))
+
 pub loss_is_bounded : LossIsBounded
 loss_is_bounded r reads k files times old between more late later x seen tells readings le left is each =
-    let P : ℕ → Type 0 = λ t. t + save_interval ≤ late.after in
     let afters : List ℕ = map (λ e. e.after) old in
-    loss_by_dues r reads k files times old (between ++ late ∷ []) more later x seen tells readings le left
-    (is ∙ ap (λ (l : List Event). old ++ l) (sym (append_assoc between (late ∷ []) (later ∷ more))))
-    (more_due (began_at times) old between late (All-head P (began_at times) afters each)
-    (All-tail P (began_at times) afters each))
+    let same : times ≡ (g r).times = times_are r times tells readings in
+    let le' : k ≤ length (g r).calls = subst (λ (l : List Entry). k ≤ length l) (calls_are r) le in
+    let left' : LeftBy (b r) (g r).calls k files
+    = subst (λ (l : List Entry). LeftBy (b r) l k files) (calls_are r) left in
+    subst (λ (m : List ℕ). Keeps r.command.options.sector old (files m) x) (map_is r)
+    (loss_in (b r) (s r) (g r) k files old x (went r) le' left'
+    (record {
+      between = between;
+      late = late;
+      later = later;
+      more = more;
+      begun = then_events r reads k times (old ++ (between ++ late ∷ later ∷ more)) seen same is;
+      enough = subst (λ (ts : List ℕ). All (λ t. t + save_interval ≤ late.after) (began_at ts ∷ afters)) same each;
+    }))

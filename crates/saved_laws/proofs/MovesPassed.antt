@@ -1,11 +1,12 @@
 -- What had returned when a read after the first ones had begun to be written.
-use Rattle.std.proofs.Common.{◌≡◌, ⊎_elim, ℕ, zero, suc, ◌+◌, ◌<◌, ◌≤◌, true, if◌then◌else◌, nat_eq, List, [], ◌∷◌, ◌++◌, length, take, drop, map, Option, refl, sym, ap, ◌∙◌, subst, arith, append_assoc, length-append}
+use Rattle.std.proofs.Common.{◌≡◌, ⊎_elim, ℕ, zero, suc, ◌+◌, ◌<◌, ◌≤◌, true, List, [], ◌∷◌, ◌++◌, length, take, drop, map, Option, refl, sym, ap, ◌∙◌, subst, arith, append_assoc, length-append}
 use Rattle.std.proofs.Math.Seq.{take-nil}
 use Rattle.std.proofs.lemmas.List.{map-append}
 use Rattle.block_list.specs.declared.status.Status.{Status}
 use Rattle.mapfile_text.specs.declared.state.MapState.{MapState}
-use Rattle.faulty_source.specs.Journal.{Reading, kept}
+use Rattle.faulty_source.specs.Journal.{Reading}
 use Rattle.crash_site.specs.Calls.{Call, Entry, Done, image_open, image_sync, map_settle}
+use Rattle.rescue_rules.specs.Setting.{Setting}
 use Rattle.rescue_rules.specs.Machine.{Machine}
 use Rattle.rescue_rules.specs.MachineLaws.{IsInOrder}
 use Rattle.rescue_rules.specs.Step.{Event}
@@ -13,21 +14,21 @@ use Rattle.rescue_rules.specs.Moves.{state_after}
 use Rattle.rescue_rules.specs.Events.{began_at, with_times, reads_of}
 use Rattle.rescue_rules.specs.RunDeeds.{run_deeds}
 use Rattle.rescue_rules.specs.Snapshots.{Snapshot, last_snapshot}
-use Rattle.rescue_rules.specs.Stops.{files_before, has_barrier, is_settle}
-use Rattle.rescue_rules.specs.Work.{begins, events_in}
+use Rattle.rescue_rules.specs.Stops.{Before, files_before, has_barrier, is_settle}
+use Rattle.rescue_rules.specs.Work.{Gain, begins, events_in}
 use Rattle.rescue_rules.proofs.CutLemmas.{Cut}
 use Rattle.rescue_rules.proofs.DeedStages.{all_calls}
 use Rattle.rescue_rules.proofs.MapfileLemmas.{opening_by}
 use Rattle.rescue_rules.proofs.ReadyLemmas.{order_over}
 use Rattle.rescue_safety.specs.Safe.{reads_until}
-use Rattle.rescue_safety.specs.Rescue.{Rescue}
+use Rattle.rescue_safety.proofs.AskedLemmas.{until_front}
 use Rattle.rescue_safety.proofs.BegunLemmas.{writes_in, Past, count_both}
 use Rattle.rescue_safety.proofs.ClaimLemmas.{Ran}
 use Rattle.rescue_safety.proofs.FinishedLemmas.{StandsAt}
-use Rattle.rescue_safety.proofs.SafeLemmas.{s, g, b, on, ok, goes}
 use Rattle.rescue_safety.proofs.SaveLemmas.{Made, calls_of_run}
 use Rattle.rescue_safety.proofs.SettleLemmas.{settled}
 use Rattle.rescue_safety.proofs.ThenLemmas.{load as loaded, front, all_dry, parts, past_writes}
+use Rattle.saved_laws.specs.GoesLaws.{GoesSafely}
 use Rattle.saved_laws.proofs.LossLemmas.{dry_cut, until_zero, moved, due_settles, Returned, moves_returned}
 use Rattle.saved_laws.proofs.NothingLost.{first_settled}
 use Rattle.saved_laws.proofs.SavedLemmas.{unread_or_stands, synced}
@@ -50,13 +51,6 @@ few_events (r ∷ rs) [] = omega arith
 few_events (r ∷ rs) (t ∷ []) = omega arith
 few_events (r ∷ rs) (t ∷ u ∷ times) = omega (arith, few_events rs times)
 
-until_front : (sector : ℕ) (rs : List Reading) (n : ℕ) → (rest : List Reading) × (rs ≡ reads_until sector n rs ++ rest)
-until_front sector [] n = ([], refl)
-until_front sector (r ∷ rs) zero = (r ∷ rs, refl)
-until_front sector (r ∷ rs) (suc n) =
-    let more = until_front sector rs (if nat_eq (kept sector r) 0 then suc n else n) in
-    (more.0, ap (λ (l : List Reading). r ∷ l) more.1)
-
 -- ---- calls
 
 none_taken : (k : ℕ) (y : Entry) (ys : List Entry) → take k [] ≡ y ∷ ys → ⊥
@@ -77,25 +71,26 @@ one_less (e ∷ es) ys y (c ∷ calls) (suc k) is =
 
 -- ---- a rescue
 
-module _ (r : Rescue) (k : ℕ) (first more : List Event) (next : Event) (x : ℕ)
-    (is : with_times (reads_until (s r).sector (writes_in (take (k + 1) (g r).calls)) (g r).reads) (drop 1 (g r).times)
+module _ (b : Before) (s : Setting) (g : Gain) (q : GoesSafely b s g) (k : ℕ) (first more : List Event) (next : Event)
+    (x : ℕ)
+    (is : with_times (reads_until s.sector (writes_in (take (k + 1) g.calls)) g.reads) (drop 1 g.times)
     ≡ first ++ next ∷ more) where
   abbrev n : ℕ
-  n = writes_in (take (k + 1) (g r).calls)
+  n = writes_in (take (k + 1) g.calls)
 
   abbrev then_read : List Reading
-  then_read = reads_until (s r).sector (writes_in (take (k + 1) (g r).calls)) (g r).reads
+  then_read = reads_until s.sector (writes_in (take (k + 1) g.calls)) g.reads
 
-  rest_of : (rest : List Event) × (events_in (g r) ≡ (first ++ next ∷ more) ++ rest)
+  rest_of : (rest : List Event) × (events_in g ≡ (first ++ next ∷ more) ++ rest)
   rest_of =
-      let cut = until_front (s r).sector (g r).reads n in
-      let parts = first_events then_read cut.0 (drop 1 (g r).times) in (
+      let cut = until_front s.sector g.reads n in
+      let parts = first_events then_read cut.0 (drop 1 g.times) in (
         parts.0,
-        ap (λ (rs : List Reading). with_times rs (drop 1 (g r).times)) cut.1 ∙ parts.1
+        ap (λ (rs : List Reading). with_times rs (drop 1 g.times)) cut.1 ∙ parts.1
             ∙ ap (λ (l : List Event). l ++ parts.0) is,
       )
 
-  pub all_events : (after : List Event) × (events_in (g r) ≡ first ++ next ∷ after)
+  pub all_events : (after : List Event) × (events_in g ≡ first ++ next ∷ after)
   all_events = (more ++ rest_of.0, rest_of.1 ∙ append_assoc first (next ∷ more) rest_of.0)
 
   -- the reads by then are more than the first ones
@@ -103,102 +98,103 @@ module _ (r : Rescue) (k : ℕ) (first more : List Event) (next : Event) (x : �
   enough =
       omega (
         arith,
-        few_events then_read (drop 1 (g r).times),
+        few_events then_read (drop 1 g.times),
         ap length is ∙ length-append first (next ∷ more),
       )
 
-  module _ (began : List Status) (was : Option MapState) (made : Made (s r) began was (g r))
-      (ran : Ran (s r) began was (g r)) where
+  module _ (began : List Status) (was : Option MapState) (made : Made s began was g)
+      (ran : Ran s began was g) where
     abbrev m : Machine
-    m = begins (s r) began was (g r)
+    m = begins s began was g
 
     abbrev head : List Call
-    head = front (s r) began was (g r) made
+    head = front s began was g made
 
-    order : IsInOrder (s r) m
-    order = order_over (s r) began was (began_at (g r).times)
+    order : IsInOrder s m
+    order = order_over s began was (began_at g.times)
 
     abbrev gone : List Entry
-    gone = map Done (moved (s r) (ok r) (on r) x m first)
+    gone = map Done (moved s q.sensible q.named x m first)
 
     -- the calls of the first moves have returned
     record Passed : Type 0 where
       rest : List Entry
-      here : take k (g r).calls ≡ (map Done (front (s r) began was (g r) made)
-          ++ map Done (moved (s r) (ok r) (on r) x (begins (s r) began was (g r)) first)) ++ rest
+      here : take k g.calls ≡ (map Done (front s began was g made)
+          ++ map Done (moved s q.sensible q.named x (begins s began was g) first)) ++ rest
 
-    passed_by : (part : List Entry) → take (k + 1) (g r).calls ≡ map Done head ++ part → Cut (calls_of_run (s r) began was (g r)) part
-        → n ≡ writes_in part → Passed
+    passed_by : (part : List Entry) → take (k + 1) g.calls ≡ map Done head ++ part
+        → Cut (calls_of_run s began was g) part → n ≡ writes_in part → Passed
     passed_by part at cut same =
         let back : List Event = next ∷ all_events.0 in
-        let last : Snapshot = last_snapshot (s r) (state_after (s r) m (events_in (g r))) in
-        let cut' : Cut (all_calls (s r) (run_deeds (s r) m (first ++ back)) last) part
-        = subst (λ (l : List Event). Cut (all_calls (s r) (run_deeds (s r) m l) last) part) all_events.1 cut in
-        let read : length (reads_until (s r).sector (writes_in part) (reads_of (first ++ back))) ≡ length then_read
-        = ap (λ (l : List Event). length (reads_until (s r).sector (writes_in part) (reads_of l))) (sym all_events.1)
-        ∙ ap (λ (rs : List Reading). length (reads_until (s r).sector (writes_in part) rs)) ran.reads
-        ∙ ap (λ (i : ℕ). length (reads_until (s r).sector i (g r).reads)) (sym same) in
-        let returned : Returned (s r) (ok r) (on r) x m first part
-        = moves_returned (s r) (ok r) (on r) x m first back last part cut'
+        let last : Snapshot = last_snapshot s (state_after s m (events_in g)) in
+        let cut' : Cut (all_calls s (run_deeds s m (first ++ back)) last) part
+        = subst (λ (l : List Event). Cut (all_calls s (run_deeds s m l) last) part) all_events.1 cut in
+        let read : length (reads_until s.sector (writes_in part) (reads_of (first ++ back))) ≡ length then_read
+        = ap (λ (l : List Event). length (reads_until s.sector (writes_in part) (reads_of l))) (sym all_events.1)
+        ∙ ap (λ (rs : List Reading). length (reads_until s.sector (writes_in part) rs)) ran.reads
+        ∙ ap (λ (i : ℕ). length (reads_until s.sector i g.reads)) (sym same) in
+        let returned : Returned s q.sensible q.named x m first part
+        = moves_returned s q.sensible q.named x m first back last part cut'
         (omega (arith, read, enough)) in
-        let here : take (k + 1) (g r).calls ≡ (map Done head ++ gone) ++ returned.next ∷ returned.rest
+        let here : take (k + 1) g.calls ≡ (map Done head ++ gone) ++ returned.next ∷ returned.rest
         = at ∙ ap (λ (l : List Entry). map Done head ++ l) returned.is
         ∙ sym (append_assoc (map Done head) gone (returned.next ∷ returned.rest)) in
         let one : k + 1 ≡ suc k = omega arith in
-        let less = one_less (map Done head ++ gone) returned.rest returned.next (g r).calls k
-        (subst (λ (i : ℕ). take i (g r).calls ≡ (map Done head ++ gone) ++ returned.next ∷ returned.rest) one here) in
+        let less = one_less (map Done head ++ gone) returned.rest returned.next g.calls k
+        (subst (λ (i : ℕ). take i g.calls ≡ (map Done head ++ gone) ++ returned.next ∷ returned.rest) one here) in
         record { rest = less.0; here = less.1 }
 
     passed : Passed
     passed =
         ⊎_elim
-        (λ (c : Cut head (take (k + 1) (g r).calls)).
+        (λ (c : Cut head (take (k + 1) g.calls)).
         absurd (let no : ⊥ = omega (
           arith,
           enough,
-          ap (λ (i : ℕ). length (reads_until (s r).sector i (g r).reads))
-              (dry_cut head (take (k + 1) (g r).calls) (all_dry (s r) began was (g r) made) c),
-          until_zero (s r).sector (g r).reads,
+          ap (λ (i : ℕ). length (reads_until s.sector i g.reads))
+              (dry_cut head (take (k + 1) g.calls) (all_dry s began was g made) c),
+          until_zero s.sector g.reads,
         ) in no))
-        (λ (c : Past head (calls_of_run (s r) began was (g r)) (take (k + 1) (g r).calls)).
-        passed_by c.rest c.is c.cut (past_writes (s r) began was (g r) made (take (k + 1) (g r).calls) c))
-        (parts (s r) began was (g r) made (k + 1))
+        (λ (c : Past head (calls_of_run s began was g) (take (k + 1) g.calls)).
+        passed_by c.rest c.is c.cut (past_writes s began was g made (take (k + 1) g.calls) c))
+        (parts s began was g made (k + 1))
 
     head_synced : (rest : List Entry) → has_barrier (map Done head ++ rest) ≡ true
     head_synced rest =
-        let load : List Call = loaded (s r) began was (g r) made in
-        let front_two : List Entry = map Done made.maps ++ Done (image_open (s r).outfile true) ∷ Done (map_settle (s r).names.map) ∷ [] in
+        let load : List Call = loaded s began was g made in
+        let front_two : List Entry
+        = map Done made.maps ++ Done (image_open s.outfile true) ∷ Done (map_settle s.names.map) ∷ [] in
         ap has_barrier
-        (ap (λ (l : List Entry). l ++ rest) (map-append Done made.maps (opening_by (s r) true ++ load))
-        ∙ append_assoc (map Done made.maps) (map Done (opening_by (s r) true ++ load)) rest
-        ∙ sym (append_assoc (map Done made.maps) (Done (image_open (s r).outfile true) ∷ Done (map_settle (s r).names.map) ∷ [])
+        (ap (λ (l : List Entry). l ++ rest) (map-append Done made.maps (opening_by s true ++ load))
+        ∙ append_assoc (map Done made.maps) (map Done (opening_by s true ++ load)) rest
+        ∙ sym (append_assoc (map Done made.maps) (Done (image_open s.outfile true) ∷ Done (map_settle s.names.map) ∷ [])
         (Done image_sync ∷ (map Done load ++ rest))))
         ∙ synced front_two (map Done load ++ rest)
 
-    pub barrier : has_barrier (take k (g r).calls) ≡ true
+    pub barrier : has_barrier (take k g.calls) ≡ true
     barrier =
         ap has_barrier (passed.here ∙ append_assoc (map Done head) gone passed.rest) ∙ head_synced (gone ++ passed.rest)
 
     -- the barrier's settle, and those of the first moves
-    pub enough_settled : 1 + due_settles (s r) (ok r) (on r) x (begins (s r) began was (g r)) first
-        ≤ settled (take k (g r).calls)
+    pub enough_settled : 1 + due_settles s q.sensible q.named x (begins s began was g) first
+        ≤ settled (take k g.calls)
     enough_settled =
         omega (
           arith,
           ap settled passed.here,
           count_both is_settle (map Done head ++ gone) passed.rest,
           count_both is_settle (map Done head) gone,
-          first_settled (s r) began was (g r) made (ok r) order ran.run x,
+          first_settled s began was g made q.sensible order ran.run x,
         )
 
-  pub began_or : StandsAt (files_before (b r) (s r).names.map) (s r).end
+  pub began_or : StandsAt (files_before b s.names.map) s.end
   began_or =
       ⊎_elim
-      (λ (none : (g r).reads ≡ []).
+      (λ (none : g.reads ≡ []).
       absurd (let no : ⊥ = omega (
         arith,
         enough,
-        ap (λ (rs : List Reading). length (reads_until (s r).sector n rs)) none,
+        ap (λ (rs : List Reading). length (reads_until s.sector n rs)) none,
       ) in no))
-      (λ (at : StandsAt (files_before (b r) (s r).names.map) (s r).end). at)
-      (unread_or_stands (s r) (files_before (b r)) (g r) (on r) (goes r))
+      (λ (at : StandsAt (files_before b s.names.map) s.end). at)
+      (unread_or_stands s (files_before b) g q.named q.goes)

@@ -382,7 +382,7 @@ module _ (s : Setting) where
 
 -- ---- the call that failed
 
-never_done : (xs : List Call) (before after : List Entry) (call : Call) (steps : ℕ)
+pub never_done : (xs : List Call) (before after : List Entry) (call : Call) (steps : ℕ)
     → map Done xs ≡ before ++ Failed call steps ∷ after → ⊥
 never_done [] [] after call steps is = absurd (cc)
 never_done [] (e ∷ before) after call steps is = absurd (cc)
@@ -394,7 +394,7 @@ none_after : (before after : List Entry) (e : Entry) → [] ≡ before ++ e ∷ 
 none_after [] after e is = absurd (cc)
 none_after (d ∷ before) after e is = absurd (cc)
 
-last_failed : (xs : List Call) (z : Call) (n : ℕ) (before after : List Entry) (call : Call) (steps : ℕ)
+pub last_failed : (xs : List Call) (z : Call) (n : ℕ) (before after : List Entry) (call : Call) (steps : ℕ)
     → map Done xs ++ Failed z n ∷ [] ≡ before ++ Failed call steps ∷ after → (after ≡ []) × (Failed z n ≡ Failed call steps)
 last_failed [] z n [] after call steps is =
     let same : Failed z n ≡ Failed call steps = cc in

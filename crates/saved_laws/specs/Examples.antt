@@ -1,5 +1,5 @@
 -- A small rescue, computed: its clock goes on by 40 seconds and back, and one save is due.
-use Rattle.std.specs.Prelude.{◌≡◌, ◌≢◌, ◌↔◌, ℕ, ◌+◌, ◌≤◌, List, [], ◌∷◌, ◌++◌, length, take, map, replicate, All, Option, Some, None}
+use Rattle.std.specs.Prelude.{◌≡◌, ◌≢◌, ◌↔◌, ℕ, ◌+◌, ◌<◌, ◌≤◌, List, [], ◌∷◌, ◌++◌, length, take, map, replicate, All, Option, Some, None}
 use Rattle.block_list.specs.declared.status.Status.{Status}
 use Rattle.block_list.specs.declared.status.Status.TheVariants.{NonTried, BadSector, Finished}
 use Rattle.block_list.specs.Map.{Has}
@@ -19,9 +19,11 @@ use Rattle.rescue_rules.specs.Snapshots.{snapshots}
 use Rattle.rescue_rules.specs.Stops.{LeftBy}
 use Rattle.rescue_rules.specs.Work.{Gain, opening_calls, Goes}
 use Rattle.rescue_rules.specs.Examples.{small, event_at}
+use Rattle.rescue_safety.specs.Saves.{CallsFinished}
 use Rattle.rescue_safety.specs.Safe.{Run, by_then}
 use Rattle.rescue_safety.specs.Runs.{resting}
 use Rattle.saved_laws.specs.Failed.{Marks}
+use Rattle.saved_laws.specs.GoesLaws.{GoesSafely, AreOld}
 
 -- an input of ten bytes by sectors of two
 abbrev pub five : Setting
@@ -93,8 +95,8 @@ two_writes = map Done opening ++ Done (image_write 0 (7 ∷ 7 ∷ [])) ∷ Done 
 abbrev pub third : ℕ
 third = length opening + length (run_calls five five_start (old_reads ++ late_read ∷ []))
 
--- The rescue is stopped within its third write. It meets what `LossIsBounded` and `FailedIsKept` ask for, and each stop
--- finds what they say:
+-- The rescue is stopped within its third write. Its calls, reads and times are such as `LossIsBounded` and
+-- `FailedIsKept` ask for, and each stop finds what they say:
 pub record StopFindsWhatIsOld : Type 0 where
   pub goes : Goes five (λ name. None) five_gain
   -- All reads count: the old ones, the late one, and two later.
@@ -112,3 +114,11 @@ pub record StopFindsWhatIsOld : Type 0 where
       → (x : ℕ) → status ≢ NonTried → Marks (files five.names.map) status x
       ↔ Has (Finished ∷ Finished ∷ BadSector ∷ BadSector ∷ Finished ∷ Finished ∷ NonTried ∷ NonTried ∷ NonTried ∷ NonTried
       ∷ []) status x
+
+-- That stop meets all that `LossIsBoundedIn` asks for. So the mapfile found has the first read finished.
+pub record StopKeepsWhatIsOld : Type 0 where
+  pub went : GoesSafely five_run.past five five_gain
+  pub within : third ≤ length five_gain.calls
+  pub old : AreOld five five_gain third old_reads
+  pub keeps : (files : List ℕ → Option File) → LeftBy five_run.past five_gain.calls third files → (x : ℕ) → x < 2
+      → CallsFinished (files five.names.map) x

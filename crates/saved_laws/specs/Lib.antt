@@ -1,4 +1,5 @@
 pub mod Failed
 pub mod Dues
 pub mod Laws
+pub mod GoesLaws
 pub mod Examples

@@ -1,6 +1,7 @@
 //! What the definitions mean.
-ghost use Rattle.saved_laws.specs.Examples.{SavesWhatIsOld, StopFindsWhatIsOld};
-ghost use Rattle.saved_laws.specs.Laws.{BadWasAsked, ChainKeepsFailed, ChainKeepsOld, ChainKeepsSaved, DueSavesHaveReturned, DueSavesReturn, FailedIsKept, FailedWasAsked, FinishedAtEnd, LossIsBounded, LossIsBoundedByDues, NothingSavedIsLost, ReadsWait, ReturnedSavesKeep, SavesOnlyGrow, TriedAtEnd, TriedIsKept};
+ghost use Rattle.saved_laws.specs.Examples.{SavesWhatIsOld, StopFindsWhatIsOld, StopKeepsWhatIsOld};
+ghost use Rattle.saved_laws.specs.GoesLaws.{LossIsBoundedIn};
+ghost use Rattle.saved_laws.specs.Laws.{AnsweredCallIsCounted, BadWasAsked, ChainKeepsFailed, ChainKeepsOld, ChainKeepsSaved, DueSavesHaveReturned, DueSavesReturn, EachReadIsAnEvent, EachReadIsTimed, FailedCallIsAnswered, FailedIsKept, FailedWasAsked, FinishedAtEnd, LossIsBounded, LossIsBoundedByDues, NothingSavedIsLost, ReadsComeAfterTheBarrier, ReadsWait, ReturnedSavesKeep, SavesOnlyGrow, TriedAtEnd, TriedIsKept};
 
 /// What reads gave whose bytes had begun to be written before a save that returned, every later stop finds finished.
 pub fn nothing_saved_is_lost()
@@ -17,7 +18,8 @@ pub fn tried_at_end()
     ensures { TriedAtEnd }
 {}
 
-/// By the clock's readings, a stop costs at most what reads gave in half a minute, and the last three reads.
+/// By the readings of a clock that never goes back, a stop costs at most the last three reads that gave something, and
+/// those that ended in the half minute before.
 pub fn loss_is_bounded()
     ensures { LossIsBounded }
 {}
@@ -48,7 +50,7 @@ pub fn tried_is_kept()
     ensures { TriedIsKept }
 {}
 
-/// What a stop finds finished, each stop finds finished once a further save has returned.
+/// What a stop past the barrier finds finished, each stop finds finished once a further save has returned.
 pub fn saves_only_grow()
     ensures { SavesOnlyGrow }
 {}
@@ -58,12 +60,14 @@ pub fn a_chain_keeps_what_is_saved()
     ensures { ChainKeepsSaved }
 {}
 
-/// What one run of a chain asked for in vain before a save that returned, each stop after the chain finds tried.
+/// What one run of a chain asked for in vain before a save that returned, each stop after the chain finds tried, unless
+/// a later run was asked to try it again.
 pub fn a_chain_keeps_what_failed()
     ensures { ChainKeepsFailed }
 {}
 
-/// What the first mapfile of a chain calls finished or tried, each stop after the chain finds so.
+/// What the first mapfile of a chain calls finished or tried, each stop after the chain finds so, if all files were
+/// durable at first. What is tried may be taken back by a run that was asked to try again.
 pub fn a_chain_keeps_what_is_old()
     ensures { ChainKeepsOld }
 {}
@@ -78,14 +82,47 @@ pub fn due_saves_have_returned()
     ensures { DueSavesHaveReturned }
 {}
 
-/// Once a save came due after them and a later read has begun to be written, every stop finds finished what reads gave.
+/// Once a save came due after some reads and a later read has begun to be written, every stop finds finished what those
+/// reads gave.
 pub fn loss_is_bounded_by_dues()
     ensures { LossIsBoundedByDues }
 {}
 
-/// A failed call is a rescue's last, and no read came before a write or a save that it was to wait for.
+/// A failed call is a rescue's last. Nothing was kept of the reads after those whose bytes had begun to be written by
+/// then, and after a write that fails there are none.
 pub fn reads_wait()
     ensures { ReadsWait }
+{}
+
+/// A rescue whose barrier never returned has read nothing.
+pub fn reads_come_after_the_barrier()
+    ensures { ReadsComeAfterTheBarrier }
+{}
+
+/// If a call on the files is listed as failed, the answer names one of its kind.
+pub fn a_failed_call_is_answered()
+    ensures { FailedCallIsAnswered }
+{}
+
+/// If the answer names a failed call, one has failed, even if none is listed.
+pub fn an_answered_call_is_counted()
+    ensures { AnsweredCallIsCounted }
+{}
+
+/// A rescue whose run began reads the clock once, twice more for each read that was answered, and once more for one
+/// that was lost.
+pub fn each_read_is_timed()
+    ensures { EachReadIsTimed }
+{}
+
+/// The laws by the clock speak of all reads, since each has its two readings of the clock.
+pub fn each_read_is_an_event()
+    ensures { EachReadIsAnEvent }
+{}
+
+/// The bound on what a stop costs holds of whatever goes as a rescue does, even if no call of `ddrescue` made it.
+pub fn loss_is_bounded_in_any_rescue()
+    ensures { LossIsBoundedIn }
 {}
 
 /// A run whose clock goes on by 40 seconds saves what is older.
@@ -96,4 +133,9 @@ pub fn it_saves_what_is_old()
 /// A stop within the write after that save finds what it has, and nothing newer.
 pub fn a_stop_finds_what_is_old()
     ensures { StopFindsWhatIsOld }
+{}
+
+/// That stop is a case of the bound on what a stop costs.
+pub fn a_stop_keeps_what_is_old()
+    ensures { StopKeepsWhatIsOld }
 {}

@@ -1,4 +1,4 @@
-use Rattle.rescue_safety.proofs.SafeLemmas.{none_is_read_again}
+use Rattle.rescue_safety.proofs.AskedLemmas.{none_is_read_again}
 use Rattle.rescue_safety.proofs.laws.none_is_read_again.Goals as goal
 
 pub returns : goal.returns

@@ -1,0 +1,5 @@
+use Rattle.saved_laws.proofs.AnsweredLemmas.{each_read_is_timed}
+use Rattle.saved_laws.proofs.laws.each_read_is_timed.Goals as goal
+
+pub returns : goal.returns
+returns c = each_read_is_timed
