@@ -23,7 +23,7 @@ use task_files::ending::{Ending, Which};
 fn manual() -> Manual {
     Manual {
         usage: "ddrescue [options] infile outfile [mapfile]; 'man ddrescue' lists the options and names the version",
-        option: "an option of this program; 'man ddrescue' lists them, and what replaces GNU's other options",
+        option: "an option of this program; 'man ddrescue' lists them, and what replaces GNU's others (-d: start ddrescuerun)",
         operand: "a file's name",
     }
 }
@@ -82,7 +82,7 @@ fn line_on_fault(
     Some(line_of(PROGRAM, cause))
 }
 
-/// Which limit a run met, and whether the same command goes on.
+/// Which limit a run met, and whether the same command resumes the rescue.
 fn limit_cause<'a>(limit: Limit, resumes: bool) -> Cause<'a> {
     let option = match limit {
         Limit::TooManyErrors(_) => LimitOption::ReadErrors,

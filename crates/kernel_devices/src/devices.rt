@@ -118,14 +118,28 @@ fn add_listed(
     Ok(())
 }
 
+/// The name of a device's node by what the kernel tells of the device.
+fn node_told(rt: &HostRuntime, told: &[u8]) -> io::Result<Option<String>> {
+    match node_name(told) {
+        Some(name) => Ok(Some(format!(in rt.alloc(); "/dev/{name}")?)),
+        None => Ok(None),
+    }
+}
+
+/// The name of a device's node, if the kernel tells it.
+fn told_node(rt: &HostRuntime, number: u64) -> io::Result<Option<String>> {
+    match read_if_told(rt, name_of(rt, number, "uevent")?.as_str())? {
+        Some(told) => node_told(rt, told.as_slice()),
+        None => Ok(None),
+    }
+}
+
 /// The name of a device's node, or its number if the kernel doesn't tell the name.
 fn node_of(rt: &HostRuntime, number: u64) -> io::Result<String> {
-    if let Some(told) = read_if_told(rt, name_of(rt, number, "uevent")?.as_str())? {
-        if let Some(name) = node_name(told.as_slice()) {
-            return Ok(format!(in rt.alloc(); "/dev/{name}")?);
-        }
+    match told_node(rt, number)? {
+        Some(name) => Ok(name),
+        None => device_text(rt, number),
     }
-    device_text(rt, number)
 }
 
 /// The disk of which a device is a partition.
@@ -136,15 +150,20 @@ fn disk_of(rt: &HostRuntime, number: u64) -> io::Result<Option<u64>> {
     number_in(rt, name_of(rt, number, "../dev")?.as_str())
 }
 
+/// The name that a file of the kernel's holds, if it is text.
+fn name_held(rt: &HostRuntime, text: &[u8]) -> io::Result<Option<String>> {
+    match str::from_utf8(text) {
+        Ok(name) => Ok(Some(String::from_str(rt.alloc(), name.trim_ascii())?)),
+        Err(_) => Ok(None),
+    }
+}
+
 /// The name of the file or device of which a loop device is made. The kernel has this folder about the loop device.
 fn backing_name(rt: &HostRuntime, folder: &str) -> io::Result<Option<String>> {
     let name = format!(in rt.alloc(); "{folder}/loop/backing_file")?;
-    let Some(text) = read_if_told(rt, name.as_str())? else {
-        return Ok(None);
-    };
-    match str::from_utf8(text.as_slice()) {
-        Ok(backing) => Ok(Some(String::from_str(rt.alloc(), backing.trim_ascii())?)),
-        Err(_) => Ok(None),
+    match read_if_told(rt, name.as_str())? {
+        Some(text) => name_held(rt, text.as_slice()),
+        None => Ok(None),
     }
 }
 
@@ -352,6 +371,34 @@ fn find_holder(rt: &HostRuntime, devices: &[Identity]) -> io::Result<Option<Devi
     Ok(None)
 }
 
+/// Whether a name is that of one of these devices.
+fn is_among(rt: &HostRuntime, name: &str, devices: &[Identity]) -> io::Result<bool> {
+    match found_as(rt, name)? {
+        Some(found) => Ok(devices.contains(&found)),
+        None => Ok(false),
+    }
+}
+
+/// The name of the node of a device about which the kernel has this folder.
+fn node_in(rt: &HostRuntime, folder: &str) -> io::Result<Option<String>> {
+    let numbered = format!(in rt.alloc(); "{folder}/dev")?;
+    match number_in(rt, numbered.as_str())? {
+        Some(number) => Ok(Some(node_of(rt, number)?)),
+        None => Ok(None),
+    }
+}
+
+/// The use of a device by one about which the kernel has this folder.
+fn use_in(rt: &HostRuntime, folder: &str, device: String) -> io::Result<Option<DeviceUse>> {
+    match node_in(rt, folder)? {
+        Some(name) => Ok(Some(DeviceUse {
+            device,
+            user: User::Device(name),
+        })),
+        None => Ok(None),
+    }
+}
+
 /// A loop device that is made of one of these, about which the kernel has this folder.
 fn looped_in(
     rt: &HostRuntime,
@@ -361,20 +408,10 @@ fn looped_in(
     let Some(name) = backing_name(rt, folder)? else {
         return Ok(None);
     };
-    let Some(backing) = found_as(rt, name.as_str())? else {
-        return Ok(None);
-    };
-    if !devices.contains(&backing) {
+    if !is_among(rt, name.as_str(), devices)? {
         return Ok(None);
     }
-    let numbered = format!(in rt.alloc(); "{folder}/dev")?;
-    let Some(number) = number_in(rt, numbered.as_str())? else {
-        return Ok(None);
-    };
-    Ok(Some(DeviceUse {
-        device: name,
-        user: User::Device(node_of(rt, number)?),
-    }))
+    use_in(rt, folder, name)
 }
 
 /// One of these devices of which a loop device is made.
@@ -394,28 +431,35 @@ fn find_looped(rt: &HostRuntime, devices: &[Identity]) -> io::Result<Option<Devi
     Ok(None)
 }
 
+/// What is made of one of these devices.
+fn find_made(rt: &HostRuntime, devices: &[Identity]) -> io::Result<Option<DeviceUse>> {
+    match find_holder(rt, devices)? {
+        Some(found) => Ok(Some(found)),
+        None => find_looped(rt, devices),
+    }
+}
+
+/// What uses one of these devices besides a mount.
+fn find_unmounted(rt: &HostRuntime, devices: &[Identity]) -> io::Result<Option<DeviceUse>> {
+    match find_swap(rt, devices)? {
+        Some(found) => Ok(Some(found)),
+        None => find_made(rt, devices),
+    }
+}
+
 /// What uses one of these devices, if that is known, by the table of mounts.
 fn find_use_of(
     rt: &HostRuntime,
     mounts: &Option<Vec<u8>>,
     devices: &[Identity],
 ) -> io::Result<Option<DeviceUse>> {
-    let found = match mounts {
-        Some(table) => find_mounted(rt, table.as_slice(), devices)?,
-        None => None,
+    let Some(table) = mounts else {
+        return find_unmounted(rt, devices);
     };
-    if found.is_some() {
-        return Ok(found);
+    match find_mounted(rt, table.as_slice(), devices)? {
+        Some(found) => Ok(Some(found)),
+        None => find_unmounted(rt, devices),
     }
-    let found = find_swap(rt, devices)?;
-    if found.is_some() {
-        return Ok(found);
-    }
-    let found = find_holder(rt, devices)?;
-    if found.is_some() {
-        return Ok(found);
-    }
-    find_looped(rt, devices)
 }
 
 /// What keeps a block device from being written, if that is known: what uses it, a partition of it, its disk, or a

@@ -25,21 +25,33 @@ pub struct MountLine<'a> {
     pub options: &'a str,
 }
 
+/// The number of the mount, the numbers of its device, and its folder: the first field, the third and the fifth.
+fn front_fields(front: &str) -> Option<(&str, &str, &str)> {
+    let mut fields = front.split_ascii_whitespace();
+    let number = fields.next()?;
+    let _parent = fields.next()?;
+    let device = fields.next()?;
+    let _root = fields.next()?;
+    let folder = fields.next()?;
+    Some((number, device, folder))
+}
+
+/// The kind of the file system, what was mounted, and the options.
+fn back_fields(back: &str) -> Option<(&str, &str, &str)> {
+    let mut fields = back.split_ascii_whitespace();
+    let kind = fields.next()?;
+    let source = fields.next()?;
+    let options = fields.next()?;
+    Some((kind, source, options))
+}
+
 impl<'a> MountLine<'a> {
     /// Reads a line: six fields and some that are optional, a hyphen, and three fields.
     pub(crate) fn read(line: &'a [u8]) -> Option<MountLine<'a>> {
         let line = str::from_utf8(line).ok()?;
         let (front, back) = line.split_once(" - ")?;
-        let mut fields = front.split_ascii_whitespace();
-        let number = fields.next()?;
-        let _parent = fields.next()?;
-        let device = fields.next()?;
-        let _root = fields.next()?;
-        let folder = fields.next()?;
-        let mut fields = back.split_ascii_whitespace();
-        let kind = fields.next()?;
-        let source = fields.next()?;
-        let options = fields.next()?;
+        let (number, device, folder) = front_fields(front)?;
+        let (kind, source, options) = back_fields(back)?;
         Some(MountLine {
             number,
             device,

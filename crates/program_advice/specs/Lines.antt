@@ -3,6 +3,8 @@ use Rattle.std.specs.Prelude.{ℕ, Bool, true, false, List, [], ◌∷◌, ◌++
 use Rattle.std.specs.Fmt.{decimal}
 use Rattle.mapfile_text.specs.Printed.{shown_byte}
 use Rattle.program_advice.specs.declared.cause.Named.{Named}
+use Rattle.program_advice.specs.declared.cause.LimitOption.{LimitOption}
+use Rattle.program_advice.specs.declared.cause.LimitOption.TheVariants.{ReadErrors, BadAreas, Timeout}
 use Rattle.program_advice.specs.declared.cause.UsedBy.{UsedBy}
 use Rattle.program_advice.specs.declared.cause.UsedBy.TheVariants.{Mount, Swap, Device}
 use Rattle.program_advice.specs.declared.cause.Cause.{Cause}
@@ -31,15 +33,17 @@ use_text device (Mount folder) = device_text device ++ codes " is mounted at " +
 use_text device Swap = device_text device ++ codes " is swap space"
 use_text device (Device name) = device_text name.now ++ codes " is made of " ++ device_text device
 
--- the advice after a limit
-abbrev pub resuming_text : Bool → List ℕ
-resuming_text false = []
-resuming_text true = codes "; the same command goes on from the saved map"
+-- the advice after a limit that this option set
+abbrev pub resuming_text : LimitOption → Bool → List ℕ
+resuming_text option false = []
+resuming_text ReadErrors true = codes "; the same command (without -A and -M) resumes the rescue"
+resuming_text BadAreas true = codes "; the same command (without -A and -M) resumes the rescue"
+resuming_text Timeout true = codes "; let the disk rest, then resume past this place (-i)"
 
 -- the advice after a file system was full
 abbrev pub room_text : Bool → List ℕ
 room_text false = []
-room_text true = codes ", which goes on from the last saved map"
+room_text true = codes ", which continues from the last saved map, if there is one"
 
 -- the advice on a mapfile that couldn't be saved
 abbrev pub unsaved_text : (name reason : List ℕ) → List ℕ
@@ -73,7 +77,7 @@ cause_text (BadLine file line) = bad_line_text file line.now
 cause_text (LargeMap file bytes) = large_map_text file bytes
 cause_text (OneName first second name) = role_text first ++ codes " and " ++ role_text second ++ codes " are both "
     ++ quoted name.now
-cause_text (Limit option resumes) = option_text option ++ resuming_text resumes
+cause_text (Limit option resumes) = option_text option ++ resuming_text option resumes
 cause_text (Stream stream reason) = stream_text stream ++ cut 60 reason.now
 cause_text (Argument word wanted) = quoted word.now ++ codes " isn't " ++ cut 150 wanted.now
 cause_text (Usage usage) = codes "usage: " ++ cut 150 usage.now

@@ -29,7 +29,7 @@ abbrev pub doing_text : Doing → List ℕ
 doing_text Open = codes "cannot open "
 doing_text Read = codes "cannot read "
 doing_text Write = codes "cannot write "
-doing_text Sync = codes "cannot sync "
+doing_text Sync = codes "cannot flush "
 doing_text Remove = codes "cannot remove "
 
 -- the text on a file that follows its name
@@ -44,7 +44,7 @@ fact_text Unplugged = codes " isn't there: is the disk connected?"
 fact_text Exists = codes " exists: option -f replaces it"
 fact_text Empty = codes " is empty"
 fact_text NoMap = codes " isn't a mapfile, or it was damaged"
-fact_text Replaced = codes " was replaced by another program"
+fact_text Replaced = codes " or its draft (.tmp) was replaced by another program"
 
 -- which stream failed
 abbrev pub stream_text : Stream → List ℕ
@@ -59,22 +59,22 @@ option_text Timeout = codes "option -T set this limit"
 
 -- what follows the number of bytes that a run left
 abbrev pub left_text : (skips loses_neighbors : Bool) → List ℕ
-left_text false false = codes " B weren't read; with option -r 3 the same command tries the bad sectors again"
+left_text false false = codes " B weren't read; with -r 3 and without -X the same command tries the bad sectors again"
 left_text false true = codes " B weren't read; ddrescuerun reads past the kernel's cache and can get more of them"
-left_text true false = codes " B weren't read; without -n and -N the same command goes on with them"
+left_text true false = codes " B weren't read; with -r 3 but not -n or -N the same command tries them again"
 left_text true true =
-    codes " B weren't read; without -n and -N the same command goes on with them, and ddrescuerun can get more"
+    codes " B weren't read; with -r 3 but not -n or -N the same command tries them again; ddrescuerun can get more"
 
 -- the advice that names nothing
 abbrev pub hint_text : Hint → List ℕ
 hint_text SameFile = codes "infile and outfile are the same file"
 hint_text InputLost = codes "reconnect the disk and give the same command (its name may have changed)"
-hint_text StoppedRescue = codes "stopped as asked; the map is saved, and the same command goes on"
+hint_text StoppedRescue = codes "stopped as asked; the map is saved, and the same command (without -A and -M) resumes"
 hint_text StoppedWithoutMap = codes "stopped as asked; there is no mapfile, so the same command begins anew"
 hint_text StoppedComparison = codes "stopped as asked; nothing was saved"
 hint_text StoppedSearch = codes "stopped as asked"
 hint_text NoMemory = codes "memory is short: end other programs and give the same command"
 hint_text BlockNumbers = codes "each line of the list is one block number, such as 17 or 0x11"
 hint_text NoTable = codes "the infile has no DOS partition table that can be read there"
-hint_text OtherTable = codes "the infile has a GPT: 'fdisk -l' shows the places for options -i and -s of ddrescue"
-hint_text NoPartition = codes "'fdisk -l' lists the partitions of a disk or an image"
+hint_text OtherTable = codes "the infile has a GPT: -i and -s are 512 times start and size in /sys/block/DISK/PARTITION"
+hint_text NoPartition = codes "'lsblk' lists a disk's partitions, and 'fdisk -l' those of an image"

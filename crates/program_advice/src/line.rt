@@ -5,7 +5,7 @@ ghost use Rattle.mapfile_text.specs.Printed.{shown_byte};
 ghost use Rattle.arrayvec.specs.ArrayVec.{array_vec_len};
 ghost use Rattle.program_advice.specs.Lines.{IsOneLine, bad_line_text, cached_text, cause_text, cut, device_text, large_map_text, line_text, named_text, quoted, resuming_text, room_text, unsaved_text, use_text};
 
-use crate::cause::{Cause, Named, UsedBy};
+use crate::cause::{Cause, LimitOption, Named, UsedBy};
 use crate::texts::{
     doing_text, fact_text, hint_text, left_text, option_text, role_text, stream_text,
 };
@@ -96,14 +96,26 @@ fn add_use(line: &mut Line, device: &str, by: UsedBy<'_>)
     }
 }
 
-/// Adds the advice after a limit.
-fn add_resuming(line: &mut Line, resumes: bool)
+/// Adds the advice after a limit that this option set.
+fn add_resuming(line: &mut Line, option: LimitOption, resumes: bool)
     requires { array_vec_len line.old ≤ 400 }
-    ensures text { line.new.items ≡ line.old.items ++ resuming_text resumes }
+    ensures text { line.new.items ≡ line.old.items ++ resuming_text option resumes }
     ensures len { array_vec_len line.new ≤ array_vec_len line.old + 60 }
 {
-    if resumes {
-        add(line, "; the same command goes on from the saved map");
+    if !resumes {
+        return;
+    }
+    match option {
+        LimitOption::ReadErrors | LimitOption::BadAreas => {
+            add(
+                line,
+                "; the same command (without -A and -M) resumes the rescue",
+            );
+        }
+        LimitOption::Timeout => add(
+            line,
+            "; let the disk rest, then resume past this place (-i)",
+        ),
     }
 }
 
@@ -114,7 +126,10 @@ fn add_room(line: &mut Line, resumes: bool)
     ensures len { array_vec_len line.new ≤ array_vec_len line.old + 60 }
 {
     if resumes {
-        add(line, ", which goes on from the last saved map");
+        add(
+            line,
+            ", which continues from the last saved map, if there is one",
+        );
     }
 }
 
@@ -223,7 +238,7 @@ fn add_cause(line: &mut Line, cause: Cause<'_>)
         }
         Cause::Limit { option, resumes } => {
             add(line, option_text(option));
-            add_resuming(line, resumes);
+            add_resuming(line, option, resumes);
         }
         Cause::Stream { stream, reason } => {
             add(line, stream_text(stream));

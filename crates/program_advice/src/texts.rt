@@ -30,7 +30,7 @@ pub(crate) fn doing_text(doing: Doing) -> &'static str
         Doing::Open => "cannot open ",
         Doing::Read => "cannot read ",
         Doing::Write => "cannot write ",
-        Doing::Sync => "cannot sync ",
+        Doing::Sync => "cannot flush ",
         Doing::Remove => "cannot remove ",
     }
 }
@@ -55,7 +55,7 @@ pub(crate) fn fact_text(fact: Fact) -> &'static str
         Fact::Exists => " exists: option -f replaces it",
         Fact::Empty => " is empty",
         Fact::NoMap => " isn't a mapfile, or it was damaged",
-        Fact::Replaced => " was replaced by another program",
+        Fact::Replaced => " or its draft (.tmp) was replaced by another program",
     }
 }
 
@@ -89,14 +89,15 @@ pub(crate) fn left_text(skips: bool, loses_neighbors: bool) -> &'static str
 {
     match (skips, loses_neighbors) {
         (false, false) => {
-            " B weren't read; with option -r 3 the same command tries the bad sectors again"
+            " B weren't read; with -r 3 and without -X the same command tries the bad sectors again"
         }
         (false, true) => {
             " B weren't read; ddrescuerun reads past the kernel's cache and can get more of them"
         }
-        (true, false) => " B weren't read; without -n and -N the same command goes on with them",
+        (true, false) =>
+            " B weren't read; with -r 3 but not -n or -N the same command tries them again",
         (true, true) => {
-            " B weren't read; without -n and -N the same command goes on with them, and ddrescuerun can get more"
+            " B weren't read; with -r 3 but not -n or -N the same command tries them again; ddrescuerun can get more"
         }
     }
 }
@@ -111,7 +112,9 @@ pub(crate) fn hint_text(hint: Hint) -> &'static str
         Hint::InputLost => {
             "reconnect the disk and give the same command (its name may have changed)"
         }
-        Hint::StoppedRescue => "stopped as asked; the map is saved, and the same command goes on",
+        Hint::StoppedRescue => {
+            "stopped as asked; the map is saved, and the same command (without -A and -M) resumes"
+        }
         Hint::StoppedWithoutMap => {
             "stopped as asked; there is no mapfile, so the same command begins anew"
         }
@@ -121,7 +124,7 @@ pub(crate) fn hint_text(hint: Hint) -> &'static str
         Hint::BlockNumbers => "each line of the list is one block number, such as 17 or 0x11",
         Hint::NoTable => "the infile has no DOS partition table that can be read there",
         Hint::OtherTable =>
-            "the infile has a GPT: 'fdisk -l' shows the places for options -i and -s of ddrescue",
-        Hint::NoPartition => "'fdisk -l' lists the partitions of a disk or an image",
+            "the infile has a GPT: -i and -s are 512 times start and size in /sys/block/DISK/PARTITION",
+        Hint::NoPartition => "'lsblk' lists a disk's partitions, and 'fdisk -l' those of an image",
     }
 }

@@ -40,7 +40,7 @@ fn word_cause<'a>(words: &'a Words, fault: WordFault, manual: Manual) -> Option<
         WordFault::UnknownShort { word, .. } | WordFault::UnknownLong { word } => {
             (word, manual.option)
         }
-        WordFault::Ambiguous { word } => (word, "the beginning of one option only"),
+        WordFault::Ambiguous { word } => (word, "enough of a name: several options begin with it"),
         WordFault::MissingValue { word } => (word, "followed by its value"),
         WordFault::UnwantedValue { word } => (word, "an option that takes a value"),
         WordFault::NoMemory => return None,
@@ -61,19 +61,17 @@ fn wanted_text(wants: Wants) -> &'static str {
             "a size that fits here (4Ki is 4096, 4k is 4000)"
         }
         Wants::Retries => "a number from 0 to 65535",
-        Wants::Areas | Wants::Number => "a number that fits here",
+        Wants::Areas | Wants::Number => "a whole number, 0 or more",
         Wants::Cells => "a number from 1 to 1000",
         Wants::Kib => "a number from 1 to 65536",
-        Wants::Interval => "a time that fits here (90 is 90 s, 2m is 120 s)",
+        Wants::Interval => "a time in whole units (90 is 90 s, 2m is 120 s)",
         Wants::TypeLists => "two lists of types, such as */,-",
         Wants::Types => "a list of types, such as - or */-",
-        Wants::Nothing
-        | Wants::OneType
-        | Wants::TwoTypes
-        | Wants::Mapfile
-        | Wants::DomainMap
-        | Wants::TestMap
-        | Wants::Coloring => "a value that fits here",
+        Wants::OneType => "one type, such as -",
+        Wants::TwoTypes => "two types, such as -+",
+        Wants::Mapfile | Wants::DomainMap | Wants::TestMap => "a file's name",
+        Wants::Coloring => "always, never or auto",
+        Wants::Nothing => "a value that fits here",
     }
 }
 

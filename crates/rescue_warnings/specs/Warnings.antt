@@ -59,10 +59,10 @@ abbrev pub advice_said : List ℕ → Names → Advice → List ℕ
 advice_said front names (OutfileShort n e) =
     number_said (number_said (outfile_said front names (codes " has ")) n
     (codes " B, but the mapfile calls positions up to ")) e
-    (codes " finished: what is missing won't be read again; is its disk connected? else run ddrescueverify")
+    (codes " finished: what is missing won't be read again; mount the outfile's disk, or see 'man ddrescue'")
 advice_said front names (MapPastInfile e n) =
     number_said (number_said (infile_said front names (codes " has ")) n
-    (codes " B: was the mapfile made of a disk of ")) e (codes " B?")
+    (codes " B, but the mapfile ends at ")) e (codes ": if it is another disk's, stop now")
 advice_said front names EmptyInfile = infile_said front names (codes " has no bytes")
 advice_said front names (BeginsPastInfile n) = number_said (infile_said front names (codes " ends at ")) n
     (codes ", and option -i begins there or past it: there is nothing to read")
@@ -71,7 +71,7 @@ advice_said front names NothingListed =
     front ++ codes "option -C takes only what the mapfile lists, and it lists nothing"
 advice_said front names (NewMapfile n) =
     number_said (mapfile_said front names (codes " doesn't exist yet, but the outfile has ")) n
-    (codes " B: is the mapfile's name right?")
+    (codes " B: is the mapfile's name right? if not, all is read again")
 advice_said front names LinkedMapfile =
     mapfile_said front names (codes " is a link, and the first save puts a file in its place")
 advice_said front names (UnsafeOutfile kind) = outfile_said front names (storage_text kind)
@@ -80,7 +80,7 @@ advice_said front names NewOutfile = outfile_said front names (codes " doesn't e
 advice_said front names NothingToFill = mapfile_said front names (codes " lists nothing, so fill mode writes nothing")
 advice_said front names (LongPattern n c) =
     number_said (number_said (infile_said front names (codes " has ")) n
-    (codes " B, and fill mode repeats only the first ")) c (codes ": are infile and outfile swapped?")
+    (codes " B, and fill mode repeats only the first ")) c (codes " B: are infile and outfile swapped?")
 advice_said front names (OtherSector n b) =
     number_said (number_said (number_said (infile_said front names (codes " has sectors of ")) n
     (codes " B, and option -b takes them for ")) b (codes " B: give option -b ")) n []
@@ -94,13 +94,13 @@ advice_said front names (LongPlan e n) =
 advice_said front names NothingToCompare =
     mapfile_said front names (codes " calls nothing finished that is to be compared")
 advice_said front names (LateMapfile told) =
-    mapfile_said front names (codes " is saved for the first time after 30 s: ") ++ stop_text told
-    ++ codes " before that leaves none"
+    mapfile_said front names (codes " doesn't exist, so a new rescue begins; its map is first saved after 30 s, and ")
+    ++ stop_text told ++ codes " before that leaves none"
 advice_said front names EmptyDomain =
     file_said front (codes "domain mapfile ") names.domain.now (codes " calls nothing finished that is to be read")
 advice_said front names (MapBeforeInfile e n) =
     number_said (number_said (infile_said front names (codes " has ")) n
-    (codes " B: was the mapfile made of a disk of ")) e (codes " B, or with option -s?")
+    (codes " B, but the mapfile ends at ")) e (codes ": if it is another disk's, stop now (-s makes such maps, too)")
 advice_said front names NoLength =
     infile_said front names (codes " is a character device: its length may be unknown, and then nothing is read")
 

@@ -107,13 +107,13 @@ fn say(line: &mut Line, names: Names<'_>, advice: Advice)
             say_number(
                 line,
                 finished,
-                " finished: what is missing won't be read again; is its disk connected? else run ddrescueverify",
+                " finished: what is missing won't be read again; mount the outfile's disk, or see 'man ddrescue'",
             );
         }
         Advice::MapPastInfile { end, length } => {
             say_of(line, "infile ", names.infile, " has ");
-            say_number(line, length, " B: was the mapfile made of a disk of ");
-            say_number(line, end, " B?");
+            say_number(line, length, " B, but the mapfile ends at ");
+            say_number(line, end, ": if it is another disk's, stop now");
         }
         Advice::EmptyInfile => say_of(line, "infile ", names.infile, " has no bytes"),
         Advice::BeginsPastInfile { length } => {
@@ -136,7 +136,11 @@ fn say(line: &mut Line, names: Names<'_>, advice: Advice)
                 names.mapfile,
                 " doesn't exist yet, but the outfile has ",
             );
-            say_number(line, length, " B: is the mapfile's name right?");
+            say_number(
+                line,
+                length,
+                " B: is the mapfile's name right? if not, all is read again",
+            );
         }
         Advice::LinkedMapfile => say_of(
             line,
@@ -171,7 +175,7 @@ fn say(line: &mut Line, names: Names<'_>, advice: Advice)
         Advice::LongPattern { length, cluster } => {
             say_of(line, "infile ", names.infile, " has ");
             say_number(line, length, " B, and fill mode repeats only the first ");
-            say_number(line, cluster, ": are infile and outfile swapped?");
+            say_number(line, cluster, " B: are infile and outfile swapped?");
         }
         Advice::OtherSector { own, sector } => {
             say_of(line, "infile ", names.infile, " has sectors of ");
@@ -212,7 +216,7 @@ fn say(line: &mut Line, names: Names<'_>, advice: Advice)
                 line,
                 "mapfile ",
                 names.mapfile,
-                " is saved for the first time after 30 s: ",
+                " doesn't exist, so a new rescue begins; its map is first saved after 30 s, and ",
             );
             say_stop(line, stop_is_told);
             add(line, " before that leaves none");
@@ -225,8 +229,12 @@ fn say(line: &mut Line, names: Names<'_>, advice: Advice)
         ),
         Advice::MapBeforeInfile { end, length } => {
             say_of(line, "infile ", names.infile, " has ");
-            say_number(line, length, " B: was the mapfile made of a disk of ");
-            say_number(line, end, " B, or with option -s?");
+            say_number(line, length, " B, but the mapfile ends at ");
+            say_number(
+                line,
+                end,
+                ": if it is another disk's, stop now (-s makes such maps, too)",
+            );
         }
         Advice::NoLength => say_of(
             line,
