@@ -131,8 +131,8 @@ impl BlockRow {
         ensures kept { self.old.spare ≤ self.new.spare }
         ensures items { self.new.items ≡ self.old.items }
     {
-        self.ends.reserve(n).map_err(|_| NoMemory)?;
-        self.statuses.reserve(n).map_err(|_| NoMemory)
+        self.ends.reserve(n)?;
+        Ok(self.statuses.reserve(n)?)
     }
 
     /// Keeps the first i blocks.

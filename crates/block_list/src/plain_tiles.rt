@@ -24,6 +24,17 @@ pub enum PushError {
     NoMemory,
 }
 
+impl From<NoMemory> for PushError {
+    ghost use Rattle.std.specs.Prelude.{◌≡◌};
+    ghost use Rattle.block_list.specs.declared.plain_tiles.PushError.TheVariants.{NoMemory as OutOfMemory};
+
+    ghost from_gives = { λ _ e. e ≡ OutOfMemory };
+
+    fn from(_error: NoMemory) -> PushError {
+        PushError::NoMemory
+    }
+}
+
 /// A map as one row of merged blocks, 9 bytes each.
 #[derive(Drop)]
 pub struct PlainTiles {
@@ -68,7 +79,7 @@ impl PlainTiles {
     {
         let end = end_after(self.end, block)?;
         if block.size > 0 {
-            edits::append(&mut self.blocks, block).map_err(|_| PushError::NoMemory)?;
+            edits::append(&mut self.blocks, block)?;
             self.end = end;
         }
         Ok(())

@@ -9,10 +9,23 @@ ghost use Rattle.block_list.specs.Stretches.{stretches, IsStretchAt};
 use crate::block::{Block, Range};
 use crate::near::Near;
 use crate::status::Status;
+use std::alloc::{AllocError, AllocFailed};
 
 /// There wasn't enough memory.
 #[derive(Clone, Copy, Debug, PartialEq, Eq)]
 pub struct NoMemory;
+
+impl From<AllocError> for NoMemory {
+    fn from(_error: AllocError) -> NoMemory {
+        NoMemory
+    }
+}
+
+impl<T: Drop> From<AllocFailed<T>> for NoMemory {
+    fn from(_failed: AllocFailed<T>) -> NoMemory {
+        NoMemory
+    }
+}
 
 /// A map of fewer than 2^63 positions, with spare: how many more blocks it holds without asking for memory.
 pub trait Tiles: Drop {

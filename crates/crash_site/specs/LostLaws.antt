@@ -136,8 +136,8 @@ retried image draft name pos piece text =
     Done (image_open image true) ∷ Done (image_write pos piece) ∷ Failed image_sync 0 ∷ Done image_sync
     ∷ Done (draft_begin draft) ∷ Done (draft_append text) ∷ settles name
 
--- By `retried`, a map whose name isn't the image's may be found beside an image with any other piece in place of what was
--- written.
+-- By `retried`, a map whose name isn't the image's may be found beside an image with any other piece in place of what
+-- was written.
 abbrev pub RetriedSyncMayLose : Type 0
 RetriedSyncMayLose = (start : Folder) (image draft name : List ℕ) (pos : ℕ) (piece other text : List ℕ)
     → (image ≡ name → ⊥) → length other ≡ length piece
@@ -146,8 +146,8 @@ RetriedSyncMayLose = (start : Folder) (image draft name : List ℕ) (pos : ℕ) 
     × (found image ≡ Some (written_file (start.files image) pos other))
     × (found name ≡ (after start (retried image draft name pos piece text)).files name)
 
--- An image is opened and written, and the process killed. Then what it wrote can't be stored, which is told to nobody, and
--- the next run syncs the image.
+-- An image is opened and written, and the process killed. Then what it wrote can't be stored, which is told to nobody,
+-- and the next run syncs the image.
 abbrev pub silent : (image : List ℕ) → (pos : ℕ) → (piece : List ℕ) → List Entry
 silent image pos piece =
     Done (image_open image true) ∷ Done (image_write pos piece) ∷ Done (image_open image false) ∷ Failed image_sync 0

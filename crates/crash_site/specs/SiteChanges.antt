@@ -56,8 +56,8 @@ abbrev pub KeepsOpen : Call → (before now : Bool) → Type 0
 KeepsOpen (image_open name make) before now = ⊤
 KeepsOpen call before now = now ≡ before
 
--- Why a call failed: the schedule has it fail after some steps, and it is listed with these. Or it found no memory, which
--- is counted, and isn't listed.
+-- Why a call failed: the schedule has it fail after some steps, and it is listed with these. Or it found no memory,
+-- which is counted, and isn't listed.
 abbrev pub FailsBy : Schedule → (starved starved' : ℕ) → Call → (calls calls' : List Entry) → Type 0
 FailsBy schedule starved starved' call calls calls' =
     ((steps : ℕ) × FailsAfter schedule steps × (starved' ≡ starved) × (calls' ≡ calls ++ Failed call steps ∷ []))

@@ -1,6 +1,7 @@
 -- What a reading asks for is within limits.
 use Rattle.std.proofs.Common.{◌≡◌, ℕ, ◌||◌, is_some, ◌<◌, ◌≤◌, Bool, true, false, cond, nat_lt, List, [], ◌∷◌, Option, Some, None, Result, Ok, Err, IfSome, refl, sym, ◌∙◌, ap, subst, arith}
 use Rattle.std.proofs.lemmas.Bool.Decides.{nat_tests}
+use Rattle.size_suffixes.specs.Sectors.{largest_cluster}
 use Rattle.block_list.specs.declared.types.TypeSet.{TypeSet}
 use Rattle.option_words.specs.declared.row.Row.{Row}
 use Rattle.option_words.specs.declared.reading.Item.{Item}
@@ -14,7 +15,7 @@ use Rattle.option_words.proofs.MeaningLemmas.{asked_within}
 use Rattle.option_words.proofs.ResultLemmas.{unless_part, untested_part}
 use Rattle.ddrescue_words.specs.declared.options.Options.{Options}
 use Rattle.ddrescue_words.specs.declared.command.Task.{Task as TaskCode}
-use Rattle.ddrescue_words.specs.Options.{cluster_limit, cluster_of, option_meanings, options_in, sectors_of}
+use Rattle.ddrescue_words.specs.Options.{cluster_of, option_meanings, options_in, sectors_of}
 use Rattle.ddrescue_words.specs.Command.{Command, Task, Rescue, Fill, Generate, Sample}
 use Rattle.ddrescue_words.specs.Asking.{MapOptions, AreInLimits, AreOptions, IsAsked, IsInLimits, IsSampleSize, IsTask, cluster_word, command_with, conflict_in, files_task, is_quiet, is_too_large, maps_in, mode_task, rescue_grammar, sample_task, task_by, task_from, task_in, task_with, unless_conflict, wants_mapfile}
 use Rattle.ddrescue_words.proofs.OptionLemmas.{AreInRange, options_keep, rescue_kept}
@@ -153,7 +154,7 @@ in_limits o h e = record {
   sector = h.sector.low;
   sector_max = h.sector.high;
   sectors = some_sectors o o.cluster_sectors h.cluster;
-  cluster_max = not_above cluster_limit (cluster_of o) e;
+  cluster_max = not_above largest_cluster (cluster_of o) e;
   skip = h.skips.order;
   skip_max = h.skips.below;
   input_position = h.input;

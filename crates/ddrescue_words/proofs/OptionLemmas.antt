@@ -4,19 +4,19 @@ use Rattle.std.proofs.lemmas.Nat.{div-add-mod'}
 use Rattle.std.proofs.lemmas.Bool.Decides.{nat_tests}
 use Rattle.std.specs.Option.{option_map, option_and_then}
 use Rattle.std.specs.Result.{result_ok}
+use Rattle.size_suffixes.specs.Sectors.{IsSector}
 use Rattle.size_suffixes.specs.Interval.{interval}
 use Rattle.block_list.specs.Types.{types_of}
 use Rattle.option_words.specs.declared.reading.Item.{Item}
 use Rattle.option_words.specs.Values.{is_given, is_name, number_by, quiet_letter, size_by, within_range}
 use Rattle.option_words.proofs.KeepLemmas.{AreKept, Begins, Keeps, Kept, RowKeeps, flag_keeps, name_keeps, options_keep as kept_in, plain_keeps, value_keeps}
 use Rattle.option_words.proofs.RowLemmas.{◌and◌, EachRow}
-use Rattle.option_words.proofs.TurnLemmas.{IsSector}
 use Rattle.option_words.proofs.ValueLemmas.{in_range, size_by_below, then_part}
 use Rattle.option_words.proofs.QuietLemmas.{or_true}
 use Rattle.run_options.specs.declared.limits.AreaLimit.TheVariants.{Total}
 use Rattle.ddrescue_words.specs.declared.options.Options.{Options}
 use Rattle.ddrescue_words.specs.Asking.{IsSampleSize}
-use Rattle.ddrescue_words.specs.Options.{area_limit_of, no_options, option_meanings, option_rows, options_in, sample_of, skips_of}
+use Rattle.ddrescue_words.specs.Options.{area_limit_of, largest_sample, most_cluster_sectors, most_retries, no_options, option_meanings, option_rows, options_in, sample_of, skips_of}
 use Rattle.ddrescue_words.proofs.SkipLemmas.{AreSkips, skips_of_are}
 
 -- the limits of the values, except that of a cluster in bytes, which is looked at after all options
@@ -27,7 +27,7 @@ pub record InRange (bytes : ℕ) (sectors : Option ℕ) (first most from : ℕ) 
   pub skips : AreSkips bytes first most
   pub input : from < 2 ^ 63
   pub output : IfSome to (λ n. n < 2 ^ 63)
-  pub retries : passes ≤ 65535
+  pub retries : passes ≤ most_retries
   pub sample : IfSome kib IsSampleSize
 
 abbrev pub AreInRange : (sector : ℕ) → Options → Type 0
@@ -39,8 +39,8 @@ abbrev pub rescue_kept : Kept Options
 rescue_kept = record { sector = λ o. o.sector; InRange = AreInRange; quiet = λ o. o.quiet }
 
 -- what a value that was read is
-within_count : (m : Option ℕ) (n : ℕ) → option_and_then (within_range 1 65536) m ≡ Some n → 0 < n
-within_count m n e = let p = in_range 1 65536 m n e in omega arith
+within_count : (m : Option ℕ) (n : ℕ) → option_and_then (within_range 1 most_cluster_sectors) m ≡ Some n → 0 < n
+within_count m n e = let p = in_range 1 most_cluster_sectors m n e in omega arith
 
 module _ (sector : ℕ) (o : Options) (h : AreInRange sector o) where
   with_sectors : (n : ℕ) → 0 < n → AreInRange sector (record o { cluster_sectors = Some n })
@@ -88,7 +88,7 @@ module _ (sector : ℕ) (o : Options) (h : AreInRange sector o) where
     sample = h.sample;
   }
 
-  with_retries : (n : ℕ) → n ≤ 65535 → AreInRange sector (record o { passes = record o.passes { retries = n } })
+  with_retries : (n : ℕ) → n ≤ most_retries → AreInRange sector (record o { passes = record o.passes { retries = n } })
   with_retries n p = record {
     sector = h.sector;
     cluster = h.cluster;
@@ -116,10 +116,10 @@ min_rate_keeps s o o' m =
     value_keeps rescue_kept s o o' (λ n. record o { min_rate = n }) m (λ n. refl) (λ n p h. h) (λ n. refl)
 
 cluster_keeps : (s : ℕ) (o o' : Options) (m : Option ℕ)
-    → option_map (λ n. record o { cluster_sectors = Some n }) (option_and_then (within_range 1 65536) m) ≡ Some o'
+    → option_map (λ n. record o { cluster_sectors = Some n }) (option_and_then (within_range 1 most_cluster_sectors) m) ≡ Some o'
     → Keeps rescue_kept s o false o'
 cluster_keeps s o o' m =
-    value_keeps rescue_kept s o o' (λ n. record o { cluster_sectors = Some n }) (option_and_then (within_range 1 65536) m)
+    value_keeps rescue_kept s o o' (λ n. record o { cluster_sectors = Some n }) (option_and_then (within_range 1 most_cluster_sectors) m)
     (λ n. refl) (λ n p h. with_sectors s o h n (within_count m n p)) (λ n. refl)
 
 input_keeps : (s : ℕ) (o o' : Options) (v : Option (List ℕ))
@@ -144,17 +144,17 @@ skips_keep s o o' v =
     (λ k. refl) (λ k p h. with_skips s o h k.0 k.1 (ordered k p)) (λ k. refl)
 
 retries_keep : (s : ℕ) (o o' : Options) (m : Option ℕ)
-    → option_map (λ n. record o { passes = record o.passes { retries = n } }) (option_and_then (within_range 0 65535) m) ≡ Some o'
+    → option_map (λ n. record o { passes = record o.passes { retries = n } }) (option_and_then (within_range 0 most_retries) m) ≡ Some o'
     → Keeps rescue_kept s o false o'
 retries_keep s o o' m =
-    value_keeps rescue_kept s o o' (λ n. record o { passes = record o.passes { retries = n } }) (option_and_then (within_range 0 65535) m) (λ n. refl)
-    (λ n p h. with_retries s o h n (in_range 0 65535 m n p).1) (λ n. refl)
+    value_keeps rescue_kept s o o' (λ n. record o { passes = record o.passes { retries = n } }) (option_and_then (within_range 0 most_retries) m) (λ n. refl)
+    (λ n p h. with_retries s o h n (in_range 0 most_retries m n p).1) (λ n. refl)
 
 sample_keeps : (s : ℕ) (o o' : Options) (v : Option (List ℕ))
     → option_map (λ n. record o { sample = Some n }) (sample_of v) ≡ Some o' → Keeps rescue_kept s o false o'
 sample_keeps s o o' v =
     value_keeps rescue_kept s o o' (λ n. record o { sample = Some n }) (sample_of v) (λ n. refl)
-    (λ n p h. with_sample s o h n (let r = in_range 1 65536 (number_by v) n p in record { low = r.0; high = r.1 }))
+    (λ n p h. with_sample s o h n (let r = in_range 1 largest_sample (number_by v) n p in record { low = r.0; high = r.1 }))
     (λ n. refl)
 
 length_keeps : (s : ℕ) (o o' : Options) (m : Option ℕ) → option_map (λ n. record o { size = Some n }) m ≡ Some o'

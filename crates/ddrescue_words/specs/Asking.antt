@@ -1,5 +1,6 @@
 -- What the words of a rescue ask for, or why they are refused.
 use Rattle.std.specs.Prelude.{◌≡◌, ℕ, ◌^◌, ◌<◌, ◌≤◌, Bool, true, not, ◌||◌, find, List, [], ◌∷◌, length, nat_eq, nat_lt, Option, Some, None, Result, Ok, Err, IfSome, option_map, codes, if◌then◌else◌, max, false, is_some}
+use Rattle.size_suffixes.specs.Sectors.{largest_cluster, largest_sector}
 use Rattle.block_list.specs.declared.types.TypeSet.{TypeSet}
 use Rattle.option_words.specs.Words.{word}
 use Rattle.option_words.specs.declared.row.Row.{Row}
@@ -16,7 +17,7 @@ use Rattle.ddrescue_words.specs.declared.options.Options.{Options}
 use Rattle.ddrescue_words.specs.declared.command.Command.{Command as CommandCode}
 use Rattle.ddrescue_words.specs.declared.command.Task.{Task as TaskCode}
 use Rattle.ddrescue_words.specs.declared.command.Task.TheVariants.{Rescue as RescueCode, Fill as FillCode, Generate as GenerateCode, Sample as SampleCode}
-use Rattle.ddrescue_words.specs.Options.{cluster_letter, cluster_limit, cluster_of, fill_letter, generate_letter, in_sectors, no_options, option_meanings, options_in, sample_place, sectors_of, test_letter}
+use Rattle.ddrescue_words.specs.Options.{cluster_letter, cluster_of, fill_letter, generate_letter, in_sectors, largest_sample, most_retries, no_options, option_meanings, options_in, sample_place, sectors_of, test_letter}
 use Rattle.ddrescue_words.specs.Command.{Command, Task, Rescue, Fill, Generate, Sample}
 
 -- the command that the code hands on
@@ -163,7 +164,7 @@ unless_conflict None r = r
 
 -- options that give a cluster that is too large
 abbrev pub is_too_large : Options → Bool
-is_too_large o = nat_lt cluster_limit (cluster_of o)
+is_too_large o = nat_lt largest_cluster (cluster_of o)
 
 -- the word of the option that gives the cluster
 abbrev pub cluster_word : List Item → ℕ
@@ -213,14 +214,14 @@ AskQuiet words = AskSilence rescue_grammar words
 -- options within their limits
 pub record AreInLimits (o : Options) : Type 0 where
   pub sector : 0 < o.sector
-  pub sector_max : o.sector ≤ 1048576
+  pub sector_max : o.sector ≤ largest_sector
   pub sectors : 0 < sectors_of o o.cluster_sectors
-  pub cluster_max : cluster_of o ≤ cluster_limit
+  pub cluster_max : cluster_of o ≤ largest_cluster
   pub skip : o.skip ≤ o.skip_max
   pub skip_max : in_sectors o o.skip_max < 2 ^ 63
   pub input_position : o.input_position < 2 ^ 63
   pub output_position : IfSome o.output_position (λ n. n < 2 ^ 63)
-  pub retries : o.passes.retries ≤ 65535
+  pub retries : o.passes.retries ≤ most_retries
 
 -- a task asks that nothing be said
 abbrev pub is_quiet : Task → Bool
@@ -237,7 +238,7 @@ pub record HasMapfile (c : Command) : Type 0 where
 -- the size of a sample in KiB
 pub record IsSampleSize (kib : ℕ) : Type 0 where
   pub low : 1 ≤ kib
-  pub high : kib ≤ 65536
+  pub high : kib ≤ largest_sample
 
 -- a task within its limits, with a mapfile if one is wanted
 abbrev pub IsInLimits : Task → Type 0

@@ -5,7 +5,7 @@ use Rattle.size_suffixes.specs.Interval.{interval}
 use Rattle.block_list.specs.Types.{types_of}
 use Rattle.option_words.specs.declared.row.Takes.TheVariants.{Always}
 use Rattle.option_words.specs.declared.reading.Item.{Item}
-use Rattle.option_words.specs.Values.{Meaning, OptionRow, domain_letter, flag, is_empty_text, is_name, meanings_of, number_by, quiet_letter, sector_letter, size_by, valued, within_range}
+use Rattle.option_words.specs.Values.{Meaning, OptionRow, domain_letter, flag, is_empty_text, is_name, letter_in, meanings_of, number_by, quiet_letter, sector_letter, size_by, valued, within_range}
 use Rattle.option_words.specs.Values.{options_in as options_by}
 use Rattle.run_options.specs.declared.limits.AreaLimit.{AreaLimit}
 use Rattle.run_options.specs.declared.limits.AreaLimit.TheVariants.{New, Total}
@@ -15,18 +15,22 @@ use Rattle.ddrescue_words.specs.declared.options.Options.{Options}
 
 -- ---- sizes in sectors
 
--- a cluster in sectors: that of the option, or as many as 65,536 bytes have, but one at least
+-- the size of a cluster in bytes, if no option gives it and no sector is larger
+abbrev pub default_cluster : ℕ
+default_cluster = 65536
+
+-- no cluster has more sectors than this
+abbrev pub most_cluster_sectors : ℕ
+most_cluster_sectors = 65536
+
+-- a cluster in sectors: that of the option, or as many as the default has, but one at least
 abbrev pub sectors_of : Options → Option ℕ → ℕ
 sectors_of o (Some n) = n
-sectors_of o None = max 1 (65536 / o.sector)
+sectors_of o None = max 1 (default_cluster / o.sector)
 
 -- a cluster in bytes
 abbrev pub cluster_of : Options → ℕ
 cluster_of o = sectors_of o o.cluster_sectors * o.sector
-
--- no cluster is larger than this, in bytes
-abbrev pub cluster_limit : ℕ
-cluster_limit = 16777216
 
 -- a size rounded up to whole sectors
 abbrev pub whole_sectors : (sector : ℕ) → ℕ → ℕ
@@ -94,74 +98,87 @@ area_limit_of [] = None
 area_limit_of (c ∷ text) =
     if nat_eq c 43 then option_map New (number_by (Some text)) else option_map Total (number_by (Some (c ∷ text)))
 
+-- no more passes of retrying are asked for than this
+abbrev pub most_retries : ℕ
+most_retries = 65535
+
 -- ---- the rows
 
 -- Some options are read by themselves, too. The letter of the one that gives the size of a cluster (`-c`), which is
 -- checked again after all others.
 abbrev pub cluster_letter : ℕ
-cluster_letter = 99
+cluster_letter = letter_in (codes "c")
 
 -- the letter of fill mode (`-F`)
 abbrev pub fill_letter : ℕ
-fill_letter = 70
+fill_letter = letter_in (codes "F")
 
 -- the letter of generate mode (`-G`), which goes with no other mode
 abbrev pub generate_letter : ℕ
-generate_letter = 71
+generate_letter = letter_in (codes "G")
 
 -- the letter of test mode (`-H`), which names a map
 abbrev pub test_letter : ℕ
-test_letter = 72
+test_letter = letter_in (codes "H")
 
 -- the options that have a letter, each with what it sets by the size of a sector and the text of its value
 abbrev pub lettered_rows : List (OptionRow Options)
 lettered_rows =
-    valued 97 (codes "min-read-rate") (λ sector o value. option_map (λ n. record o { min_rate = n })
+    valued (letter_in (codes "a")) (codes "min-read-rate")
+    (λ sector o value. option_map (λ n. record o { min_rate = n })
     (option_and_then (within_range 1 (2 ^ 63)) (size_by sector value)))
-    ∷ flag 65 (codes "try-again") (λ o. record o { try_again = true })
+    ∷ flag (letter_in (codes "A")) (codes "try-again") (λ o. record o { try_again = true })
     ∷ valued sector_letter (codes "sector-size") (λ sector o value. Some o)
     ∷ valued cluster_letter (codes "cluster-size")
     (λ sector o value. option_map (λ n. record o { cluster_sectors = Some n })
-    (option_and_then (within_range 1 65536) (size_by sector value)))
-    ∷ flag 67 (codes "complete-only") (λ o. record o { complete_only = true })
-    ∷ valued 101 (codes "max-bad-areas")
+    (option_and_then (within_range 1 most_cluster_sectors) (size_by sector value)))
+    ∷ flag (letter_in (codes "C")) (codes "complete-only") (λ o. record o { complete_only = true })
+    ∷ valued (letter_in (codes "e")) (codes "max-bad-areas")
     (λ sector o value. option_map (λ a. record o { limits = record o.limits { areas = Some a } })
     (option_and_then area_limit_of value))
-    ∷ flag 102 (codes "force") (λ o. record o { forced = true })
+    ∷ flag (letter_in (codes "f")) (codes "force") (λ o. record o { forced = true })
     ∷ valued fill_letter (codes "fill-mode") (λ sector o value. option_map (λ t. record o { fill = Some t })
     (option_and_then types_of value))
     ∷ flag generate_letter (codes "generate-mode") (λ o. record o { generate = true })
     ∷ valued test_letter (codes "test-mode") (λ sector o value. if is_name value then Some o else None)
-    ∷ valued 105 (codes "input-position") (λ sector o value. option_map (λ n. record o { input_position = n })
+    ∷ valued (letter_in (codes "i")) (codes "input-position")
+    (λ sector o value. option_map (λ n. record o { input_position = n })
     (size_by sector value))
-    ∷ valued 75 (codes "skip-size")
+    ∷ valued (letter_in (codes "K")) (codes "skip-size")
     (λ sector o value. option_map (λ (k : ℕ × ℕ). record o { skip = k.0; skip_max = k.1 })
     (option_and_then (skips_of sector) value))
-    ∷ flag 76 (codes "loose-domain") (λ o. record o { loose = true })
+    ∷ flag (letter_in (codes "L")) (codes "loose-domain") (λ o. record o { loose = true })
     ∷ valued domain_letter (codes "domain-mapfile") (λ sector o value. if is_name value then Some o else None)
-    ∷ flag 77 (codes "retrim") (λ o. record o { retrim = true })
-    ∷ flag 110 (codes "no-scrape") (λ o. record o { passes = record o.passes { scrapes = false } })
-    ∷ flag 78 (codes "no-trim") (λ o. record o { passes = record o.passes { trims = false } })
-    ∷ valued 111 (codes "output-position") (λ sector o value. option_map (λ n. record o { output_position = Some n })
+    ∷ flag (letter_in (codes "M")) (codes "retrim") (λ o. record o { retrim = true })
+    ∷ flag (letter_in (codes "n")) (codes "no-scrape") (λ o. record o { passes = record o.passes { scrapes = false } })
+    ∷ flag (letter_in (codes "N")) (codes "no-trim") (λ o. record o { passes = record o.passes { trims = false } })
+    ∷ valued (letter_in (codes "o")) (codes "output-position")
+    (λ sector o value. option_map (λ n. record o { output_position = Some n })
     (size_by sector value))
     ∷ flag quiet_letter (codes "quiet") (λ o. record o { quiet = true })
-    ∷ valued 114 (codes "retry-passes")
+    ∷ valued (letter_in (codes "r")) (codes "retry-passes")
     (λ sector o value. option_map (λ n. record o { passes = record o.passes { retries = n } })
-    (option_and_then (within_range 0 65535) (number_by value)))
-    ∷ flag 82 (codes "reverse") (λ o. record o { passes = record o.passes { reverse = true } })
-    ∷ valued 115 (codes "size") (λ sector o value. option_map (λ n. record o { size = Some n }) (size_by sector value))
-    ∷ valued 84 (codes "timeout")
+    (option_and_then (within_range 0 most_retries) (number_by value)))
+    ∷ flag (letter_in (codes "R")) (codes "reverse") (λ o. record o { passes = record o.passes { reverse = true } })
+    ∷ valued (letter_in (codes "s")) (codes "size")
+    (λ sector o value. option_map (λ n. record o { size = Some n }) (size_by sector value))
+    ∷ valued (letter_in (codes "T")) (codes "timeout")
     (λ sector o value. option_map (λ n. record o { limits = record o.limits { timeout = Some n } })
     (option_and_then (λ text. result_ok (interval text)) value))
-    ∷ flag 117 (codes "unidirectional") (λ o. record o { passes = record o.passes { one_way = true } })
-    ∷ flag 118 (codes "verbose") (λ o. record o { verbose = true })
-    ∷ valued 88 (codes "max-read-errors")
+    ∷ flag (letter_in (codes "u")) (codes "unidirectional")
+    (λ o. record o { passes = record o.passes { one_way = true } })
+    ∷ flag (letter_in (codes "v")) (codes "verbose") (λ o. record o { verbose = true })
+    ∷ valued (letter_in (codes "X")) (codes "max-read-errors")
     (λ sector o value. option_map (λ n. record o { limits = record o.limits { errors = Some n } }) (number_by value))
     ∷ []
 
+-- no sample is larger than this, in KiB
+abbrev pub largest_sample : ℕ
+largest_sample = 65536
+
 -- the size of a sample in KiB that a value gives, if it does
 abbrev pub sample_of : Option (List ℕ) → Option ℕ
-sample_of value = option_and_then (within_range 1 65536) (number_by value)
+sample_of value = option_and_then (within_range 1 largest_sample) (number_by value)
 
 -- the option that has no letter: the size of a sample
 abbrev pub sample_row : OptionRow Options

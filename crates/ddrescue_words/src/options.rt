@@ -1,9 +1,10 @@
 //! The options of a rescue, and what they ask for.
 ghost use Rattle.std.specs.Prelude.{◌≡◌, ◌^◌, ◌<◌, ◌≤◌, Some, option_map, option_and_then};
 ghost use Rattle.std.specs.Result.{result_ok};
+ghost use Rattle.size_suffixes.specs.Sectors.{IsSector};
 ghost use Rattle.size_suffixes.specs.Interval.{interval};
 ghost use Rattle.option_words.specs.Values.{number_by, row_of, set_by, size_by, within_range};
-ghost use Rattle.ddrescue_words.specs.Options.{area_limit_of, cluster_of, in_sectors, lettered_rows, no_options, option_rows, sample_of, sample_row, sectors_of, skips_of};
+ghost use Rattle.ddrescue_words.specs.Options.{area_limit_of, cluster_of, in_sectors, lettered_rows, most_cluster_sectors, most_retries, no_options, option_rows, sample_of, sample_row, sectors_of, skips_of};
 ghost use Rattle.ddrescue_words.specs.Asking.{AreInLimits, is_too_large, wants_mapfile};
 
 use crate::skips::{DEFAULT_SKIP, DEFAULT_SKIP_MAX, in_sectors, read_skips};
@@ -16,15 +17,13 @@ use option_words::values::{is_name, number_by, size_by, within_range};
 use run_options::limits::{AreaLimit, Limits};
 use run_options::passes::Passes;
 use size_suffixes::interval::read_interval;
+use size_suffixes::sectors::LARGEST_CLUSTER;
 
 /// The size of a cluster in bytes, if no option gives it and no sector is larger.
-const DEFAULT_CLUSTER: u64 = 65_536;
+pub const DEFAULT_CLUSTER: u64 = 65_536;
 
 /// The most sectors of a cluster.
 const MOST_CLUSTER_SECTORS: u64 = 65_536;
-
-/// The largest cluster in bytes.
-const MOST_CLUSTER: u64 = 16_777_216;
 
 /// The most passes of retrying.
 const MOST_RETRIES: u64 = 65_535;
@@ -57,23 +56,23 @@ pub static ROWS: [Row; 27] = [
     option_row!('b', "sector-size", Always(Size): "set the size of a sector"),
     option_row!('c', "cluster-size", Always(Sectors): "read this many sectors at a time in copying"),
     option_row!('C', "complete-only", Never: "rescue only what the mapfile lists"),
-    option_row!('e', "max-bad-areas", Always(Areas): "stop when more areas than this failed"),
+    option_row!('e', "max-bad-areas", Always(Areas): "stop when more areas than this have failed"),
     option_row!('f', "force", Never: "allow an outfile that is not a regular file, such as a device"),
     option_row!('F', "fill-mode", Always(Types): "write infile where the mapfile has one of these statuses"),
     option_row!('G', "generate-mode", Never: "make the mapfile from what outfile holds"),
-    option_row!('H', "test-mode", Always(TestMap): "read only what is finished in this map"),
+    option_row!('H', "test-mode", Always(TestMap): "treat as failed what is not finished in this map"),
     option_row!('i', "input-position", Always(Size): "begin at this position of infile"),
-    option_row!('K', "skip-size", Always(Skips): "skip this many bytes after a failed read"),
+    option_row!('K', "skip-size", Always(Skips): "skip this many bytes after a failed or slow read"),
     option_row!('L', "loose-domain", Never: "accept a domain map and a test map with gaps"),
     option_row!('m', "domain-mapfile", Always(DomainMap): "rescue only what is finished in this map"),
-    option_row!('M', "retrim", Never: "trim again everything that failed before"),
+    option_row!('M', "retrim", Never: "trim again everything that failed"),
     option_row!('n', "no-scrape", Never: "skip scraping"),
     option_row!('N', "no-trim", Never: "skip trimming"),
     option_row!('o', "output-position", Always(Size): "begin at this position of outfile"),
     option_row!('q', "quiet", Never: "print nothing"),
     option_row!('r', "retry-passes", Always(Retries): "retry the bad sectors in this many passes"),
     option_row!('R', "reverse", Never: "reverse the direction of each pass"),
-    option_row!('s', "size", Always(Size): "rescue at most this many bytes"),
+    option_row!('s', "size", Always(Size): "rescue only this many bytes, from the input position on"),
     option_row!('T', "timeout", Always(Interval): "stop when no read has succeeded for longer than this"),
     option_row!('u', "unidirectional", Never: "run all passes in the same direction"),
     option_row!('v', "verbose", Never: "print first how many bytes are to be rescued"),
@@ -145,7 +144,7 @@ impl Options {
         requires { 0 < self.now.sector }
         ensures { result ≡ is_too_large self.now }
     {
-        self.sectors().saturating_mul(self.sector) > MOST_CLUSTER
+        self.sectors().saturating_mul(self.sector) > LARGEST_CLUSTER
     }
 
     /// Whether a mapfile is wanted: it says what is to be rescued, filled or generated.
@@ -182,8 +181,7 @@ impl Options {
 
 /// The least rate that a value gives, if it does.
 fn read_min_rate(sector: u64, value: Option<&str>) -> Option<u64>
-    requires low { 0 < sector }
-    requires high { sector ≤ 1048576 }
+    requires { IsSector sector }
     ensures { result ≡ option_and_then (within_range 1 (2 ^ 63))
         (size_by sector (option_map (λ v. v.now) value.entry)) }
 {
@@ -192,16 +190,16 @@ fn read_min_rate(sector: u64, value: Option<&str>) -> Option<u64>
 
 /// The sectors of a cluster that a value gives, if it does.
 fn read_cluster_sectors(sector: u64, value: Option<&str>) -> Option<u64>
-    requires low { 0 < sector }
-    requires high { sector ≤ 1048576 }
-    ensures { result ≡ option_and_then (within_range 1 65536) (size_by sector (option_map (λ v. v.now) value.entry)) }
+    requires { IsSector sector }
+    ensures { result ≡ option_and_then (within_range 1 most_cluster_sectors)
+        (size_by sector (option_map (λ v. v.now) value.entry)) }
 {
     within_range(size_by(sector, value)?, 1, MOST_CLUSTER_SECTORS)
 }
 
 /// The passes of retrying that a value gives, if it does.
 fn read_retries(value: Option<&str>) -> Option<u32>
-    ensures { result ≡ option_and_then (within_range 0 65535) (number_by (option_map (λ v. v.now) value.entry)) }
+    ensures { result ≡ option_and_then (within_range 0 most_retries) (number_by (option_map (λ v. v.now) value.entry)) }
 {
     let retries = number_by(value)?;
     if retries <= MOST_RETRIES {
@@ -269,8 +267,7 @@ pub fn with_letter(
     letter: char,
     value: Option<&str>,
 ) -> Option<Options>
-    requires low { 0 < sector }
-    requires high { sector ≤ 1048576 }
+    requires { IsSector sector }
     ensures { result ≡ set_by (row_of letter lettered_rows) sector options (option_map (λ v. v.now) value.entry) }
 {
     let size = size_by(sector, value);

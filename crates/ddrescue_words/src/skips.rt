@@ -1,5 +1,6 @@
 //! The sizes of `-K`: how far copying skips after a failed or slow read, at first and at most.
 ghost use Rattle.std.specs.Prelude.{◌≡◌, [], ◌∷◌, ◌^◌, ◌<◌, ◌≤◌};
+ghost use Rattle.size_suffixes.specs.Sectors.{IsSector};
 ghost use Rattle.ddrescue_words.specs.Options.{comma_parts, size_if_given, skips_given, skips_in_parts, skips_of, whole_sectors};
 
 use size_suffixes::size::read_size;
@@ -15,8 +16,7 @@ const SKIP_LIMIT: u64 = 1 << 63;
 
 /// A size rounded up to whole sectors.
 pub(crate) fn in_sectors(size: u64, sector: u64) -> u64
-    requires low { 0 < sector }
-    requires high { sector ≤ 1048576 }
+    requires sector { IsSector sector }
     requires small { size < 2 ^ 63 }
     ensures { result ≡ whole_sectors sector size }
 {
@@ -25,8 +25,7 @@ pub(crate) fn in_sectors(size: u64, sector: u64) -> u64
 
 /// A size that may be left out, if it isn't a bad one.
 fn size_if_given(sector: u64, text: &str) -> Option<Option<u64>>
-    requires low { 0 < sector }
-    requires high { sector ≤ 1048576 }
+    requires { IsSector sector }
     ensures { result ≡ size_if_given sector text.now }
 {
     if text.is_empty() {
@@ -51,8 +50,7 @@ fn skips_given(first: Option<u64>, most: Option<u64>) -> Option<(u64, u64)>
 
 /// The first skip and the largest, by the texts of two sizes. A text is empty if its size is left out.
 fn skips_of_pair(sector: u64, first: &str, most: &str) -> Option<(u64, u64)>
-    requires low { 0 < sector }
-    requires high { sector ≤ 1048576 }
+    requires { IsSector sector }
     ensures { result ≡ skips_in_parts sector (first.now ∷ most.now ∷ []) }
 {
     skips_given(size_if_given(sector, first)?, size_if_given(sector, most)?)
@@ -60,8 +58,7 @@ fn skips_of_pair(sector: u64, first: &str, most: &str) -> Option<(u64, u64)>
 
 /// The first skip and the largest that a text with one comma at most gives.
 fn skips_in_text(sector: u64, text: &str) -> Option<(u64, u64)>
-    requires low { 0 < sector }
-    requires high { sector ≤ 1048576 }
+    requires { IsSector sector }
     ensures { result ≡ skips_in_parts sector (comma_parts text.now) }
 {
     let Some((first, most)) = text.split_once(',') else {
@@ -77,8 +74,7 @@ fn skips_in_text(sector: u64, text: &str) -> Option<(u64, u64)>
 /// The first skip and the largest that a text gives, in bytes, if it does: `initial`, `initial,largest`, `,largest` or
 /// `initial,`.
 pub(crate) fn read_skips(sector: u64, text: &str) -> Option<(u64, u64)>
-    requires low { 0 < sector }
-    requires high { sector ≤ 1048576 }
+    requires { IsSector sector }
     ensures { result ≡ skips_of sector text.now }
 {
     if text.is_empty() {

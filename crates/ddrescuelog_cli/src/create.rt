@@ -117,10 +117,8 @@ fn take_list<I: Feed>(alloc: Global, feed: &mut I) -> Result<Vec<u8>, LogEnding>
 {
     let mut list = Vec::new(alloc);
     'pieces: loop {
-        match take_piece(feed, &mut list) {
-            Ok(true) => {}
-            Ok(false) => return Ok(list),
-            Err(fault) => return Err(fault),
+        if !take_piece(feed, &mut list)? {
+            return Ok(list);
         }
         if list.len() > LIST_LIMIT {
             return Err(LogEnding::ListTooLong);
@@ -175,15 +173,10 @@ fn map_of(
     let numbers = numbers_of(alloc, list, options)?;
     let end = end_of(options, &numbers);
     let from = options.input_position;
-    let Ok(domain) = Domain::within(alloc, from, options.size, end, domain_map.as_ref()) else {
-        return Err(LogEnding::NoMemory);
-    };
+    let domain = Domain::within(alloc, from, options.size, end, domain_map.as_ref())?;
     let shape = shape_of(options);
     let Marks { listed, rest } = marks;
-    match create(alloc, &numbers, shape, &domain, end, listed, rest) {
-        Ok(map) => Ok(map),
-        Err(_) => Err(LogEnding::NoMemory),
-    }
+    Ok(create(alloc, &numbers, shape, &domain, end, listed, rest)?)
 }
 
 /// The map of the blocks that a feed lists.

@@ -2,6 +2,7 @@
 ghost use Rattle.std.specs.Prelude.{◌≡◌};
 ghost use Rattle.ddrescuelog_cli.specs.Answers.{status_of_ending};
 
+use block_list::tiles::NoMemory;
 use crash_site::site::SiteCall;
 use mapfile_text::read::MapError;
 use option_words::fault::UsageFault;
@@ -46,6 +47,17 @@ pub enum LogEnding {
     ConsoleFault,
     /// There wasn't enough memory.
     NoMemory,
+}
+
+impl From<NoMemory> for LogEnding {
+    ghost use Rattle.std.specs.Prelude.{◌≡◌};
+    ghost use Rattle.ddrescuelog_cli.specs.declared.ending.LogEnding.TheVariants.{NoMemory as OutOfMemory};
+
+    ghost from_gives = { λ _ e. e ≡ OutOfMemory };
+
+    fn from(_error: NoMemory) -> LogEnding {
+        LogEnding::NoMemory
+    }
 }
 
 impl LogEnding {

@@ -95,15 +95,12 @@ fn make_loaded(
     };
     let end = tiles.end().max(other.end());
     let from = command.options.input_position;
-    match Domain::within(alloc, from, command.options.size, end, domain_map.as_ref()) {
-        Ok(domain) => Ok(LoadedMaps {
-            state,
-            tiles,
-            other,
-            domain,
-        }),
-        Err(_) => Err(LogEnding::NoMemory),
-    }
+    Ok(LoadedMaps {
+        state,
+        tiles,
+        other,
+        domain: Domain::within(alloc, from, command.options.size, end, domain_map.as_ref())?,
+    })
 }
 
 /// Reads the maps of a mode that reads its mapfile: the mapfile, the other map and the domain map, in this order.

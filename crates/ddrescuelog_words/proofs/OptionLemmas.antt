@@ -4,6 +4,7 @@ use Rattle.std.proofs.lemmas.Option.{same_Some}
 use Rattle.std.specs.Option.{option_map, option_and_then}
 use Rattle.std.specs.List.{list_all}
 use Rattle.std.proofs.lemmas.Bool.{and_parts, not-true}
+use Rattle.size_suffixes.specs.Sectors.{IsSector}
 use Rattle.block_list.specs.declared.status.Status.{Status}
 use Rattle.block_list.specs.Status.{status_of_symbol}
 use Rattle.block_list.specs.Types.{types_of}
@@ -13,7 +14,6 @@ use Rattle.option_words.specs.Values.{is_given, is_name, is_of, last_of, last_va
 use Rattle.option_words.proofs.LastLemmas.{none_counts}
 use Rattle.option_words.proofs.KeepLemmas.{Begins, Keeps, Kept, OfRow, both_keep, flag_keeps, item_holds, kept_from, none_keep, plain_keeps, set_by_sector, turn_holds}
 use Rattle.option_words.proofs.RowLemmas.{◌and◌, EachRow, equal_letter}
-use Rattle.option_words.proofs.TurnLemmas.{IsSector}
 use Rattle.option_words.proofs.ValueLemmas.{map_part, size_by_below}
 use Rattle.option_words.proofs.QuietLemmas.{or_true}
 use Rattle.map_algebra.specs.declared.combine.Op.TheVariants.{And, Or, Xor}

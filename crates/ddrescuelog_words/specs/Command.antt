@@ -1,5 +1,6 @@
 -- What the words of `ddrescuelog` ask for, or why they are refused.
 use Rattle.std.specs.Prelude.{◌≡◌, ℕ, ◌^◌, ◌<◌, ◌≤◌, Bool, true, false, ◌&&◌, nat_eq, List, [], ◌∷◌, length, count_by, Option, Some, None, Result, Ok, Err, IfSome, option_map, option_and_then, if◌then◌else◌}
+use Rattle.size_suffixes.specs.Sectors.{largest_sector}
 use Rattle.option_words.specs.Words.{word}
 use Rattle.option_words.specs.declared.row.Row.{Row}
 use Rattle.option_words.specs.declared.reading.Item.{Item}
@@ -117,7 +118,7 @@ AskQuiet words = AskSilence log_grammar words
 -- what is asked for is within limits, and another map has a name exactly when the mode works on one
 pub record AreInLimits (c : Command) : Type 0 where
   pub block : 0 < c.options.block
-  pub block_max : c.options.block ≤ 1048576
+  pub block_max : c.options.block ≤ largest_sector
   pub input_position : c.options.input_position < 2 ^ 63
   pub output_position : IfSome c.options.output_position (λ n. n < 2 ^ 63)
   pub size : IfSome c.options.size (λ n. n < 2 ^ 63)

@@ -4,7 +4,7 @@ use Rattle.block_list.specs.Types.{types_of}
 use Rattle.option_words.specs.declared.row.Takes.{Takes}
 use Rattle.option_words.specs.declared.row.Takes.TheVariants.{Never, Always, Optional}
 use Rattle.option_words.specs.declared.reading.Item.{Item}
-use Rattle.option_words.specs.Values.{Meaning, OptionRow, domain_letter, flag, is_name, meanings_of, quiet_letter, sector_letter, size_by, valued}
+use Rattle.option_words.specs.Values.{Meaning, OptionRow, domain_letter, flag, is_name, letter_in, meanings_of, quiet_letter, sector_letter, size_by, valued}
 use Rattle.option_words.specs.Values.{options_in as options_by}
 use Rattle.map_algebra.specs.declared.combine.Op.TheVariants.{And, Or, Xor}
 use Rattle.map_algebra.specs.Change.{change_of, inverting}
@@ -26,40 +26,44 @@ mode letter name takes read =
 
 -- the letter of `-s`, which is read by itself, and checked again after all others if a map is to be made
 abbrev pub size_letter : ℕ
-size_letter = 115
+size_letter = letter_in (codes "s")
 
 -- the letters of the options that say what is done, one of which must be given
 abbrev pub mode_letters : List ℕ
-mode_letters = 97 ∷ 99 ∷ 67 ∷ 100 ∷ 68 ∷ 108 ∷ 110 ∷ 112 ∷ 80 ∷ 116 ∷ 120 ∷ 121 ∷ 122 ∷ []
+mode_letters = codes "acCdDlnpPtxyz"
 
 -- the options, each with what it sets by the size of a block and the text of its value
 abbrev pub option_rows : List (OptionRow LogOptions)
 option_rows =
-    mode 97 (codes "change-types") Always (λ value. option_map Change (option_and_then change_of value))
+    mode (letter_in (codes "a")) (codes "change-types") Always
+    (λ value. option_map Change (option_and_then change_of value))
     ∷ valued sector_letter (codes "block-size") (λ block o value. Some o)
-    ∷ mode 99 (codes "create-mapfile") Optional two_types
-    ∷ mode 67 (codes "complete-mapfile") Optional (λ value. option_map Complete (one_type value))
-    ∷ mode 100 (codes "delete-if-done") Never (λ value. Some (Test true))
-    ∷ mode 68 (codes "done-status") Never (λ value. Some (Test false))
-    ∷ flag 102 (codes "force") (λ o. record o { forced = true })
-    ∷ valued 105 (codes "input-position") (λ block o value. option_map (λ n. record o { input_position = n })
+    ∷ mode (letter_in (codes "c")) (codes "create-mapfile") Optional two_types
+    ∷ mode (letter_in (codes "C")) (codes "complete-mapfile") Optional (λ value. option_map Complete (one_type value))
+    ∷ mode (letter_in (codes "d")) (codes "delete-if-done") Never (λ value. Some (Test true))
+    ∷ mode (letter_in (codes "D")) (codes "done-status") Never (λ value. Some (Test false))
+    ∷ flag (letter_in (codes "f")) (codes "force") (λ o. record o { forced = true })
+    ∷ valued (letter_in (codes "i")) (codes "input-position")
+    (λ block o value. option_map (λ n. record o { input_position = n })
     (size_by block value))
-    ∷ mode 108 (codes "list-blocks") Always (λ value. option_map ListBlocks (option_and_then types_of value))
-    ∷ flag 76 (codes "loose-domain") (λ o. record o { loose = true })
+    ∷ mode (letter_in (codes "l")) (codes "list-blocks") Always
+    (λ value. option_map ListBlocks (option_and_then types_of value))
+    ∷ flag (letter_in (codes "L")) (codes "loose-domain") (λ o. record o { loose = true })
     ∷ valued domain_letter (codes "domain-mapfile") (λ block o value. if is_name value then Some o else None)
-    ∷ mode 110 (codes "invert-mapfile") Never (λ value. Some (Change inverting))
-    ∷ valued 111 (codes "output-position") (λ block o value. option_map (λ n. record o { output_position = Some n })
+    ∷ mode (letter_in (codes "n")) (codes "invert-mapfile") Never (λ value. Some (Change inverting))
+    ∷ valued (letter_in (codes "o")) (codes "output-position")
+    (λ block o value. option_map (λ n. record o { output_position = Some n })
     (size_by block value))
-    ∷ mode 112 (codes "compare-mapfile") Always (with_map (Compare false))
-    ∷ mode 80 (codes "compare-as-domain") Always (with_map (Compare true))
+    ∷ mode (letter_in (codes "p")) (codes "compare-mapfile") Always (with_map (Compare false))
+    ∷ mode (letter_in (codes "P")) (codes "compare-as-domain") Always (with_map (Compare true))
     ∷ flag quiet_letter (codes "quiet") (λ o. record o { quiet = true })
     ∷ valued size_letter (codes "size") (λ block o value. option_map (λ n. record o { size = Some n })
     (size_by block value))
-    ∷ mode 116 (codes "show-status") Never (λ value. Some Summarize)
-    ∷ flag 118 (codes "verbose") (λ o. o)
-    ∷ mode 120 (codes "xor-mapfile") Always (with_map (Combine Xor))
-    ∷ mode 121 (codes "and-mapfile") Always (with_map (Combine And))
-    ∷ mode 122 (codes "or-mapfile") Always (with_map (Combine Or))
+    ∷ mode (letter_in (codes "t")) (codes "show-status") Never (λ value. Some Summarize)
+    ∷ flag (letter_in (codes "v")) (codes "verbose") (λ o. o)
+    ∷ mode (letter_in (codes "x")) (codes "xor-mapfile") Always (with_map (Combine Xor))
+    ∷ mode (letter_in (codes "y")) (codes "and-mapfile") Always (with_map (Combine And))
+    ∷ mode (letter_in (codes "z")) (codes "or-mapfile") Always (with_map (Combine Or))
     ∷ []
 
 -- each option's letter, its long name, and whether it takes a value

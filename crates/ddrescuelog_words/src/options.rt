@@ -1,5 +1,6 @@
 //! The options of `ddrescuelog`, and what they ask for.
 ghost use Rattle.std.specs.Prelude.{◌≡◌, ◌<◌, ◌≤◌, option_map};
+ghost use Rattle.size_suffixes.specs.Sectors.{IsSector};
 ghost use Rattle.option_words.specs.Values.{row_of, set_by};
 ghost use Rattle.ddrescuelog_words.specs.Modes.{one_type, two_types, with_map};
 ghost use Rattle.ddrescuelog_words.specs.Options.{ends_beyond, no_options, option_rows};
@@ -46,7 +47,7 @@ pub static ROWS: [Row; 22] = [
     option_row!('L', "loose-domain", Never: "accept a domain map with gaps"),
     option_row!('m', "domain-mapfile", Always(DomainMap): "examine only what is finished in this map"),
     option_row!('n', "invert-mapfile", Never: "print the map with finished and unfinished swapped"),
-    option_row!('o', "output-position", Always(Size): "begin at this position of the output"),
+    option_row!('o', "output-position", Always(Size): "begin at this position of outfile"),
     option_row!('p', "compare-mapfile", Always(Mapfile): "answer 0 if both maps have the same statuses"),
     option_row!('P', "compare-as-domain", Always(Mapfile): "answer 0 if the same is finished in both"),
     option_row!('q', "quiet", Never: "print no message"),
@@ -146,8 +147,7 @@ fn with_letter(
     letter: char,
     value: Option<&str>,
 ) -> Option<LogOptions>
-    requires low { 0 < block }
-    requires high { block ≤ 1048576 }
+    requires { IsSector block }
     ensures { result ≡ set_by (row_of letter option_rows) block options (option_map (λ v. v.now) value.entry) }
 {
     let size = size_by(block, value);

@@ -2,12 +2,12 @@
 use Rattle.std.proofs.Common.{◌≡◌, ℕ, List, slice_get, Option, Some, None, Ok, refl, sym, ◌∙◌, ap, subst}
 use Rattle.std.proofs.lemmas.Option.{same_Some, slice_get-map}
 use Rattle.std.specs.Option.{option_map, option_and_then}
+use Rattle.size_suffixes.specs.Sectors.{IsSector}
 use Rattle.option_words.specs.Rows.{is_letter}
 use Rattle.option_words.specs.declared.reading.Item.{Item}
 use Rattle.option_words.specs.Values.{OptionRow, is_given, letter_meant, quiet_letter, row_of, set_by}
 use Rattle.option_words.proofs.KeepLemmas.{AreKept, Begins, Keeps, Kept, RowKeeps, options_keep as kept_in}
 use Rattle.option_words.proofs.RowLemmas.{◌and◌, EachRow, letter_given, lettered_passes, without_last}
-use Rattle.option_words.proofs.TurnLemmas.{IsSector}
 use Rattle.option_words.proofs.ValueLemmas.{map_part}
 use Rattle.ddrescue_words.specs.declared.options.Options.{Options}
 use Rattle.ddrescue_words.specs.Options.{lettered_rows, sample_row, option_rows as rescue_rows, no_options as no_rescue_options}

@@ -1,5 +1,6 @@
 //! What the words of a command line ask for.
 ghost use Rattle.std.specs.Prelude.{◌≡◌, ◌<◌, ◌≤◌, All, Ok, Err, IfOk, IfErr, true, map};
+ghost use Rattle.size_suffixes.specs.Sectors.{IsSector};
 ghost use Rattle.option_words.specs.Rows.{meaning_of_row};
 ghost use Rattle.option_words.specs.Spots.{HasSpot};
 ghost use Rattle.option_words.specs.Tables.{is_table};
@@ -9,7 +10,7 @@ ghost use Rattle.ddrescueplan_words.specs.Command.{AreOptions, IsAsked, IsErrorO
 ghost use Rattle.ddrescueplan_words.specs.Options.{option_meanings};
 
 use crate::options::{CLUSTER_SIZE, PlanOptions, ROWS};
-use ddrescue_words::options::Options;
+use ddrescue_words::options::{DEFAULT_CLUSTER, Options};
 use option_words::asked::{Asked, read_asked};
 use option_words::command_error::CommandError;
 use option_words::fault::UsageFault;
@@ -20,16 +21,11 @@ use option_words::row::Row;
 use option_words::table::OptionTable;
 use option_words::values::{size_by, within_range};
 use option_words::words::Words;
+use size_suffixes::sectors::LARGEST_CLUSTER;
 use std::alloc::Global;
 
 /// The greatest length in bytes: 1 TiB.
 const MOST_LENGTH: u64 = 1 << 40;
-
-/// The size of a cluster in bytes, if no option gives it and no sector is larger.
-const DEFAULT_CLUSTER: u64 = 65_536;
-
-/// The largest cluster in bytes.
-const MOST_CLUSTER: u64 = 16_777_216;
 
 /// What the words of a command line ask for: the length of the input, the map of what can be read of it, and what the
 /// options say.
@@ -50,13 +46,12 @@ fn is_too_large(options: &Options) -> bool
         Some(sectors) => sectors,
         None => (DEFAULT_CLUSTER / options.sector).max(1),
     };
-    sectors.saturating_mul(options.sector) > MOST_CLUSTER
+    sectors.saturating_mul(options.sector) > LARGEST_CLUSTER
 }
 
 /// The length that a text gives, if it does.
 fn read_length(sector: u64, text: &str) -> Option<u64>
-    requires low { 0 < sector }
-    requires high { sector ≤ 1048576 }
+    requires { IsSector sector }
     ensures { result ≡ length_by sector text.now }
 {
     within_range(size_by(sector, Some(text))?, 0, MOST_LENGTH)
@@ -68,8 +63,7 @@ fn name_operands<'a>(
     options: PlanOptions,
     operands: &[usize],
 ) -> Result<Command<'a>, UsageFault>
-    requires low { 0 < options.rescue.sector }
-    requires high { options.rescue.sector ≤ 1048576 }
+    requires sector { IsSector options.rescue.sector }
     requires operands { All (IsWord words.now) operands.now }
     ensures named { IfOk result (λ c. command_with words.now options operands.now ≡ Ok (told_by c)) }
     ensures refused { IfErr result (λ fault. command_with words.now options operands.now ≡ Err fault) }

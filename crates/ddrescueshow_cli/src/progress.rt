@@ -24,7 +24,7 @@ fn add_fitting(text: &mut Vec<u8>, part: &[u8]) -> Result<(), NoMemory>
     if text.len().saturating_add(part.len()) > COLUMNS {
         return Ok(());
     }
-    text.extend_from_slice(part).map_err(|_| NoMemory)
+    Ok(text.extend_from_slice(part)?)
 }
 
 /// A phase, and its pass.
@@ -195,7 +195,7 @@ fn over_text(alloc: Global, text: &[u8]) -> Result<Vec<u8>, NoMemory>
 {
     let mut over = Vec::new(alloc);
     add(&mut over, "\r")?;
-    over.extend_from_slice(text).map_err(|_| NoMemory)?;
+    over.extend_from_slice(text)?;
     add_bytes(&mut over, b' ', COLUMNS.saturating_sub(text.len()) as u64)?;
     Ok(over)
 }
@@ -218,7 +218,7 @@ fn passed_over(alloc: Global, line: &[u8]) -> Result<Vec<u8>, NoMemory>
 {
     let mut text = over_text(alloc, &[])?;
     add(&mut text, "\r")?;
-    text.extend_from_slice(line).map_err(|_| NoMemory)?;
+    text.extend_from_slice(line)?;
     Ok(text)
 }
 
@@ -230,7 +230,7 @@ pub(crate) fn passed_text(alloc: Global, is_up: bool, line: &[u8]) -> Result<Vec
         return passed_over(alloc, line);
     }
     let mut text = Vec::new(alloc);
-    text.extend_from_slice(line).map_err(|_| NoMemory)?;
+    text.extend_from_slice(line)?;
     Ok(text)
 }
 

@@ -10,8 +10,7 @@ use itoa::Buffer;
 pub(crate) fn add(text: &mut Vec<u8>, part: &str) -> Result<(), NoMemory>
     ensures { OnOk result (text.new.items ≡ text.old.items ++ part.now) }
 {
-    text.extend_from_slice(part.as_bytes())
-        .map_err(|_| NoMemory)
+    Ok(text.extend_from_slice(part.as_bytes())?)
 }
 
 /// Adds a number, and a text after it.
@@ -35,7 +34,7 @@ pub(crate) fn add_bytes(text: &mut Vec<u8>, byte: u8, count: u64) -> Result<(), 
 {
     let mut done = 0;
     while done < count {
-        text.push(byte).map_err(|_| NoMemory)?;
+        text.push(byte)?;
         done += 1;
     }
     Ok(())

@@ -1,11 +1,11 @@
 -- What options set, one after another, is within limits.
 use Rattle.std.proofs.Common.{◌≡◌, ℕ, ◌^◌, ◌<◌, ◌≤◌, true, false, List, Option, Some, Ok, refl, arith}
 use Rattle.std.specs.Option.{option_map, option_and_then}
+use Rattle.size_suffixes.specs.Sectors.{IsSector}
 use Rattle.option_words.specs.declared.reading.Item.{Item}
 use Rattle.option_words.specs.Values.{is_given, is_name, number_by, quiet_letter, size_by, within_range}
 use Rattle.option_words.proofs.KeepLemmas.{AreKept, Begins, Keeps, Kept, RowKeeps, flag_keeps, name_keeps, options_keep as kept_in, plain_keeps, value_keeps}
 use Rattle.option_words.proofs.RowLemmas.{◌and◌, EachRow}
-use Rattle.option_words.proofs.TurnLemmas.{IsSector}
 use Rattle.option_words.proofs.ValueLemmas.{in_range, size_by_below}
 use Rattle.option_words.proofs.QuietLemmas.{or_true}
 use Rattle.ddrescueshow_words.specs.declared.options.Coloring.{Coloring}

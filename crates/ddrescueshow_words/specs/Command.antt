@@ -1,5 +1,6 @@
 -- What the words of `ddrescueshow` ask for, or why they are refused.
 use Rattle.std.specs.Prelude.{ℕ, ◌^◌, ◌<◌, ◌≤◌, List, [], ◌∷◌, length, Option, option_map, Result, Ok, Err}
+use Rattle.size_suffixes.specs.Sectors.{largest_sector}
 use Rattle.option_words.specs.Words.{word}
 use Rattle.option_words.specs.declared.row.Row.{Row}
 use Rattle.option_words.specs.declared.reading.Item.{Item}
@@ -72,7 +73,7 @@ AskQuiet words = AskSilence show_grammar words
 -- options within their limits
 pub record AreInLimits (o : ShowOptions) : Type 0 where
   pub sector : 0 < o.sector
-  pub sector_max : o.sector ≤ 1048576
+  pub sector_max : o.sector ≤ largest_sector
   pub input_position : o.input_position < 2 ^ 63
   pub width : 0 < o.width
   pub width_max : o.width ≤ 1000

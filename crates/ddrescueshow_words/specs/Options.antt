@@ -3,7 +3,7 @@ use Rattle.std.specs.Prelude.{ℕ, true, false, List, [], ◌∷◌, ◌++◌, O
 use Rattle.std.specs.Str.{bytes_eq}
 use Rattle.option_words.specs.declared.row.Takes.TheVariants.{Never, Always}
 use Rattle.option_words.specs.declared.reading.Item.{Item}
-use Rattle.option_words.specs.Values.{Meaning, OptionRow, domain_letter, flag, is_name, meanings_of, number_by, quiet_letter, sector_letter, size_by, valued, within_range}
+use Rattle.option_words.specs.Values.{Meaning, OptionRow, domain_letter, flag, is_name, letter_in, meanings_of, number_by, quiet_letter, sector_letter, size_by, valued, within_range}
 use Rattle.option_words.specs.Values.{options_in as options_by}
 use Rattle.ddrescueshow_words.specs.declared.options.Coloring.{Coloring}
 use Rattle.ddrescueshow_words.specs.declared.options.Coloring.TheVariants.{Auto, Always as InAnyCase, Never as InNoCase}
@@ -26,12 +26,14 @@ coloring_by (Some text) =
 abbrev pub lettered_rows : List (OptionRow ShowOptions)
 lettered_rows =
     valued sector_letter (codes "sector-size") (λ sector o value. Some o)
-    ∷ valued 105 (codes "input-position") (λ sector o value. option_map (λ n. record o { input_position = n })
+    ∷ valued (letter_in (codes "i")) (codes "input-position")
+    (λ sector o value. option_map (λ n. record o { input_position = n })
     (size_by sector value))
-    ∷ flag 76 (codes "loose-domain") (λ o. record o { loose = true })
+    ∷ flag (letter_in (codes "L")) (codes "loose-domain") (λ o. record o { loose = true })
     ∷ valued domain_letter (codes "domain-mapfile") (λ sector o value. if is_name value then Some o else None)
     ∷ flag quiet_letter (codes "quiet") (λ o. record o { quiet = true })
-    ∷ valued 115 (codes "size") (λ sector o value. option_map (λ n. record o { size = Some n }) (size_by sector value))
+    ∷ valued (letter_in (codes "s")) (codes "size")
+    (λ sector o value. option_map (λ n. record o { size = Some n }) (size_by sector value))
     ∷ []
 
 -- an option that has no letter and takes a value

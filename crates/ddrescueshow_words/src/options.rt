@@ -1,5 +1,6 @@
 //! The options of `ddrescueshow`, and what they ask for.
 ghost use Rattle.std.specs.Prelude.{◌≡◌, ◌<◌, ◌≤◌, Some, option_map};
+ghost use Rattle.size_suffixes.specs.Sectors.{IsSector};
 ghost use Rattle.option_words.specs.Values.{row_of, set_by};
 ghost use Rattle.ddrescueshow_words.specs.Options.{color_row, coloring_by, count_by, lettered_rows, no_options, option_rows, rows_row, width_row};
 
@@ -151,8 +152,7 @@ fn with_letter(
     letter: char,
     value: Option<&str>,
 ) -> Option<ShowOptions>
-    requires low { 0 < sector }
-    requires high { sector ≤ 1048576 }
+    requires { IsSector sector }
     ensures { result ≡ set_by (row_of letter lettered_rows) sector options (option_map (λ v. v.now) value.entry) }
 {
     let size = size_by(sector, value);

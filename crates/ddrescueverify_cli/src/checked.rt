@@ -43,15 +43,11 @@ pub(crate) fn check_command<'a>(
         (names_of (told_by command.entry).mapfile) ≡ None) }
     ensures refused { IfErr result (λ e. NamesRefused (told_by command.entry) e ⊎ (e ≡ OutOfMemory)) }
 {
-    let Ok(names) = Names::of_map(alloc, command.mapfile) else {
-        return Err(VerifyEnding::NoMemory);
-    };
+    let names = Names::of_map(alloc, command.mapfile)?;
     if let Some((first, second)) = find_same(command.infile, command.outfile, &names) {
         return Err(VerifyEnding::SameName { first, second });
     }
-    let Ok(heading) = make_heading(alloc, PROGRAM, words, Program::Ddrescuelog) else {
-        return Err(VerifyEnding::NoMemory);
-    };
+    let heading = make_heading(alloc, PROGRAM, words, Program::Ddrescuelog)?;
     Ok(CheckedCommand {
         command,
         names,

@@ -2,6 +2,7 @@
 ghost use Rattle.std.specs.Prelude.{◌≡◌};
 ghost use Rattle.ddrescueverify_cli.specs.Answers.{status_of_ending};
 
+use block_list::tiles::NoMemory;
 use crash_site::site::SiteCall;
 use mapfile_text::read::MapError;
 use option_words::fault::UsageFault;
@@ -43,6 +44,17 @@ pub enum VerifyEnding {
     ConsoleFault,
     /// There wasn't enough memory. Nothing was saved.
     NoMemory,
+}
+
+impl From<NoMemory> for VerifyEnding {
+    ghost use Rattle.std.specs.Prelude.{◌≡◌};
+    ghost use Rattle.ddrescueverify_cli.specs.declared.ending.VerifyEnding.TheVariants.{NoMemory as OutOfMemory};
+
+    ghost from_gives = { λ _ e. e ≡ OutOfMemory };
+
+    fn from(_error: NoMemory) -> VerifyEnding {
+        VerifyEnding::NoMemory
+    }
 }
 
 impl VerifyEnding {

@@ -7,7 +7,6 @@ ghost use Rattle.ddrescueverify_cli.specs.Steps.{LoadCause, Loads, OpensOutput, 
 
 use crate::ending::{VerifyEnding, Which};
 use block_list::plain_tiles::PlainTiles;
-use block_list::tiles::NoMemory;
 use crash_site::site::{ImageKind, Site, SiteCall};
 use mapfile_reader::read::ReadMap;
 use mapfile_text::state::MapState;
@@ -57,10 +56,8 @@ fn begin_with(map: ReadMap, end: u64) -> Result<LoadedMap, VerifyEnding>
         mut tiles,
         ..
     } = map;
-    match extend_map(&mut tiles, end) {
-        Ok(()) => Ok(LoadedMap { tiles, state }),
-        Err(NoMemory) => Err(VerifyEnding::NoMemory),
-    }
+    extend_map(&mut tiles, end)?;
+    Ok(LoadedMap { tiles, state })
 }
 
 /// Makes the mapfile and the open output durable as they read, loads the mapfile, which must say something, and makes

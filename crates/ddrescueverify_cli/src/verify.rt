@@ -81,9 +81,7 @@ fn compare_loaded<S: Source, D: Site>(
     if !places_fit(from, options.size, to, end) {
         return Err(VerifyEnding::Usage(UsageFault::PlaceTooLarge));
     }
-    let Ok(compared) = Domain::within(alloc, from, options.size, end, Some(&loaded.tiles)) else {
-        return Err(VerifyEnding::NoMemory);
-    };
+    let compared = Domain::within(alloc, from, options.size, end, Some(&loaded.tiles))?;
     let comparison = Comparison {
         compared: &compared,
         sector: options.sector,

@@ -1,5 +1,6 @@
 -- What the words of `ddrescueverify` ask for, or why they are refused.
 use Rattle.std.specs.Prelude.{ℕ, ◌^◌, ◌<◌, ◌≤◌, List, [], ◌∷◌, length, Result, Ok, Err, IfSome}
+use Rattle.size_suffixes.specs.Sectors.{largest_sector}
 use Rattle.option_words.specs.Words.{word}
 use Rattle.option_words.specs.declared.row.Row.{Row}
 use Rattle.option_words.specs.declared.reading.Item.{Item}
@@ -70,7 +71,7 @@ AskQuiet words = AskSilence verify_grammar words
 -- options within their limits
 pub record AreInLimits (o : VerifyOptions) : Type 0 where
   pub sector : 0 < o.sector
-  pub sector_max : o.sector ≤ 1048576
+  pub sector_max : o.sector ≤ largest_sector
   pub input_position : o.input_position < 2 ^ 63
   pub output_position : IfSome o.output_position (λ n. n < 2 ^ 63)
 

@@ -1,7 +1,7 @@
 -- The options of `ddrescueverify`, one a row, and what they ask for. A later option is a row more.
 use Rattle.std.specs.Prelude.{ℕ, true, false, List, [], ◌∷◌, Some, None, Result, option_map, codes}
 use Rattle.option_words.specs.declared.reading.Item.{Item}
-use Rattle.option_words.specs.Values.{Meaning, OptionRow, flag, meanings_of, quiet_letter, sector_letter, size_by, valued}
+use Rattle.option_words.specs.Values.{Meaning, OptionRow, flag, letter_in, meanings_of, quiet_letter, sector_letter, size_by, valued}
 use Rattle.option_words.specs.Values.{options_in as options_by}
 use Rattle.ddrescueverify_words.specs.declared.options.VerifyOptions.{VerifyOptions}
 
@@ -9,12 +9,15 @@ use Rattle.ddrescueverify_words.specs.declared.options.VerifyOptions.{VerifyOpti
 abbrev pub option_rows : List (OptionRow VerifyOptions)
 option_rows =
     valued sector_letter (codes "sector-size") (λ sector o value. Some o)
-    ∷ valued 105 (codes "input-position") (λ sector o value. option_map (λ n. record o { input_position = n })
+    ∷ valued (letter_in (codes "i")) (codes "input-position")
+    (λ sector o value. option_map (λ n. record o { input_position = n })
     (size_by sector value))
-    ∷ valued 111 (codes "output-position") (λ sector o value. option_map (λ n. record o { output_position = Some n })
+    ∷ valued (letter_in (codes "o")) (codes "output-position")
+    (λ sector o value. option_map (λ n. record o { output_position = Some n })
     (size_by sector value))
     ∷ flag quiet_letter (codes "quiet") (λ o. record o { quiet = true })
-    ∷ valued 115 (codes "size") (λ sector o value. option_map (λ n. record o { size = Some n }) (size_by sector value))
+    ∷ valued (letter_in (codes "s")) (codes "size")
+    (λ sector o value. option_map (λ n. record o { size = Some n }) (size_by sector value))
     ∷ []
 
 -- each option's letter, its long name, and whether it takes a value

@@ -1,5 +1,6 @@
 //! The options of `ddrescueverify`, and what they ask for.
 ghost use Rattle.std.specs.Prelude.{◌≡◌, ◌<◌, ◌≤◌, option_map};
+ghost use Rattle.size_suffixes.specs.Sectors.{IsSector};
 ghost use Rattle.option_words.specs.Values.{row_of, set_by};
 ghost use Rattle.ddrescueverify_words.specs.Options.{no_options, option_rows};
 
@@ -54,8 +55,7 @@ fn with_letter(
     letter: char,
     value: Option<&str>,
 ) -> Option<VerifyOptions>
-    requires low { 0 < sector }
-    requires high { sector ≤ 1048576 }
+    requires { IsSector sector }
     ensures { result ≡ set_by (row_of letter option_rows) sector options (option_map (λ v. v.now) value.entry) }
 {
     let size = size_by(sector, value);

@@ -1,6 +1,7 @@
 //! What generate mode marks of a piece.
 ghost use Rattle.std.specs.Prelude.{◌≡◌, ℕ, ◌+◌, ◌-◌, ◌*◌, ◌/◌, ◌<◌, ◌≤◌, ◌^◌, true, false, length};
 ghost use Rattle.std.specs.List.{list_any};
+ghost use Rattle.size_suffixes.specs.Sectors.{IsSector, largest_cluster};
 ghost use Rattle.rescue_rules.specs.Setting.{Setting};
 ghost use Rattle.sweep_rules.specs.Sweep.{is_generated};
 ghost use Rattle.fill_generate.specs.Marking.{is_byte, finished_at, finished_between, piece_at};
@@ -12,7 +13,7 @@ use block_list::tiles::Tiles;
 pub(crate) fn room_for(sector: u64, pos: u64, end: u64) -> usize
     requires sector { 0 < sector }
     requires later { pos ≤ end }
-    requires few { end ≤ pos + 16777216 }
+    requires few { end ≤ pos + largest_cluster }
     ensures { result ≡ 2 * (end / sector - pos / sector) + 4 }
 {
     2 * (end / sector - pos / sector) as usize + 4
@@ -22,8 +23,7 @@ pub(crate) fn room_for(sector: u64, pos: u64, end: u64) -> usize
 /// bytes isn't zero, as many positions as there are bytes. They are cut at multiples of the sector; what is
 /// marked side by side is one mark.
 pub(crate) fn mark_held<T: Tiles>(tiles: &mut T, sector: u64, pos: u64, bytes: &[u8])
-    requires sector { 0 < sector }
-    requires sector_max { sector ≤ 1048576 }
+    requires sector { IsSector sector }
     requires within { pos + length bytes.now ≤ length (T.statuses tiles.old) }
     requires short { pos + length bytes.now < 2 ^ 63 }
     requires spare { 2 * ((pos + length bytes.now) / sector - pos / sector) + 4 ≤ T.spare tiles.old }

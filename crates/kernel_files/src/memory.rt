@@ -192,10 +192,7 @@ fn list(log: &mut Vec<Act>, act: Act) -> io::Result<()>
     ensures ok { OnOk result (log.new.items ≡ log.old.items ++ act ∷ []) }
     ensures err { OnErr result (log.new.items ≡ log.old.items) }
 {
-    match log.push(act) {
-        Ok(()) => Ok(()),
-        Err(_) => Err(ErrorKind::OutOfMemory.into()),
-    }
+    Ok(log.push(act)?)
 }
 
 impl Kernel for MemoryKernel {
@@ -223,10 +220,7 @@ impl Kernel for MemoryKernel {
         if self.made == usize::MAX {
             return Err(ErrorKind::OutOfMemory.into());
         }
-        match list(&mut self.log, Act::Create(copied)) {
-            Ok(()) => {}
-            Err(fault) => return Err(fault),
-        }
+        list(&mut self.log, Act::Create(copied))?;
         let number = self.made;
         self.made += 1;
         Ok(OpenNode { number })

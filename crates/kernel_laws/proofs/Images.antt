@@ -86,7 +86,7 @@ grown_loss pos len at size f g low high h = record {
   };
 }
 
--- Two writes, one behind the other, are one.
+-- Two writes, one after the other, are one.
 
 written_on : (old p q : List ℕ) (at : ℕ) → written (written old at p) (at + length p) q ≡ written old at (p ++ q)
 written_on old p q at =
@@ -105,13 +105,13 @@ written_on old p q at =
     let after_both : drop (at + length p) first ≡ rest =
     drop-append-le (at + length p) (front ++ p) rest (omega (arith, both))
     ∙ ap (λ (l : List ℕ). l ++ rest) (drop_all (at + length p) (front ++ p) (omega (arith, both))) in
-    let behind : drop (at + length p + length q) first ≡ drop (at + length (p ++ q)) old =
+    let rest_is : drop (at + length p + length q) first ≡ drop (at + length (p ++ q)) old =
     sym (drop-drop (length q) (at + length p) first)
     ∙ ap (drop (length q)) after_both
     ∙ drop-drop (length q) (at + length p) old
     ∙ ap (λ (k : ℕ). drop k old) (let e : at + length p + length q ≡ at + length (p ++ q) = omega (arith, length-append p q) in e) in
     ap (λ (l : List ℕ). l ++ q ++ drop (at + length p + length q) first) kept
-    ∙ ap (λ (l : List ℕ). front ++ p ++ q ++ l) behind
+    ∙ ap (λ (l : List ℕ). front ++ p ++ q ++ l) rest_is
     ∙ ap (λ (l : List ℕ). l ++ drop (at + length (p ++ q)) old) (append_assoc front p q)
 
 piece_on : (at : ℕ) (p q : List ℕ) (f : Node)

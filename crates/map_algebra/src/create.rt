@@ -21,7 +21,7 @@ fn sorted(alloc: Global, numbers: &[u64]) -> Result<Vec<u64>, NoMemory>
     ensures order { IfOk result (λ sorted. IsNonDecreasing sorted.items) }
     ensures same { IfOk result (λ sorted. IsPermutation numbers.now sorted.items) }
 {
-    let mut sorted = Vec::from_slice(alloc, numbers).map_err(|_| NoMemory)?;
+    let mut sorted = Vec::from_slice(alloc, numbers)?;
     sorted.sort_unstable();
     Ok(sorted)
 }

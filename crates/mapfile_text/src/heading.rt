@@ -49,9 +49,7 @@ impl Heading {
     pub fn new(alloc: Global, program: Program, line: &str) -> Result<Heading, NoMemory>
         ensures { IfOk result (λ h. h ≡ record { program = program; line = line.now; start_s = 0; now_s = 0 }) }
     {
-        let Ok(line) = String::from_str(alloc, line) else {
-            return Err(NoMemory);
-        };
+        let line = String::from_str(alloc, line)?;
         Ok(Heading {
             program,
             line,

@@ -144,7 +144,7 @@ impl MemoryConsole {
             { schedule = with_failing number (state_of_console self.old).schedule }) }
         ensures kept { OnErr result (state_of_console self.new ≡ state_of_console self.old) }
     {
-        self.schedule.fail_call(number).map_err(|_| NoMemory)
+        Ok(self.schedule.fail_call(number)?)
     }
 
     /// What is on a channel.
@@ -227,7 +227,7 @@ impl MemoryFeed {
             { schedule = with_failing number (state_of_feed self.old).schedule }) }
         ensures kept { OnErr result (state_of_feed self.new ≡ state_of_feed self.old) }
     {
-        self.schedule.fail_call(number).map_err(|_| NoMemory)
+        Ok(self.schedule.fail_call(number)?)
     }
 
     /// The bytes that weren't taken yet.

@@ -73,9 +73,7 @@ impl MemorySite {
         ensures draft { OnOk result ((state_of self.new).start.draft ≡ begun_draft self.old) }
         ensures kept { OnErr result (state_of self.new ≡ state_of self.old) }
     {
-        let Ok((start, folder)) = self.with_file(name.as_bytes(), bytes, regular) else {
-            return Err(NoMemory);
-        };
+        let (start, folder) = self.with_file(name.as_bytes(), bytes, regular)?;
         self.start = start;
         self.folder = folder;
         self.log.forget();
@@ -121,9 +119,7 @@ impl MemorySite {
             { schedule = with_failing_after number steps (state_of self.old).schedule }) }
         ensures kept { OnErr result (state_of self.new ≡ state_of self.old) }
     {
-        self.log
-            .fail_call_after(number, steps)
-            .map_err(|_| NoMemory)
+        Ok(self.log.fail_call_after(number, steps)?)
     }
 
     /// The bytes of a file as it reads.

@@ -132,12 +132,8 @@ impl MemorySource {
           journals_below = [];
         }) }
     {
-        let Ok(entries) = Vec::with_capacity(alloc, room) else {
-            return Err(NoMemory);
-        };
-        let Ok(name) = Vec::with_capacity(alloc, NAME_LIMIT) else {
-            return Err(NoMemory);
-        };
+        let entries = Vec::with_capacity(alloc, room)?;
+        let name = Vec::with_capacity(alloc, NAME_LIMIT)?;
         let end = bytes.len() as u64;
         Ok(MemorySource {
             bytes,
@@ -170,7 +166,7 @@ impl MemorySource {
         }) }
         ensures kept { OnErr result (state_of self.new ≡ state_of self.old) }
     {
-        self.schedule.fail_call(number).map_err(|_| NoMemory)
+        Ok(self.schedule.fail_call(number)?)
     }
 
     /// The reads that were answered, in order.

@@ -4,11 +4,12 @@ use Rattle.std.proofs.Common.{◌≡◌, ℕ, Bool, true, false, cond, ◌||◌,
 use Rattle.std.proofs.Math.Bool.{or_assoc}
 use Rattle.std.proofs.lemmas.Option.{same_Some}
 use Rattle.std.specs.Option.{option_map, option_and_then}
+use Rattle.size_suffixes.specs.Sectors.{IsSector}
 use Rattle.option_words.specs.Rows.{is_letter}
 use Rattle.option_words.specs.declared.reading.Item.{Item}
 use Rattle.option_words.specs.Values.{OptionRow, default_sector, is_given, is_of, letter_meant, meanings_of, options_in, options_with, quiet_letter, sector_letter, set_by, set_in_turn, value_of, with_item, with_sector, word_at}
 use Rattle.option_words.proofs.RowLemmas.{EachRow, letter_given, row_passes}
-use Rattle.option_words.proofs.TurnLemmas.{IsSector, default_is, sector_in_turn, turn_parts}
+use Rattle.option_words.proofs.TurnLemmas.{default_is, sector_in_turn, turn_parts}
 use Rattle.option_words.proofs.ValueLemmas.{map_part, or_part}
 use Rattle.option_words.proofs.QuietLemmas.{or_false}
 

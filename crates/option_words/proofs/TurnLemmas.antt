@@ -3,6 +3,7 @@ use Rattle.std.proofs.Common.{◌≡◌, ℕ, ◌+◌, ◌<◌, ◌≤◌, Bool,
 use Rattle.std.proofs.lemmas.List.{drop_more, at_drop_all}
 use Rattle.std.specs.Option.{ok_or, option_and_then}
 use Rattle.std.specs.Result.{result_ok}
+use Rattle.size_suffixes.specs.Sectors.{IsSector, largest_sector}
 use Rattle.size_suffixes.specs.Size.{size}
 use Rattle.option_words.specs.declared.reading.Item.{Item}
 use Rattle.option_words.proofs.ValueLemmas.{in_range, or_part, then_part}
@@ -35,14 +36,9 @@ module _ {O : Type 0} (f : O → Item → Result O ℕ) where
   turn_parts (Ok o) items o' e = (o, refl, e)
   turn_parts (Err n) items o' e = let h = fault_stays n items in absurd (cc)
 
--- a sector's size that is accepted
-pub record IsSector (sector : ℕ) : Type 0 where
-  pub low : 0 < sector
-  pub high : sector ≤ 1048576
-
 sector_of_is : (text : List ℕ) (n : ℕ) → sector_of text ≡ Some n → IsSector n
 sector_of_is text n e =
-    let p = in_range 1 1048576 (result_ok (size default_sector text)) n e in
+    let p = in_range 1 largest_sector (result_ok (size default_sector text)) n e in
     record { low = omega (arith, p.0); high = p.1 }
 
 sector_by : (b : Bool) (value : Option (List ℕ)) (word sector n : ℕ) → IsSector sector

@@ -1,8 +1,9 @@
 -- What the values of options say, for any program, and which of them count.
-use Rattle.std.specs.Prelude.{ℕ, ◌≤◌, Bool, false, not, ◌&&◌, nat_eq, nat_le, List, [], ◌∷◌, length, map, drop, find, slice_get, Option, Some, None, Result, Ok, Err, ok_or, option_and_then, if◌then◌else◌}
+use Rattle.std.specs.Prelude.{ℕ, ◌≤◌, Bool, false, not, ◌&&◌, nat_eq, nat_le, List, [], ◌∷◌, length, map, drop, find, slice_get, Option, Some, None, Result, Ok, Err, ok_or, option_and_then, codes, if◌then◌else◌}
 use Rattle.std.specs.Result.{result_ok}
 use Rattle.std.specs.List.{list_any}
 use Rattle.size_suffixes.specs.Number.{number}
+use Rattle.size_suffixes.specs.Sectors.{largest_sector}
 use Rattle.size_suffixes.specs.Size.{size}
 use Rattle.option_words.specs.Words.{word}
 use Rattle.option_words.specs.Rows.{is_letter}
@@ -31,17 +32,22 @@ flag letter name sets =
 abbrev pub valued : {O : Type 0} → (letter : ℕ) → List ℕ → (ℕ → O → Option (List ℕ) → Option O) → OptionRow O
 valued letter name sets = record { letter = Some letter; name = name; takes = Always; sets = sets }
 
+-- the letter that a text of one character is
+abbrev pub letter_in : List ℕ → ℕ
+letter_in [] = 0
+letter_in (c ∷ text) = c
+
 -- The letter of the option for the size of a sector (`-b`), in every program. It is set before all others.
 abbrev pub sector_letter : ℕ
-sector_letter = 98
+sector_letter = letter_in (codes "b")
 
 -- the letter of the option that nothing be said (`-q`), in every program
 abbrev pub quiet_letter : ℕ
-quiet_letter = 113
+quiet_letter = letter_in (codes "q")
 
 -- the letter of the option that names the domain map (`-m`), in every program that has one; it is read by itself
 abbrev pub domain_letter : ℕ
-domain_letter = 109
+domain_letter = letter_in (codes "m")
 
 -- an option's letter, its long name, and whether it takes a value
 abbrev pub Meaning : Type 0
@@ -118,9 +124,9 @@ default_sector = 512
 abbrev pub within_range : (least most : ℕ) → ℕ → Option ℕ
 within_range least most n = if nat_le least n && nat_le n most then Some n else None
 
--- the size of a sector, from 1 to 1,048,576 bytes; `s` is 512 in it
+-- the size of a sector; `s` is 512 in it
 abbrev pub sector_of : List ℕ → Option ℕ
-sector_of text = option_and_then (within_range 1 1048576) (result_ok (size default_sector text))
+sector_of text = option_and_then (within_range 1 largest_sector) (result_ok (size default_sector text))
 
 -- a size in bytes that a value gives; `s` is the sector in it
 abbrev pub size_by : (sector : ℕ) → Option (List ℕ) → Option ℕ

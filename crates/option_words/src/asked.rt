@@ -74,7 +74,8 @@ fn wanted_by(table: &OptionTable, items: &[Item], fault: UsageFault) -> Option<W
 
 /// Reads the words of a command line: first the words themselves, then what their reading asks for.
 pub fn read_asked<'a, A: Asked<'a>>(alloc: Global, words: &'a Words) -> Result<A, Refusal>
-    ensures asked { IfOk result (λ c. IsReadAs A.options words.now (λ items operands. A.asks words.now items operands c)) }
+    ensures asked { IfOk result (λ c. IsReadAs A.options words.now
+        (λ items operands. A.asks words.now items operands c)) }
     ensures refused { IfErr result (λ r. IsRefusedAs A.options words.now (A.refuses words.now) r.error) }
 {
     let table = OptionTable::of(A::rows());

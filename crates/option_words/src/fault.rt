@@ -1,4 +1,5 @@
 //! What can be wrong with the words of a command line.
+use std::alloc::AllocFailed;
 use thiserror::Error;
 
 /// Why words can't be read by a table. Words are counted from 1. The first faulty word decides, and in a group of
@@ -23,6 +24,17 @@ pub enum WordFault {
     /// There wasn't enough memory.
     #[error("NoMemory")]
     NoMemory,
+}
+
+impl<T: Drop> From<AllocFailed<T>> for WordFault {
+    ghost use Rattle.std.specs.Prelude.{◌≡◌};
+    ghost use Rattle.option_words.specs.declared.fault.WordFault.TheVariants.{NoMemory as OutOfMemory};
+
+    ghost from_gives = { λ _ e. e ≡ OutOfMemory };
+
+    fn from(_failed: AllocFailed<T>) -> WordFault {
+        WordFault::NoMemory
+    }
 }
 
 /// Why words ask for nothing that can be done. Words are counted from 1.

@@ -1,5 +1,6 @@
 //! What options set, one after another.
 ghost use Rattle.std.specs.Prelude.{◌≡◌, ◌<◌, ◌≤◌, ℕ, List, All, Ok, IfOk, slice_get, map, option_map};
+ghost use Rattle.size_suffixes.specs.Sectors.{IsSector};
 ghost use Rattle.option_words.specs.Rows.{meaning_of_row};
 ghost use Rattle.option_words.specs.Spots.{HasSpot};
 ghost use Rattle.option_words.specs.Values.{OptionRow, default_sector, meanings_of, options_in, sector_letter, set_by, set_in_turn, with_item, with_sector};
@@ -28,8 +29,7 @@ pub trait OptionValues: Copy {
     /// What the option of a row sets by the text of its value, if it has one; nothing if that is a bad value, or if
     /// there is no such row. Rows are counted from 0.
     fn with_row(self, sector: u64, row: usize, value: Option<&str>) -> Option<Self>
-        requires low { 0 < sector }
-        requires high { sector ≤ 1048576 }
+        requires { IsSector sector }
         ensures { result ≡ set_by (slice_get rows row) sector self (option_map (λ v. v.now) value.entry) };
 }
 
@@ -63,7 +63,7 @@ pub fn read_sector_in(
     requires { All (HasSpot words.now) items.now }
     ensures set { result ≡ set_in_turn (with_sector (map meaning_of_row table.now) letter words.now)
         (Ok default_sector) items.now }
-    ensures limits { IfOk result (λ s. (0 < s) × (s ≤ 1048576)) }
+    ensures limits { IfOk result IsSector }
 {
     let mut sector = DEFAULT_SECTOR;
     for item in items {
@@ -80,8 +80,7 @@ fn set_item<O: OptionValues>(
     item: &Item,
 ) -> Result<O, usize>
     requires spot { HasSpot words.now item.now }
-    requires low { 0 < sector }
-    requires high { sector ≤ 1048576 }
+    requires sector { IsSector sector }
     ensures { result ≡ with_item O.rows sector words.now options item.now }
 {
     let value = value_of(words, item);
@@ -98,8 +97,7 @@ pub fn read_settings<O: OptionValues>(
     none: O,
 ) -> Result<O, usize>
     requires spots { All (HasSpot words.now) items.now }
-    requires low { 0 < sector }
-    requires high { sector ≤ 1048576 }
+    requires sector { IsSector sector }
     ensures { result ≡ set_in_turn (with_item O.rows sector words.now) (Ok none) items.now }
 {
     let mut options = none;

@@ -64,9 +64,7 @@ impl Reader {
         ensures ok { OnOk result (Took self.old self.new (one_item item.row item.word item.value)) }
         ensures err { IfErr result (λ e. e ≡ OutOfMemory) }
     {
-        if self.items.push(item).is_err() {
-            return Err(WordFault::NoMemory);
-        }
+        self.items.push(item)?;
         self.next = NextWord::Anything;
         Ok(())
     }
@@ -76,10 +74,7 @@ impl Reader {
         ensures ok { OnOk result (Took self.old self.new (one_operand word self.old.next)) }
         ensures err { IfErr result (λ e. e ≡ OutOfMemory) }
     {
-        if self.operands.push(word).is_err() {
-            return Err(WordFault::NoMemory);
-        }
-        Ok(())
+        Ok(self.operands.push(word)?)
     }
 
     /// Takes an option that a word has, with the value that this word has for it.

@@ -1,18 +1,17 @@
 //! The values of options.
 ghost use Rattle.std.specs.Prelude.{◌≡◌, ◌<◌, ◌≤◌, option_map};
+ghost use Rattle.size_suffixes.specs.Sectors.{IsSector};
 ghost use Rattle.option_words.specs.Spots.{HasSpot};
 ghost use Rattle.option_words.specs.Values.{is_name, number_by, sector_of, size_by, value_of, within_range, word_at};
 
 use crate::reading::Item;
 use crate::words::Words;
 use size_suffixes::number::read_number;
+use size_suffixes::sectors::LARGEST_SECTOR;
 use size_suffixes::size::read_size;
 
 /// The size of a sector in bytes, if no option gives it.
 pub(crate) const DEFAULT_SECTOR: u64 = 512;
-
-/// The largest sector in bytes.
-const MOST_SECTOR: u64 = 1_048_576;
 
 /// The text of an option's value, if it has one; an empty text is one.
 pub fn value_of<'a>(words: &'a Words, item: &Item) -> Option<&'a str>
@@ -51,13 +50,12 @@ pub(crate) fn read_sector(text: &str) -> Option<u64>
     ensures { result ≡ sector_of text.now }
 {
     let sector = read_size(text, DEFAULT_SECTOR).ok()?;
-    within_range(sector, 1, MOST_SECTOR)
+    within_range(sector, 1, LARGEST_SECTOR)
 }
 
 /// The size in bytes that a value gives, if it does; `s` is the sector in it.
 pub fn size_by(sector: u64, value: Option<&str>) -> Option<u64>
-    requires low { 0 < sector }
-    requires high { sector ≤ 1048576 }
+    requires { IsSector sector }
     ensures { result ≡ size_by sector (option_map (λ v. v.now) value.entry) }
 {
     read_size(value?, sector).ok()

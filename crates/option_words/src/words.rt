@@ -6,7 +6,7 @@ ghost use Rattle.option_words.specs.Words.{command_line, word};
 
 use crate::reading::Spot;
 use block_list::tiles::NoMemory;
-use std::alloc::{AllocError, Global};
+use std::alloc::Global;
 use std::marker::Model;
 
 /// The words of a command line, without the program's own name.
@@ -41,13 +41,8 @@ impl Words {
         ensures ok { OnOk result (self.new ≡ self.old ++ word.now ∷ []) }
         ensures err { OnErr result (self.new ≡ self.old) }
     {
-        let Ok(copy) = String::from_str(self.alloc, word) else {
-            return Err(NoMemory);
-        };
-        if self.words.push(copy).is_err() {
-            return Err(NoMemory);
-        }
-        Ok(())
+        let copy = String::from_str(self.alloc, word)?;
+        Ok(self.words.push(copy)?)
     }
 
     /// A word, counted from 1.
@@ -80,17 +75,9 @@ impl Words {
     {
         self.words.is_empty()
     }
+
     /// The command line as text: the program's name, and a space before each word.
     pub fn command_line(&self, alloc: Global, program: &str) -> Result<String, NoMemory>
-        ensures { IfOk result (λ line. string_bytes line ≡ command_line program.now self.now) }
-    {
-        match self.joined(alloc, program) {
-            Ok(line) => Ok(line),
-            Err(_) => Err(NoMemory),
-        }
-    }
-
-    fn joined(&self, alloc: Global, program: &str) -> Result<String, AllocError>
         ensures { IfOk result (λ line. string_bytes line ≡ command_line program.now self.now) }
     {
         let mut line = String::from_str(alloc, program)?;

@@ -116,8 +116,8 @@ impl Entries {
     {
         let front = n.checked_add(self.back.len()).ok_or(NoMemory)?;
         let back = n.checked_add(self.front.len()).ok_or(NoMemory)?;
-        self.front.reserve(front).map_err(|_| NoMemory)?;
-        self.back.reserve(back).map_err(|_| NoMemory)
+        self.front.reserve(front)?;
+        Ok(self.back.reserve(back)?)
     }
 
     /// Puts an entry before the one with an index.

@@ -60,7 +60,7 @@ fn add(pages: &mut Vec<Page>, entries: &mut Entries, page: Page) -> Result<(), N
     let entry = entry_of(pages.len(), &page);
     entries.reserve(1)?;
     entries.insert(entries.len(), entry);
-    pages.push(page).map_err(|_| NoMemory)
+    Ok(pages.push(page)?)
 }
 
 impl Pages {
@@ -73,7 +73,7 @@ impl Pages {
         let mut pages = Vec::new(alloc);
         let mut entries = Entries::new(alloc);
         let count = blocks.div_ceil(64);
-        pages.reserve(count).map_err(|_| NoMemory)?;
+        pages.reserve(count)?;
         entries.reserve(count)?;
         let mut made = 0;
         while made < blocks {
@@ -82,7 +82,7 @@ impl Pages {
             made = to;
         }
         let mut free = Vec::new(alloc);
-        free.reserve(pages.len()).map_err(|_| NoMemory)?;
+        free.reserve(pages.len())?;
         Ok(Pages {
             pages,
             end,

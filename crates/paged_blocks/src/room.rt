@@ -38,8 +38,7 @@ pub fn reserve(
         wanted = wanted.min(halves.div_ceil(32));
     }
     entries.reserve(wanted.saturating_sub(used))?;
-    free.reserve(wanted.saturating_sub(free.len()))
-        .map_err(|_| NoMemory)?;
+    free.reserve(wanted.saturating_sub(free.len()))?;
     add_pages(pages, entries, free, wanted)
 }
 
@@ -61,7 +60,7 @@ fn add_pages(
 {
     while pages.len() < wanted {
         let number = pages.len();
-        pages.push(Page::new()).map_err(|_| NoMemory)?;
+        pages.push(Page::new())?;
         // There is room, so this takes no memory and succeeds.
         let _ = free.push(number);
     }

@@ -115,11 +115,10 @@ pub(crate) fn follow_chain<S: Source>(
         read: 0,
     };
     'records: while chain.read < CHAIN_LIMIT {
-        match turn(source, chain, k) {
-            Ok(Link::Found(partition)) => return Ok(partition),
-            Ok(Link::On(next)) => chain = next,
-            Ok(Link::End) => return Err(SearchStop::Refused(Refusal::NoPartition)),
-            Err(stop) => return Err(stop),
+        match turn(source, chain, k)? {
+            Link::Found(partition) => return Ok(partition),
+            Link::On(next) => chain = next,
+            Link::End => return Err(SearchStop::Refused(Refusal::NoPartition)),
         }
     }
     Err(SearchStop::Refused(Refusal::ChainTooLong))

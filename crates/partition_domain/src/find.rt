@@ -63,10 +63,7 @@ pub fn find_partition<S: Source>(source: &mut S, k: u64) -> Result<Partition, Se
     ensures cause { IfErr result (λ stop. (S.state source.new).losses ≡ losses_after stop (S.state source.old).losses) }
     ensures near { IfOk result (λ p. (p.first < 2 ^ 34) × (p.count < 2 ^ 32)) }
 {
-    let main = match read_table(source, 0) {
-        Ok(main) => main,
-        Err(stop) => return Err(stop),
-    };
+    let main = read_table(source, 0)?;
     if is_protected(&main) {
         return Err(SearchStop::Refused(Refusal::Protective));
     }

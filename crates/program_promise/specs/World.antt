@@ -1,4 +1,4 @@
--- All that the objects tell which a program may be handed, at one time, and what is told of a call.
+-- All that the objects tell which a program may be handed, at one time, and what they tell of a call.
 use Rattle.std.specs.Prelude.{ℕ, false, List, [], None}
 use Rattle.fault_count.specs.Schedule.{no_schedule}
 use Rattle.faulty_source.specs.SourceState.{SourceState}

@@ -3,6 +3,7 @@ use Rattle.std.proofs.Common.{◌≡◌, ℕ, ◌+◌, ◌-◌, ◌*◌, ◌^◌
 use Rattle.std.specs.List.{slice_get, slice_index_or}
 use Rattle.std.proofs.Math.Nat.{div-mul-le_self, mul-le-mul_right}
 use Rattle.std.proofs.lemmas.Bool.{and_parts}
+use Rattle.size_suffixes.specs.Sectors.{largest_cluster}
 use Rattle.block_list.specs.declared.block.Range.{Range}
 use Rattle.block_list.specs.declared.status.Status.{Status}
 use Rattle.block_list.specs.Status.{same}
@@ -58,7 +59,7 @@ request_few s ok m p q r =
 pub record Fits (r : RunState) (room pos len : ℕ) : Type 0 where
   pub some : 0 < len
   pub few : len ≤ room
-  pub most : room ≤ 16777216
+  pub most : room ≤ largest_cluster
   pub there : pos + len ≤ length r.machine.map
   pub short : pos + len < 2 ^ 63
   pub place : pos - r.settings.input_position + r.settings.output_position + len < 2 ^ 63

@@ -1,5 +1,6 @@
 //! A read whose kept part is in the output.
 ghost use Rattle.std.specs.Prelude.{◌≡◌, ◌+◌, ◌-◌, ◌<◌, ◌≤◌, ◌^◌, true, false, length, IfOk, IfErr};
+ghost use Rattle.size_suffixes.specs.Sectors.{largest_cluster};
 ghost use Rattle.run_options.specs.Settings.{IsSound};
 ghost use Rattle.faulty_source.specs.SourceChanges.{Stays as SourceStays};
 ghost use Rattle.crash_site.specs.SiteChanges.{Stays as SiteStays};
@@ -45,7 +46,7 @@ pub(crate) fn gather<S: Source, D: Site, K: Clock>(
     requires sound { IsSound settings.now }
     requires some { 0 < request.len }
     requires fits { request.len ≤ length buf.old }
-    requires cluster { length buf.old ≤ 16777216 }
+    requires cluster { length buf.old ≤ largest_cluster }
     requires short { request.pos + request.len < 2 ^ 63 }
     requires place { request.pos - settings.now.input_position + settings.now.output_position + request.len < 2 ^ 63 }
     requires input { (S.state source.old).is_open ≡ true }

@@ -1,5 +1,6 @@
 //! How a run comes to its next request: the direction of its pass, the search that it makes, and what that finds.
 ghost use Rattle.std.specs.Prelude.{◌≡◌, ℕ, ◌+◌, ◌<◌, ◌≤◌, ◌^◌, true, false, List, length, Option, IfSome, IfNone};
+ghost use Rattle.size_suffixes.specs.Sectors.{largest_cluster};
 ghost use Rattle.block_list.specs.declared.block.Range.{Range};
 ghost use Rattle.block_list.specs.declared.status.Status.{Status};
 ghost use Rattle.block_list.specs.declared.status.Status.TheVariants.{NonTrimmed};
@@ -128,7 +129,7 @@ fn next_range<T: Tiles>(live: Live<'_>, tiles: &T, search: Search, status: Statu
 fn cut(search: Search, sector: u64, range: Range) -> Request
     requires sector { 0 < sector }
     requires least { sector ≤ search.size }
-    requires most { search.size ≤ 16777216 }
+    requires most { search.size ≤ largest_cluster }
     requires some { range.from < range.to }
     requires short { range.to < 2 ^ 63 }
     ensures starts { result.pos ≡ cut_start (search_by search) sector range.from range.to }

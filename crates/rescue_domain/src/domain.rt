@@ -49,9 +49,7 @@ impl Domain {
         let end = end_of(pos, size, limit);
         let mut parts = Vec::new(alloc);
         if pos < end {
-            parts
-                .push(Range { from: pos, to: end })
-                .map_err(|_| NoMemory)?;
+            parts.push(Range { from: pos, to: end })?;
         }
         Ok(Domain { parts })
     }
@@ -186,7 +184,7 @@ fn finished_parts<T: Tiles>(domain: &Domain, tiles: &T) -> Result<Vec<Range>, No
     let mut parts = Vec::new(*domain.parts.allocator());
     let mut at = 0;
     while let Some(range) = next_finished(domain, tiles, at) {
-        parts.push(range).map_err(|_| NoMemory)?;
+        parts.push(range)?;
         at = range.to;
     }
     Ok(parts)

@@ -1,5 +1,6 @@
 -- How a comparison goes over its pieces, and how far it comes.
 use Rattle.std.specs.Prelude.{◌≡◌, ℕ, ◌+◌, ◌-◌, ◌^◌, ◌<◌, ◌≤◌, Bool, true, not, IsTrue, List, [], ◌∷◌, ◌++◌, length, map, All, None, Result, Ok, Err, if◌then◌else◌, vec_len}
+use Rattle.size_suffixes.specs.Sectors.{largest_sector}
 use Rattle.fault_count.specs.Counts.{Rose}
 use Rattle.block_list.specs.declared.status.Status.{Status}
 use Rattle.faulty_source.specs.Journal.{Reading, is_whole, IsFrom}
@@ -42,7 +43,7 @@ comparison_by c = record { compared = covers c.compared.now; sector = c.sector; 
 -- `from` or after it, and ends below 2^63, in the image too.
 pub record IsSound (p : Comparison) : Type 0 where
   pub sector : 0 < p.sector
-  pub small : p.sector ≤ 1048576
+  pub small : p.sector ≤ largest_sector
   pub short : (x : ℕ) → IsIn p.compared x → x + 1 < 2 ^ 63
   pub past : (x : ℕ) → IsIn p.compared x → p.from ≤ x
   pub placed : AreAllPlaced p.compared p.from p.to

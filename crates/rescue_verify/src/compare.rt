@@ -13,10 +13,10 @@ use crate::look::{LookResult, look};
 use crate::piece::{Comparison, Piece};
 use crate::tally::Tally;
 use block_list::status::Status;
-use block_list::tiles::Tiles;
+use block_list::tiles::{NoMemory, Tiles};
 use crash_site::site::Site;
 use faulty_source::source::Source;
-use std::alloc::{AllocError, Global};
+use std::alloc::Global;
 
 /// Room for the bytes of a piece: those that the input gives, and those that are there in the image.
 #[derive(Drop)]
@@ -27,7 +27,7 @@ struct Buffers {
 
 impl Buffers {
     /// Room for pieces of up to `size` bytes.
-    fn new(alloc: Global, size: usize) -> Result<Buffers, AllocError>
+    fn new(alloc: Global, size: usize) -> Result<Buffers, NoMemory>
         ensures given { IfOk result (λ b. vec_len b.given ≡ size) }
         ensures there { IfOk result (λ b. vec_len b.there ≡ size) }
     {
@@ -62,20 +62,17 @@ fn compare_piece<S: Source, D: Site, T: Tiles>(
     ensures source { SourceStays (S.state source.old) (S.state source.new) }
     ensures site { SiteStays (D.state site.old) (D.state site.new) }
 {
-    if tiles.reserve(2).is_err() {
-        return Err(Halt::NoMemory);
-    }
+    tiles.reserve(2)?;
     let size = piece.to - piece.from;
     source.expect(piece.from, piece.run_end);
-    match look(piece, &mut buffers.given, &mut buffers.there, source, site) {
-        Ok(LookResult::Unread) => tally.unread += size,
-        Ok(LookResult::Same) => tally.compared += size,
-        Ok(LookResult::Different) => {
+    match look(piece, &mut buffers.given, &mut buffers.there, source, site)? {
+        LookResult::Unread => tally.unread += size,
+        LookResult::Same => tally.compared += size,
+        LookResult::Different => {
             tally.compared += size;
             tally.differing += size;
             tiles.set(piece.from, size, Status::NonTried);
         }
-        Err(halt) => return Err(halt),
     }
     Ok(())
 }
@@ -99,9 +96,7 @@ pub fn compare<S: Source, D: Site, T: Tiles>(
     ensures source { SourceStays (S.state source.old) (S.state source.new) }
     ensures site { SiteStays (D.state site.old) (D.state site.new) }
 {
-    let Ok(mut buffers) = Buffers::new(alloc, comparison.sector as usize) else {
-        return Err(Halt::NoMemory);
-    };
+    let mut buffers = Buffers::new(alloc, comparison.sector as usize)?;
     let mut tally = Tally {
         compared: 0,
         differing: 0,

@@ -1,5 +1,7 @@
 //! Why a comparison ended early.
 
+use block_list::tiles::NoMemory;
+
 /// Why a comparison stopped before its last piece.
 #[derive(Clone, Copy, Debug, PartialEq, Eq)]
 pub enum Halt {
@@ -9,4 +11,15 @@ pub enum Halt {
     SourceLost,
     /// A read of the image failed.
     ImageFault,
+}
+
+impl From<NoMemory> for Halt {
+    ghost use Rattle.std.specs.Prelude.{◌≡◌};
+    ghost use Rattle.rescue_verify.specs.declared.halt.Halt.TheVariants.{NoMemory as OutOfMemory};
+
+    ghost from_gives = { λ _ e. e ≡ OutOfMemory };
+
+    fn from(_error: NoMemory) -> Halt {
+        Halt::NoMemory
+    }
 }

@@ -1,15 +1,16 @@
 -- Settings within their limits, and domains that they suit. For contracts and proofs: no promise uses it.
 use Rattle.std.specs.Prelude.{◌≡◌, ℕ, ◌+◌, ◌-◌, ◌*◌, ◌^◌, ◌<◌, ◌≤◌, Bool, true}
+use Rattle.size_suffixes.specs.Sectors.{largest_cluster, largest_sector}
 use Rattle.run_options.specs.declared.settings.Settings.{Settings}
 
 -- settings within their limits
 pub record IsSound (settings : Settings) : Type 0 where
   pub sector : 0 < settings.sector
-  pub sector_max : settings.sector ≤ 1048576
+  pub sector_max : settings.sector ≤ largest_sector
   pub sectors : ℕ
   pub some : 0 < sectors
   pub cluster : settings.cluster ≡ sectors * settings.sector
-  pub cluster_max : settings.cluster ≤ 16777216
+  pub cluster_max : settings.cluster ≤ largest_cluster
   pub skip : settings.skips.first ≤ settings.skips.most
   pub skip_max : settings.skips.most < 2 ^ 63
   pub input_position : settings.input_position < 2 ^ 63

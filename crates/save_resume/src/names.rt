@@ -27,15 +27,9 @@ impl Names {
     pub fn of_map(alloc: Global, map: &str) -> Result<Names, NoMemory>
         ensures { IfOk result (λ names. names ≡ names_of map.now) }
     {
-        let Ok(copy) = String::from_str(alloc, map) else {
-            return Err(NoMemory);
-        };
-        let Ok(mut draft) = String::from_str(alloc, map) else {
-            return Err(NoMemory);
-        };
-        if draft.push_str(".tmp").is_err() {
-            return Err(NoMemory);
-        }
+        let copy = String::from_str(alloc, map)?;
+        let mut draft = String::from_str(alloc, map)?;
+        draft.push_str(".tmp")?;
         Ok(Names { map: copy, draft })
     }
 

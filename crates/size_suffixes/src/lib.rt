@@ -4,5 +4,6 @@
 pub mod error;
 pub mod interval;
 pub mod number;
+pub mod sectors;
 pub mod size;
 mod suffixed;

@@ -1,5 +1,6 @@
 //! The reading of a size with its suffix.
 ghost use Rattle.std.specs.Prelude.{◌≡◌, ◌<◌, ◌≤◌, IfSome};
+ghost use Rattle.size_suffixes.specs.Sectors.{IsSector};
 ghost use Rattle.size_suffixes.specs.Size.{binary_multiplier, multiplier, size, size_factor};
 
 use crate::error::SizeError;
@@ -58,8 +59,7 @@ fn suffix_value(sector: u64, suffix: &[u8]) -> Option<u64>
 /// `Ki`, `Mi`, `Gi`, `Ti`, `Pi` and `Ei` powers of 1,024. A `B` after a hexadecimal number is a digit of it. Anything
 /// else after the number is `BadSuffix` at the number's end.
 pub fn read_size(text: &str, sector: u64) -> Result<u64, SizeError>
-    requires positive { 0 < sector }
-    requires small { sector ≤ 1048576 }
+    requires { IsSector sector }
     ensures { result ≡ size sector text.now }
 {
     let bytes = text.as_bytes();

@@ -79,9 +79,7 @@ pub fn check_command<'a>(
         (told_by command.entry).outfile (names_by (told_by command.entry)) ≡ None) }
     ensures refused { IfErr result (λ e. NamesRefused (told_by command.entry) e ⊎ (e ≡ OutOfMemory)) }
 {
-    let Ok(names) = make_names(alloc, command.mapfile) else {
-        return Err(Ending::NoMemory);
-    };
+    let names = make_names(alloc, command.mapfile)?;
     if let Some((first, second)) = find_same_with_optional_map(
         command.infile,
         command.outfile,
@@ -89,9 +87,7 @@ pub fn check_command<'a>(
     ) {
         return Err(Ending::SameName { first, second });
     }
-    let Ok(heading) = make_heading(alloc, PROGRAM, words, Program::Ddrescue) else {
-        return Err(Ending::NoMemory);
-    };
+    let heading = make_heading(alloc, PROGRAM, words, Program::Ddrescue)?;
     Ok(CheckedCommand {
         command,
         names,

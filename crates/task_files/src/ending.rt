@@ -3,6 +3,7 @@ ghost use Rattle.std.specs.Prelude.{◌≡◌};
 ghost use Rattle.task_files.specs.Answers.{status_of_ending};
 ghost use Rattle.task_files.specs.Work.{answer_of};
 
+use block_list::tiles::NoMemory;
 use crash_site::site::SiteCall;
 use mapfile_text::read::MapError;
 use option_words::fault::UsageFault;
@@ -63,6 +64,17 @@ pub enum Ending {
     LimitMet(Limit),
     /// There wasn't enough memory.
     NoMemory,
+}
+
+impl From<NoMemory> for Ending {
+    ghost use Rattle.std.specs.Prelude.{◌≡◌};
+    ghost use Rattle.task_files.specs.declared.ending.Ending.TheVariants.{NoMemory as OutOfMemory};
+
+    ghost from_gives = { λ _ e. e ≡ OutOfMemory };
+
+    fn from(_error: NoMemory) -> Ending {
+        Ending::NoMemory
+    }
 }
 
 impl Ending {

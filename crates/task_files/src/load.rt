@@ -50,8 +50,8 @@ fn run_map(alloc: Global, mut tiles: PlainTiles, end: u64) -> Result<RunMap, End
     ensures short { IfOk result (λ map. length map.statuses < 2 ^ 63) }
     ensures starved { IfErr result (λ e. e ≡ OutOfMemory) }
 {
-    extend_map(&mut tiles, end).map_err(|_| Ending::NoMemory)?;
-    PagedTiles::from_plain(alloc, &tiles).map_err(|_| Ending::NoMemory)
+    extend_map(&mut tiles, end)?;
+    Ok(PagedTiles::from_plain(alloc, &tiles)?)
 }
 
 /// What a rescue of an input that wasn't read yet begins with.

@@ -17,7 +17,7 @@ fn add_name(line: &mut Vec<u8>, name: &str) -> Result<(), NoMemory>
     ensures { OnOk result (line.new.items ≡ line.old.items ++ map shown_byte name.now) }
 {
     for byte in name.as_bytes() {
-        line.push(shown_byte(*byte)).map_err(|_| NoMemory)?;
+        line.push(shown_byte(*byte))?;
     }
     Ok(())
 }

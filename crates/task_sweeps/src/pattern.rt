@@ -1,5 +1,6 @@
 //! The pattern of fill mode: the infile's front, over and over.
 ghost use Rattle.std.specs.Prelude.{◌≡◌, ℕ, ◌<◌, ◌≤◌, ◌^◌, ◌%◌, true, length, slice_get};
+ghost use Rattle.size_suffixes.specs.Sectors.{largest_cluster};
 ghost use Rattle.faulty_source.specs.SourceChanges.{Stays};
 ghost use Rattle.task_sweeps.specs.Pattern.{PatternCause, ReadsPattern, TakesPattern, taken_as};
 
@@ -25,7 +26,7 @@ fn read_front<S: Source>(source: &mut S, end: u64, buffer: &mut [u8]) -> Result<
     requires some { 0 < length buffer.old }
     requires low { 0 < end }
     requires high { end < 2 ^ 63 }
-    requires short { length buffer.old ≤ 16777216 }
+    requires short { length buffer.old ≤ largest_cluster }
     ensures reads { ReadsPattern (length buffer.old) end buffer.new result (S.state source.old) (S.state source.new) }
     ensures cause { PatternCause result (S.state source.old) (S.state source.new) }
     ensures source { Stays (S.state source.old) (S.state source.new) }
@@ -51,7 +52,7 @@ pub fn read_pattern<S: Source>(
 ) -> Result<Vec<u8>, Ending>
     requires opened { (S.state source.old).is_open ≡ true }
     requires some { 0 < cluster }
-    requires short { cluster ≤ 16777216 }
+    requires short { cluster ≤ largest_cluster }
     requires high { end < 2 ^ 63 }
     ensures takes { TakesPattern cluster end (taken_as (λ b. b.items) result) (S.state source.old)
         (S.state source.new) }

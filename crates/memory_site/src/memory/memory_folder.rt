@@ -340,7 +340,8 @@ impl MemoryFolder {
     }
 
     fn open_in_part(&mut self, name: &[u8], make: bool, steps: u64) -> Result<(), AllocError>
-        ensures { OnOk result (folder_of self.new ≡ after_failed (folder_of self.old) (image_open name.now make) steps) }
+        ensures { OnOk result (folder_of self.new
+            ≡ after_failed (folder_of self.old) (image_open name.now make) steps) }
     {
         if steps == 0 {
             self.image = None;
@@ -352,7 +353,8 @@ impl MemoryFolder {
     }
 
     fn write_in_part(&mut self, pos: u64, piece: &[u8], steps: u64) -> Result<(), AllocError>
-        ensures { OnOk result (folder_of self.new ≡ after_failed (folder_of self.old) (image_write pos piece.now) steps) }
+        ensures { OnOk result (folder_of self.new
+            ≡ after_failed (folder_of self.old) (image_write pos piece.now) steps) }
     {
         if steps == 0 {
             return Ok(());

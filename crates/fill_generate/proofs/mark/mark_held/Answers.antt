@@ -12,7 +12,7 @@ loop-at-preserved-then-not-has_byte g c =
     let none : list_any is_byte (bytes_in c.args.pos c.args.bytes.now c.loop-at.at c.min-to.result) ≡ false =
     grind (arith, c.has_byte.ensures, c.if-not-has_byte.true) in
     marking_marks c.args.sector c.args.pos c.args.bytes.now _ _ _ _ _ c.loop-at.from c.loop-at.at c.min-to.result
-    c.requires.sector c.loop-at.invariant c.loop-at-test.true c.min-to.ensures none c.mark_range.ensures.marked
+    c.requires.sector.low c.loop-at.invariant c.loop-at-test.true c.min-to.ensures none c.mark_range.ensures.marked
     c.mark_range.ensures.spare
 
 pub loop-at-preserved : goal.loop-at-preserved
@@ -20,7 +20,7 @@ loop-at-preserved g c =
     let any : list_any is_byte (bytes_in c.args.pos c.args.bytes.now c.loop-at.at c.min-to.result) ≡ true =
     grind (arith, c.has_byte.ensures, c.if-not-has_byte.false) in
     marking_holds c.args.sector c.args.pos c.args.bytes.now _ _ _ c.loop-at.from c.loop-at.at c.min-to.result
-    c.requires.sector c.loop-at.invariant c.loop-at-test.true c.min-to.ensures any
+    c.requires.sector.low c.loop-at.invariant c.loop-at-test.true c.min-to.ensures any
 
 pub returns : goal.returns
 returns g c s len same few =

@@ -7,7 +7,6 @@ use Rattle.paged_blocks.proofs.room.add_pages.Goals as goal
 pub loop-pages-preserved : goal.loop-pages-preserved
 loop-pages-preserved c =
     let k = c.loop-pages.invariant.kept in
-    let done : IsOk c.push.result = let v = c.map_err.ensures.variant in let w = c.in_ok-map_err.was in cc in
     let n : c.len-number.result ≡ length c.loop-pages.pages.items = omega (arith, c.len-number.ensures, c.loop-pages.pages.ok.0) in
     let room : vec_len c.loop-pages.free < vec_capacity c.loop-pages.free =
     omega (
@@ -19,7 +18,7 @@ loop-pages-preserved c =
       c.loop-pages-test.true,
       c.loop-pages.invariant.capacity,
     ) in
-    let p = succeeded _ _ _ _ done c.push.ensures.items in
+    let p = c.in_ok-push.ensures.items in
     let f = succeeded _ _ _ _ (c.push-in-loop-pages.ensures.succeeds room) c.push-in-loop-pages.ensures.items in
     let l = ap length p ∙ length_push c.loop-pages.pages.items c.new.result in
     record {

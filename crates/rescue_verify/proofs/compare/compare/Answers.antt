@@ -5,11 +5,18 @@ use Rattle.faulty_source.proofs.Keeping.{stays_more, stays_self}
 use Rattle.rescue_verify.proofs.CompareLemmas.{came_to_halt, can_take, ends_short, halted_counts, none_yet, nothing_compared, takes_grow, takes_one}
 use Rattle.rescue_verify.proofs.compare.compare.Goals as goal
 
-pub returns-in_default-clause-source : goal.returns-in_default-clause-source
-returns-in_default-clause-source g c = stays_self _
+pub returns-in_err-buffers-clause-source : goal.returns-in_err-buffers-clause-source
+returns-in_err-buffers-clause-source g c = stays_self _
 
-pub returns-in_default-clause-compares : goal.returns-in_default-clause-compares
-returns-in_default-clause-compares g c = nothing_compared _ _ _ _
+pub returns-in_err-buffers-clause-compares : goal.returns-in_err-buffers-clause-compares
+returns-in_err-buffers-clause-compares g c =
+    let p = err_from_is_err_and c.from_residual.result c.from_residual.ensures.1 in
+    rw (p.1, p.2) (nothing_compared _ _ _ _)
+
+pub returns-in_err-buffers-clause-counts : goal.returns-in_err-buffers-clause-counts
+returns-in_err-buffers-clause-counts g c =
+    let p = err_from_is_err_and c.from_residual.result c.from_residual.ensures.1 in
+    rw (p.1, p.2) (refl, refl)
 
 pub pieces-init : goal.pieces-init
 pieces-init g c = record {
@@ -46,14 +53,14 @@ compare_piece-requires-clause-room g c = record {
 
 pub returns-in_err-compare_piece-clause-compares : goal.returns-in_err-compare_piece-clause-compares
 returns-in_err-compare_piece-clause-compares g c =
-    let p = err_from_is_err_and c.from_residual.result c.from_residual.ensures.1 in
+    let p = err_from_is_err_and c.from_residual-in_err-compare_piece.result c.from_residual-in_err-compare_piece.ensures.1 in
     rw (p.1, p.2)
     (came_to_halt _ _ _ c.in-Some.piece _ _ _ _ _ _ _ _ _ _ c.pieces.invariant.up_to c.pieces.invariant.source.keeps
     c.pieces.invariant.site.keeps.tells c.in-Some.ensures.next c.in_err-compare_piece.ensures.halts)
 
 pub returns-in_err-compare_piece-clause-counts : goal.returns-in_err-compare_piece-clause-counts
 returns-in_err-compare_piece-clause-counts g c =
-    let p = err_from_is_err_and c.from_residual.result c.from_residual.ensures.1 in
+    let p = err_from_is_err_and c.from_residual-in_err-compare_piece.result c.from_residual-in_err-compare_piece.ensures.1 in
     rw (p.1, p.2)
     (halted_counts _ _ (c.in-Some.piece.to - c.in-Some.piece.from) _ _ _ _ _ _ _ c.pieces.invariant.losses c.pieces.invariant.faults
     c.in_err-compare_piece.ensures.halts)

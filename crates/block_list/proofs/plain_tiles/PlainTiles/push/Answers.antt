@@ -1,10 +1,10 @@
-use Rattle.std.proofs.Common.{◌≡◌, ◌∙◌, ap, length, arith, rules, length-append, Err, IsOk, inl, inr}
+use Rattle.std.proofs.Common.{◌≡◌, ◌∙◌, ap, length, arith, rules, length-append, Err, inl, inr}
 use Rattle.std.specs.List.{flat_map}
 use Rattle.std.proofs.lemmas.List.{length-replicate}
 use Rattle.block_list.specs.declared.plain_tiles.PushError.TheVariants.{NoMemory}
 use Rattle.block_list.specs.Stretches.{covered}
 use Rattle.block_list.proofs.TileLemmas.{tiled_from_tiling, tiling_end, tiles_up_to}
-use Rattle.block_list.proofs.PushLemmas.{fault_passed, fault_was_there, no_fault, on_success}
+use Rattle.block_list.proofs.PushLemmas.{fault_passed, fault_was_there, no_fault}
 use Rattle.block_list.proofs.plain_tiles.PlainTiles.push.Goals as goal
 
 pub append-requires-clause-tiled : goal.append-requires-clause-tiled
@@ -23,15 +23,14 @@ returns-in_err-end-clause-joins c =
     rw (← c.self.view_is, ← tiling_end _ c.self.invariant)
     (λ none room. fault_was_there _ c.end_after.result _ _ c.end_after.ensures.answer c.in_err-end.was none)
 
-pub returns-in_err-map_err-clause-answer : goal.returns-in_err-map_err-clause-answer
-returns-in_err-map_err-clause-answer c =
-    let q : c.from_residual-in_err-map_err.result ≡ Err NoMemory = search rules in
+pub returns-in_err-append-clause-answer : goal.returns-in_err-append-clause-answer
+returns-in_err-append-clause-answer c =
+    let q : c.from_residual-in_err-append.result ≡ Err NoMemory = search rules in
     rw (← c.self.view_is, ← tiling_end _ c.self.invariant) (no_fault _ c.end_after.result _ _ _ c.end_after.ensures.answer c.in_ok-end.was (inr q))
 
 pub invariant_of-self-then-block-gt0 : goal.invariant_of-self-then-block-gt0
 invariant_of-self-then-block-gt0 c =
-    let done : IsOk c.append.result = let v = c.map_err.ensures.variant in let w = c.in_ok-map_err.was in cc in
-    let added = on_success c.append.result _ done c.append.ensures.added in
+    let added = c.in_ok-append.ensures.added in
     let e : length (flat_map covered c.append.new.blocks.items) ≡ c.in_ok-end.end =
     ap length added ∙ omega (
       arith,
@@ -47,8 +46,8 @@ invariant_of-self-then-block-gt0 c =
       short = c.in_ok-end.ensures.short;
     }
 
-pub returns-in_ok-map_err-clause-answer : goal.returns-in_ok-map_err-clause-answer
-returns-in_ok-map_err-clause-answer c =
+pub returns-in_ok-append-clause-answer : goal.returns-in_ok-append-clause-answer
+returns-in_ok-append-clause-answer c =
     rw (← c.self.view_is, ← tiling_end _ c.self.invariant)
     (no_fault _ c.end_after.result _ _ _ c.end_after.ensures.answer c.in_ok-end.was (inl (search rules)))
 

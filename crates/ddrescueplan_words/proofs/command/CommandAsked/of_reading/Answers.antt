@@ -7,10 +7,6 @@ pub is_too_large-requires : goal.is_too_large-requires
 is_too_large-requires c = let keeps = options_keep c.args.words.now c.deref.result.now c.in-Ok.options
     (sym c.read_options.ensures ∙ c.in-Ok.is) in keeps.range.limits.sector.low
 
-pub name_operands-requires-clause-low : goal.name_operands-requires-clause-low
-name_operands-requires-clause-low c = let keeps = options_keep c.args.words.now c.deref.result.now c.in-Ok.options
-    (sym c.read_options.ensures ∙ c.in-Ok.is) in keeps.range.limits.sector.low
-
-pub name_operands-requires-clause-high : goal.name_operands-requires-clause-high
-name_operands-requires-clause-high c = let keeps = options_keep c.args.words.now c.deref.result.now c.in-Ok.options
-    (sym c.read_options.ensures ∙ c.in-Ok.is) in keeps.range.limits.sector.high
+pub name_operands-requires-clause-sector : goal.name_operands-requires-clause-sector
+name_operands-requires-clause-sector c = let keeps = options_keep c.args.words.now c.deref.result.now c.in-Ok.options
+    (sym c.read_options.ensures ∙ c.in-Ok.is) in keeps.range.limits.sector

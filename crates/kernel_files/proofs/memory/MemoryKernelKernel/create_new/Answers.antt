@@ -1,4 +1,5 @@
 use Rattle.std.proofs.Common.{ℕ, List, Ok, refl, sym, ap, subst, ◌∙◌}
+use Rattle.std.proofs.lemmas.Result.{err_from_is_err_and}
 use Rattle.kernel_files.specs.Volume.{create, IsNew}
 use Rattle.kernel_files.specs.Answers.{volume}
 use Rattle.kernel_files.specs.Log.{creates, told_of}
@@ -18,12 +19,16 @@ returns-in_default c = let acts = c.args.self.now.log.items in (creates acts, λ
 pub returns-then-self : goal.returns-then-self
 returns-then-self c = let acts = c.args.self.now.log.items in (creates acts, λ _. new_number acts, tt, tt, not_made (create c.args.name.now (creates acts)) _ acts acts refl)
 
-pub returns-in-Err : goal.returns-in-Err
-returns-in-Err c = let acts = c.args.self.now.log.items in (creates acts, λ _. new_number acts, tt, tt, not_made (create c.args.name.now (creates acts)) _ acts c.list.new.log.items c.in-Err.ensures.err)
+pub returns-in_err-list : goal.returns-in_err-list
+returns-in_err-list c =
+    let acts = c.args.self.now.log.items in
+    let p = err_from_is_err_and c.from_residual.result c.from_residual.ensures.1 in
+    rw p.1
+    (creates acts, λ _. new_number acts, tt, tt, not_made (create c.args.name.now (creates acts)) _ acts c.list.new.log.items c.in_err-list.ensures.err)
 
 pub invariant_of-self-2 : goal.invariant_of-self-2
 invariant_of-self-2 c = record {
-  counts = counts_more c.args.self.now.made (Create c.in-Ok.copied) c.args.self.now.log.items c.list.new.log.items refl c.in-Ok-list.ensures.ok c.args.self.now.counts;
+  counts = counts_more c.args.self.now.made (Create c.in-Ok.copied) c.args.self.now.log.items c.list.new.log.items refl c.in_ok-list.ensures.ok c.args.self.now.counts;
 }
 
 pub returns : goal.returns
@@ -39,5 +44,5 @@ returns c =
       made_act (create c.args.name.now k) (Create c.in-Ok.copied) (Ok (record { number = k })) acts c.list.new.log.items
           (ap (λ (m : ℕ). create c.in-Ok.copied.items m) (sym c.args.self.now.counts)
           ∙ ap (λ (n : List ℕ). create n k) (c.in-Ok.ensures.items ∙ c.as_bytes-2.ensures.value))
-          c.in-Ok-list.ensures.ok tt,
+          c.in_ok-list.ensures.ok tt,
     )

@@ -1,6 +1,5 @@
-use Rattle.std.proofs.Common.{◌≡◌, ◌≤◌, ◌<◌, ◌∙◌, ap, sym, length, [], ◌^◌, arith, IsOk}
+use Rattle.std.proofs.Common.{◌≡◌, ◌≤◌, ◌<◌, ◌∙◌, ap, sym, length, [], ◌^◌, arith}
 use Rattle.block_list.specs.Stretches.{stretches}
-use Rattle.block_list.proofs.PushLemmas.{on_success}
 use Rattle.paged_blocks.proofs.KeptLemmas.{adding, filled, filled_statuses, range_short}
 use Rattle.paged_blocks.proofs.page_tree.Pages.from_plain.Goals as goal
 
@@ -20,14 +19,13 @@ loop-made-preserved c =
 
 pub invariant_of-result : goal.invariant_of-result
 invariant_of-result c =
-    let done : IsOk c.reserve-3.result = let v = c.map_err-2.ensures.variant in let w = c.in_ok-map_err-2.was in cc in
     let f : c.reserve-3.new.self.items ≡ [] = let v = c.reserve-3.ensures.items in let w = c.new-free.ensures.items in cc in
     let all : length (stretches c.args.tiles.now.statuses) ≤ c.loop-made.made = omega (arith, c.loop-made-test.false, c.blocks-blocks.ensures) in
     let short : length c.args.tiles.now.statuses < 2 ^ 63 = omega (arith, c.end-end.ensures.end, c.end-end.ensures.short) in
     record {
       kept = rw f (filled _ _ c.args.tiles.now.statuses _ short c.loop-made.invariant all);
       ends = c.end-end.ensures.end ∙ ap length (sym (filled_statuses _ _ c.args.tiles.now.statuses _ c.loop-made.invariant all));
-      room = omega (arith, on_success c.reserve-3.result _ done c.reserve-3.ensures.ok);
+      room = omega (arith, c.in_ok-reserve-3.ensures.ok);
     }
 
 pub returns : goal.returns
