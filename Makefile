@@ -48,7 +48,7 @@ FILES := $(foreach name,$(PROGRAMS),"$(or $(BIN),crates/$(name)/out)/$(name)")
 install:
 	@for file in $(FILES); do \
 	    [ -f "$$file" ] && continue; \
-	    echo "$$file is missing: run make first, or name the folder of the built programs by BUILT" >&2; \
+	    echo "$$file is missing: run make first, or name the folder of the built programs with BUILT" >&2; \
 	    exit 1; \
 	done
 	for file in $(FILES); do install -D "$$file" "$(DESTDIR)$(PREFIX)/bin/$${file##*/}" || exit 1; done
