@@ -6,8 +6,8 @@ use Rattle.crash_site.specs.declared.site.SiteCall.{SiteCall}
 use Rattle.crash_site.specs.declared.site.SiteCall.TheVariants.{ImageOpen, ImageRead, ImageWrite, ImageSync, MapRead, DraftBegin, DraftAppend, DraftSync, DraftPublish, MapSettle, MapRemove}
 use Rattle.crash_site.specs.Files.{File}
 use Rattle.crash_site.specs.Calls.{Call, Entry, Done as Returned, image_sync, image_write, draft_append, draft_sync}
-use Rattle.save_resume.specs.MapNames.{MapNames}
-use Rattle.save_resume.specs.Saving.{IsNameIn, save_calls, publish_calls}
+use Rattle.mapfile_save.specs.MapNames.{MapNames}
+use Rattle.mapfile_save.specs.Saving.{IsNameIn, save_calls, publish_calls}
 use Rattle.mapfile_text.specs.Pieces.{pieces_of}
 use Rattle.faulty_source.specs.Journal.{kept}
 use Rattle.rescue_rules.specs.Setting.{Setting, place}

@@ -3,10 +3,10 @@ use Rattle.std.proofs.Common.{sym, subst, ◌≡◌, ℕ, List, [], ◌∷◌, �
 use Rattle.crash_site.specs.declared.site.SiteCall.{SiteCall}
 use Rattle.crash_site.specs.declared.site.SiteCall.TheVariants.{ImageOpen, ImageSync, MapSettle}
 use Rattle.crash_site.specs.Files.{File}
-use Rattle.save_resume.specs.Saving.{IsNameIn}
+use Rattle.mapfile_save.specs.Saving.{IsNameIn}
 use Rattle.crash_site.specs.Calls.{Entry, image_open}
 use Rattle.crash_site.specs.CallsMade.{BrokeAt}
-use Rattle.save_resume.specs.Named.{map_mode}
+use Rattle.mapfile_resume.specs.Named.{map_mode}
 use Rattle.rescue_rules.specs.Setting.{Setting}
 use Rattle.rescue_rules.specs.declared.stop.Stop.TheVariants.{NoMemory as NoRoom}
 use Rattle.rescue_rules.specs.declared.stop.RunEnd.{RunEnd}

@@ -8,9 +8,9 @@ use Rattle.mapfile_text.specs.Pieces.{pieces_of}
 use Rattle.crash_site.specs.declared.site.MapRead.{MapRead}
 use Rattle.crash_site.specs.Files.{File}
 use Rattle.crash_site.specs.Calls.{Call, Entry, Done as Returned, image_write, map_read, draft_append, draft_sync}
-use Rattle.save_resume.specs.MapNames.{MapNames}
-use Rattle.save_resume.specs.Saving.{begin_calls, fill_calls, publish_calls, save_calls}
-use Rattle.save_resume.specs.Loading.{piece_size, piece_reads, BeginsLoad}
+use Rattle.mapfile_save.specs.MapNames.{MapNames}
+use Rattle.mapfile_save.specs.Saving.{begin_calls, fill_calls, publish_calls, save_calls}
+use Rattle.mapfile_save.specs.Loading.{piece_size, piece_reads, BeginsLoad}
 use Rattle.rescue_rules.specs.Setting.{Setting, place}
 use Rattle.rescue_rules.specs.Machine.{Machine}
 use Rattle.rescue_rules.specs.Step.{Event}

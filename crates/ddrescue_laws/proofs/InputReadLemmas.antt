@@ -30,7 +30,7 @@ use Rattle.rescue_rules.proofs.ReadyLemmas.{order_over}
 use Rattle.run_laws.specs.Bounds.{AskFew}
 use Rattle.run_laws.proofs.BoundLemmas.{run_asks_few}
 use Rattle.run_laws.proofs.EndingLemmas.{run_ends_well}
-use Rattle.save_resume.specs.MapNames.{names_of}
+use Rattle.mapfile_save.specs.MapNames.{names_of}
 use Rattle.option_words.specs.Words.{command_line}
 use Rattle.ddrescue_words.specs.Command.{Command, Rescue}
 use Rattle.rescue_rules.proofs.GoesLemmas.{timed}

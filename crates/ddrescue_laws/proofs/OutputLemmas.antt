@@ -6,7 +6,7 @@ use Rattle.crash_site.specs.Files.{File, bytes_of, empty_file, written, written_
 use Rattle.crash_site.specs.Calls.{Call, Entry, Done as Returned, image_open, image_write, image_sync}
 use Rattle.crash_site.specs.Folder.{Folder, opened, with_piece, after}
 use Rattle.crash_site.proofs.LawLemmas.{after-append}
-use Rattle.save_resume.specs.Saving.{save_calls}
+use Rattle.mapfile_save.specs.Saving.{save_calls}
 use Rattle.rescue_rules.specs.Setting.{Setting, place}
 use Rattle.rescue_rules.specs.Machine.{Machine}
 use Rattle.rescue_rules.specs.Step.{Event}

@@ -7,8 +7,8 @@ use Rattle.crash_site.specs.Files.{File}
 use Rattle.crash_site.specs.declared.site.SiteCall.TheVariants.{MapRead}
 use Rattle.crash_site.specs.Calls.{Call, Entry, Done as Returned, Failed, image_open, image_read, image_write, image_sync, map_read, draft_begin, draft_append, draft_sync, draft_publish, map_settle, map_remove}
 use Rattle.crash_site.specs.CallsMade.{BrokeAt, call_name}
-use Rattle.save_resume.specs.MapNames.{MapNames}
-use Rattle.save_resume.specs.Saving.{IsNameIn, publish_calls, save_calls}
+use Rattle.mapfile_save.specs.MapNames.{MapNames}
+use Rattle.mapfile_save.specs.Saving.{IsNameIn, publish_calls, save_calls}
 use Rattle.rescue_rules.specs.declared.stop.Stop.TheVariants.{SourceLost as InputLost, Site, LimitMet as Limited, NoMemory as NoRoom}
 use Rattle.rescue_rules.specs.declared.stop.RunEnd.{RunEnd}
 use Rattle.rescue_rules.specs.Setting.{Setting}

@@ -7,9 +7,9 @@ use Rattle.block_list.specs.declared.types.TypeSet.{TypeSet}
 use Rattle.mapfile_text.specs.Pieces.{pieces_of}
 use Rattle.crash_site.specs.Files.{File}
 use Rattle.crash_site.specs.Calls.{Call, Entry, Done, image_write, map_read, draft_append, draft_sync}
-use Rattle.save_resume.specs.MapNames.{MapNames}
-use Rattle.save_resume.specs.Loading.{BeginsLoad}
-use Rattle.save_resume.specs.Saving.{begin_calls, fill_calls, publish_calls, save_calls}
+use Rattle.mapfile_save.specs.MapNames.{MapNames}
+use Rattle.mapfile_save.specs.Loading.{BeginsLoad}
+use Rattle.mapfile_save.specs.Saving.{begin_calls, fill_calls, publish_calls, save_calls}
 use Rattle.rescue_rules.specs.Setting.{Setting, place}
 use Rattle.rescue_rules.specs.Snapshots.{Snapshot, text_of}
 use Rattle.rescue_rules.specs.RunCalls.{closing_calls}

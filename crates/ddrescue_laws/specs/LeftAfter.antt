@@ -7,7 +7,7 @@ use Rattle.crash_site.specs.Calls.{Entry, Failed, map_settle}
 use Rattle.crash_site.specs.Files.{File, empty_file, draft_of}
 use Rattle.rescue_rules.specs.declared.stop.Stop.{Stop}
 use Rattle.option_words.specs.declared.fault.UsageFault.TheVariants.{PlaceTooLarge}
-use Rattle.save_resume.specs.MapNames.{names_in}
+use Rattle.mapfile_save.specs.MapNames.{names_in}
 use Rattle.ddrescue_words.specs.Command.{Command}
 use Rattle.task_files.specs.Asked.{names_by}
 use Rattle.task_files.specs.declared.ending.Which.TheVariants.{RunMap}

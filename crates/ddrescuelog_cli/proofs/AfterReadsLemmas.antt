@@ -6,8 +6,8 @@ use Rattle.mapfile_text.specs.declared.read.Mode.TheVariants.{Tight}
 use Rattle.crash_site.specs.Files.{File}
 use Rattle.crash_site.specs.Calls.{Call, Entry, Done as Returned, map_read}
 use Rattle.crash_site.specs.declared.site.SiteCall.TheVariants.{MapRead}
-use Rattle.save_resume.specs.Loading.{piece_size}
-use Rattle.save_resume.specs.Named.{map_mode}
+use Rattle.mapfile_save.specs.Loading.{piece_size}
+use Rattle.mapfile_resume.specs.Named.{map_mode}
 use Rattle.program_promise.specs.Work.{Deeds, WorkStep, Take, Look, Open, Make, Read, Works}
 use Rattle.program_promise.proofs.FrontLemmas.{IsMapRead, load_reads}
 use Rattle.program_promise.proofs.ReadLemmas.{AreReads, both_are, maps_are, maps_broke, same_reads}

@@ -3,7 +3,7 @@ use Rattle.std.proofs.Common.{List, [], ◌∷◌, ◌++◌, refl, inl, inr}
 use Rattle.crash_site.specs.declared.site.SiteCall.{SiteCall}
 use Rattle.crash_site.specs.Calls.{Call, Entry, Done}
 use Rattle.crash_site.specs.CallsMade.{BrokeAt}
-use Rattle.save_resume.specs.Saving.{IsNameIn}
+use Rattle.mapfile_save.specs.Saving.{IsNameIn}
 
 -- calls of which one broke
 pub record Broken (at : SiteCall) (calls : List Call) (old : List Entry) : Type 0 where

@@ -13,17 +13,17 @@ use Rattle.crash_site.specs.Files.{File}
 use Rattle.crash_site.specs.Calls.{Call, draft_append, draft_sync}
 use Rattle.crash_site.specs.SiteState.{SiteState, files_in}
 use Rattle.rescue_console.specs.FeedState.{FeedState}
-use Rattle.save_resume.specs.declared.draft.SaveFault.{SaveFault}
-use Rattle.save_resume.specs.MapNames.{MapNames, names_of}
-use Rattle.save_resume.specs.Named.{IsMapOf, map_mode, HasStatuses}
-use Rattle.save_resume.specs.Saving.{save_calls, publish_calls, IsNameIn, Saves}
+use Rattle.mapfile_save.specs.declared.draft.SaveFault.{SaveFault}
+use Rattle.mapfile_save.specs.MapNames.{MapNames, names_of}
+use Rattle.mapfile_resume.specs.Named.{IsMapOf, map_mode, HasStatuses}
+use Rattle.mapfile_save.specs.Saving.{save_calls, publish_calls, IsNameIn, Saves}
 use Rattle.map_algebra.specs.Numbers.{list_limit, numbers_in}
 use Rattle.rescue_rules.specs.Beginning.{nothing_shown}
 use Rattle.program_promise.specs.Work.{Deeds, Works, Make}
 use Rattle.ddrescuelog_words.specs.declared.mode.LogMode.TheVariants.{Create}
 use Rattle.ddrescuelog_words.specs.Modes.{creates, has_other}
 use Rattle.ddrescuelog_words.specs.Command.{Command, AreInLimits}
-use Rattle.save_resume.proofs.NamedLemmas.{map_is_one}
+use Rattle.mapfile_resume.proofs.NamedLemmas.{map_is_one}
 use Rattle.program_promise.proofs.LoadLemmas.{by_tells}
 use Rattle.program_promise.proofs.GainLemmas.{GainsBroken, broke_gains, broke_named}
 use Rattle.ddrescuelog_cli.specs.declared.ending.LogEnding.{LogEnding}

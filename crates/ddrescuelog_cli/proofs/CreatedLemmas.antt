@@ -8,7 +8,7 @@ use Rattle.mapfile_text.specs.declared.state.MapState.{MapState}
 use Rattle.mapfile_text.specs.declared.read.Mode.TheVariants.{Tight}
 use Rattle.mapfile_text.specs.MapText.{IsMapText}
 use Rattle.block_list.specs.declared.status.Status.{Status}
-use Rattle.save_resume.specs.SaveStops.{text_file}
+use Rattle.mapfile_save.specs.SaveStops.{text_file}
 use Rattle.map_algebra.specs.Create.{created_map}
 use Rattle.ddrescuelog_cli.specs.Maps.{shape_of, domain_below}
 use Rattle.ddrescuelog_cli.specs.Laws.{CreatedIsRead}

@@ -11,9 +11,9 @@ use Rattle.crash_site.specs.declared.site.SiteCall.TheVariants.{MapRead}
 use Rattle.crash_site.specs.Files.{File}
 use Rattle.crash_site.specs.Calls.{Call, Entry, draft_append}
 use Rattle.crash_site.specs.CallsMade.{call_name, BrokeAt}
-use Rattle.save_resume.specs.MapNames.{MapNames, names_of}
-use Rattle.save_resume.specs.Named.{map_mode}
-use Rattle.save_resume.specs.Saving.{fill_calls, save_calls}
+use Rattle.mapfile_save.specs.MapNames.{MapNames, names_of}
+use Rattle.mapfile_resume.specs.Named.{map_mode}
+use Rattle.mapfile_save.specs.Saving.{fill_calls, save_calls}
 use Rattle.program_promise.specs.Work.{Deeds, with_calls, Take, Look, Make, Works}
 use Rattle.ddrescuelog_words.specs.declared.mode.LogMode.{LogMode}
 use Rattle.ddrescuelog_words.specs.declared.mode.LogMode.TheVariants.{Create, Test, Compare}

@@ -21,8 +21,8 @@ use Rattle.ddrescuelog_cli.specs.Modes.{Finds, log_faults, OnlyAnswers, EndsPrin
 use Rattle.ddrescuelog_cli.specs.Maps.{Found, Maps, domain_of}
 use Rattle.rescue_domain.specs.Finished.{is_finished_at}
 use Rattle.map_algebra.specs.Compare.{IsDoneIn}
-use Rattle.save_resume.specs.MapNames.{names_of}
-use Rattle.save_resume.specs.Saving.{save_calls}
+use Rattle.mapfile_save.specs.MapNames.{names_of}
+use Rattle.mapfile_save.specs.Saving.{save_calls}
 use Rattle.ddrescuelog_cli.specs.Refusals.{IfNamed, MapIsRefused, ListRefused}
 use Rattle.ddrescuelog_cli.specs.Work.{PlacesRefused, named_rows, read_rows, WorksOver, UnlessThere, WorksAs}
 use Rattle.ddrescuelog_cli.specs.Answers.{row_of}

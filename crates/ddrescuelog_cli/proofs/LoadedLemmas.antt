@@ -10,8 +10,8 @@ use Rattle.crash_site.specs.Files.{File, file_named}
 use Rattle.crash_site.specs.Calls.{Entry, Done as Returned}
 use Rattle.crash_site.specs.SiteState.{SiteState, files_in}
 use Rattle.crash_site.specs.SiteChanges.{Stays}
-use Rattle.save_resume.specs.Named.{map_mode, HasStatuses}
-use Rattle.save_resume.specs.Resuming.{IsReadAs}
+use Rattle.mapfile_resume.specs.Named.{map_mode, HasStatuses}
+use Rattle.mapfile_resume.specs.Resuming.{IsReadAs}
 use Rattle.program_promise.specs.Work.{WorkStep}
 use Rattle.ddrescuelog_words.specs.Modes.{creates, mapfile_mode}
 use Rattle.ddrescuelog_words.specs.Command.{Command}

@@ -14,8 +14,8 @@ use Rattle.crash_site.specs.CallsMade.{Lost}
 use Rattle.crash_site.specs.Folder.{Folder, after}
 use Rattle.crash_site.specs.SiteState.{SiteState, files_in}
 use Rattle.crash_site.proofs.LawLemmas.{after-append}
-use Rattle.save_resume.specs.Loading.{piece_size}
-use Rattle.save_resume.specs.Named.{map_mode}
+use Rattle.mapfile_save.specs.Loading.{piece_size}
+use Rattle.mapfile_resume.specs.Named.{map_mode}
 use Rattle.program_promise.specs.Work.{Deeds, Works}
 use Rattle.ddrescuelog_words.specs.Command.{Command}
 use Rattle.program_promise.proofs.LoadLemmas.{by_tells}

@@ -12,11 +12,11 @@ use Rattle.mapfile_text.proofs.OneReading.{has_one_reading}
 use Rattle.mapfile_text.proofs.OneFault.{map_has_no_fault}
 use Rattle.mapfile_text.proofs.MapOrFault.{is_map_or_has_fault}
 use Rattle.crash_site.specs.Files.{File}
-use Rattle.save_resume.specs.Named.{IsMapOf, map_mode, HasStatuses}
+use Rattle.mapfile_resume.specs.Named.{IsMapOf, map_mode, HasStatuses}
 use Rattle.ddrescuelog_words.specs.Modes.{creates, mapfile_mode}
 use Rattle.ddrescuelog_words.specs.Command.{Command}
-use Rattle.save_resume.proofs.NamedLemmas.{map_is_one}
-use Rattle.save_resume.proofs.AnswerLemmas.{not_there, one_there}
+use Rattle.mapfile_resume.proofs.NamedLemmas.{map_is_one}
+use Rattle.mapfile_resume.proofs.AnswerLemmas.{not_there, one_there}
 use Rattle.ddrescuelog_cli.specs.Maps.{Found, Maps, IsShownBy, AreMapsOf, AreAskedFor}
 use Rattle.ddrescuelog_cli.specs.Laws.{MapsAreThere}
 

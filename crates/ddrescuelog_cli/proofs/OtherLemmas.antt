@@ -10,9 +10,9 @@ use Rattle.crash_site.specs.SiteState.{SiteState, files_in}
 use Rattle.crash_site.proofs.DiskLemmas.{same_name}
 use Rattle.crash_site.proofs.LawLemmas.{after-append, put_other}
 use Rattle.crash_site.proofs.AlongLemmas.{WentOn, broke_goes, made_goes}
-use Rattle.save_resume.specs.MapNames.{names_of}
-use Rattle.save_resume.specs.Saving.{save_calls}
-use Rattle.save_resume.specs.SaveStops.{IsEmptyDraft}
+use Rattle.mapfile_save.specs.MapNames.{names_of}
+use Rattle.mapfile_save.specs.Saving.{save_calls}
+use Rattle.mapfile_save.specs.SaveStops.{IsEmptyDraft}
 use Rattle.ddrescuelog_words.specs.declared.mode.LogMode.{LogMode}
 use Rattle.ddrescuelog_words.specs.declared.mode.LogMode.TheVariants.{Create, Test}
 use Rattle.ddrescuelog_words.specs.Modes.{creates}

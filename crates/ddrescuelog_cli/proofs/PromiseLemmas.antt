@@ -17,7 +17,7 @@ use Rattle.ddrescuelog_words.specs.declared.mode.LogMode.{LogMode}
 use Rattle.ddrescuelog_words.specs.declared.options.LogOptions.{LogOptions}
 use Rattle.ddrescuelog_words.specs.Options.{options_in}
 use Rattle.ddrescuelog_words.specs.Command.{Command, IsAsked, is_too_long, modes_given, command_by, log_grammar, size_word, unless_too_long, with_mode, with_operand}
-use Rattle.save_resume.proofs.FillLemmas.{keeps_self}
+use Rattle.mapfile_save.proofs.FillLemmas.{keeps_self}
 use Rattle.ddrescuelog_cli.specs.declared.ending.LogEnding.{LogEnding}
 use Rattle.ddrescuelog_cli.specs.declared.ending.LogEnding.TheVariants.{Usage, NoMemory}
 use Rattle.ddrescuelog_cli.specs.Answers.{FitsCommand, FitsUsage, drafting_left, row_of}

@@ -10,7 +10,7 @@ use Rattle.crash_site.specs.declared.site.SiteCall.TheVariants.{MapSettle}
 use Rattle.crash_site.specs.Calls.{Entry, Done as Returned, map_remove, map_settle}
 use Rattle.crash_site.specs.CallsMade.{Lost, BrokeAt}
 use Rattle.crash_site.specs.SiteState.{SiteState}
-use Rattle.save_resume.specs.Saving.{IsNameIn}
+use Rattle.mapfile_save.specs.Saving.{IsNameIn}
 use Rattle.program_promise.specs.Work.{Deeds}
 use Rattle.ddrescuelog_words.specs.declared.mode.LogMode.TheVariants.{Test}
 use Rattle.ddrescuelog_words.specs.Command.{Command}

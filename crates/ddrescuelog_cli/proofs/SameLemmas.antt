@@ -9,7 +9,7 @@ use Rattle.mapfile_text.specs.declared.read.MapError.TheVariants.{TooLong}
 use Rattle.mapfile_text.specs.MapText.{text_limit}
 use Rattle.mapfile_text.proofs.MapOrFault.{is_map_or_has_fault}
 use Rattle.crash_site.specs.Files.{File}
-use Rattle.save_resume.specs.Named.{IsMapOf, map_mode}
+use Rattle.mapfile_resume.specs.Named.{IsMapOf, map_mode}
 use Rattle.program_promise.specs.Work.{Deeds, with_calls, WorkStep, Take, Look, Open, Make, Read, Works}
 use Rattle.program_promise.specs.Verdicts.{RefuseNothing}
 use Rattle.program_promise.proofs.VerdictLemmas.{one_verdict}

@@ -5,7 +5,7 @@ use Rattle.crash_site.specs.Disk.{Disk}
 use Rattle.crash_site.specs.Left.{MayShow}
 use Rattle.crash_site.specs.SiteState.{SiteState}
 use Rattle.crash_site.proofs.LawLemmas.{left_past}
-use Rattle.save_resume.specs.SaveStops.{disk_of}
+use Rattle.mapfile_save.specs.SaveStops.{disk_of}
 use Rattle.program_promise.proofs.ReadLemmas.{AreReads, reads_at}
 use Rattle.ddrescuelog_cli.specs.Stops.{LeavesAll}
 

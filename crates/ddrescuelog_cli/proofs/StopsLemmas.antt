@@ -14,9 +14,9 @@ use Rattle.crash_site.specs.SiteState.{SiteState}
 use Rattle.crash_site.proofs.DiskLemmas.{run-append, run_reads}
 use Rattle.crash_site.proofs.LawLemmas.{found_only, own_name, put_other, until_past, until_all, left_past}
 use Rattle.crash_site.proofs.AlongLemmas.{WentOn, along_until, along_calls, made_goes, broke_goes}
-use Rattle.save_resume.specs.MapNames.{names_of}
-use Rattle.save_resume.specs.Saving.{save_calls}
-use Rattle.save_resume.specs.SaveStops.{disk_of, text_file, Old, New, IsSaved, IsEmptyDraft, LeftAt, CouldBefore}
+use Rattle.mapfile_save.specs.MapNames.{names_of}
+use Rattle.mapfile_save.specs.Saving.{save_calls}
+use Rattle.mapfile_save.specs.SaveStops.{disk_of, text_file, Old, New, IsSaved, IsEmptyDraft, LeftAt, CouldBefore}
 use Rattle.rescue_rules.proofs.BeforeLemmas.{or_found, look_shown}
 use Rattle.program_promise.specs.Work.{IsIdle}
 use Rattle.ddrescuelog_words.specs.declared.mode.LogMode.{LogMode}
@@ -25,7 +25,7 @@ use Rattle.ddrescuelog_words.specs.Modes.{creates}
 use Rattle.ddrescuelog_words.specs.Command.{Command}
 use Rattle.map_algebra.specs.Compare.{IsDoneIn}
 use Rattle.map_algebra.specs.Numbers.{numbers_in}
-use Rattle.save_resume.proofs.NameLemmas.{apart_draft}
+use Rattle.mapfile_save.proofs.NameLemmas.{apart_draft}
 use Rattle.program_promise.proofs.ReadLemmas.{AreReads, reads_keep, reads_until, same_reads}
 use Rattle.program_promise.proofs.SavedLemmas.{HasSaved, stops_by_save, saved_by, save_after}
 use Rattle.ddrescuelog_cli.specs.declared.ending.LogEnding.{LogEnding}

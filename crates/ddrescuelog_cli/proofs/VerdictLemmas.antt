@@ -5,8 +5,8 @@ use Rattle.block_list.specs.declared.status.Status.{Status}
 use Rattle.mapfile_text.specs.declared.read.Mode.{Mode}
 use Rattle.mapfile_text.specs.declared.read.Mode.TheVariants.{Tight}
 use Rattle.crash_site.specs.Files.{File}
-use Rattle.save_resume.specs.Named.{map_mode}
-use Rattle.save_resume.proofs.AnswerLemmas.{refused_for_one}
+use Rattle.mapfile_resume.specs.Named.{map_mode}
+use Rattle.mapfile_resume.proofs.AnswerLemmas.{refused_for_one}
 use Rattle.program_promise.specs.Work.{Deeds, Take, Look, Make, Works}
 use Rattle.program_promise.specs.Verdicts.{IsOnce, RefuseOnce, AreVerdicts}
 use Rattle.program_promise.proofs.VerdictLemmas.{one_verdict}

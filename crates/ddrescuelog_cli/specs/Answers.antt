@@ -6,7 +6,7 @@ use Rattle.map_algebra.specs.Numbers.{list_limit}
 use Rattle.crash_site.specs.declared.site.SiteCall.{SiteCall}
 use Rattle.crash_site.specs.declared.site.SiteCall.TheVariants.{ImageOpen, ImageRead, ImageWrite, ImageSync, MapRead, DraftBegin, DraftAppend, DraftSync, DraftPublish, MapSettle, MapRemove}
 use Rattle.rescue_console.specs.FeedState.{FeedState}
-use Rattle.save_resume.specs.Saving.{drafting_after_fault}
+use Rattle.mapfile_save.specs.Saving.{drafting_after_fault}
 use Rattle.option_words.specs.declared.fault.UsageFault.{UsageFault}
 use Rattle.option_words.specs.declared.fault.UsageFault.TheVariants.{Word, BadValue, Conflict, Modes, Operands, PlaceTooLarge}
 use Rattle.console_texts.specs.Texts.{error_text, fault_text, at_line, message_of}

@@ -9,10 +9,10 @@ use Rattle.crash_site.specs.Calls.{Entry, Done as Returned, map_read}
 use Rattle.crash_site.specs.SiteState.{SiteState, files_in}
 use Rattle.rescue_console.specs.FeedState.{FeedState, Keeps as FeedKeeps}
 use Rattle.rescue_domain.specs.Domain.{whole_domain, in_map}
-use Rattle.save_resume.specs.Loading.{piece_size}
-use Rattle.save_resume.specs.MapNames.{MapNames}
-use Rattle.save_resume.specs.Named.{map_mode, HasStatuses}
-use Rattle.save_resume.specs.Saving.{save_calls}
+use Rattle.mapfile_save.specs.Loading.{piece_size}
+use Rattle.mapfile_save.specs.MapNames.{MapNames}
+use Rattle.mapfile_resume.specs.Named.{map_mode, HasStatuses}
+use Rattle.mapfile_save.specs.Saving.{save_calls}
 use Rattle.map_algebra.specs.Create.{created_map}
 use Rattle.map_algebra.specs.Numbers.{list_limit, numbers_in}
 use Rattle.program_promise.specs.Work.{Make, Works}

@@ -5,7 +5,7 @@ use Rattle.mapfile_text.specs.MapText.{text_limit}
 use Rattle.mapfile_text.specs.declared.state.Current.TheVariants.{Copying}
 use Rattle.mapfile_text.specs.declared.read.Mode.TheVariants.{Tight}
 use Rattle.crash_site.specs.SiteState.{files_in}
-use Rattle.save_resume.specs.SaveStops.{text_file}
+use Rattle.mapfile_save.specs.SaveStops.{text_file}
 use Rattle.map_algebra.specs.Create.{created_map}
 use Rattle.program_promise.specs.Work.{Deeds, WorkStep}
 use Rattle.program_promise.specs.Verdicts.{RefuseNothing}

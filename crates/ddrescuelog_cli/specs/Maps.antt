@@ -6,7 +6,7 @@ use Rattle.mapfile_text.specs.declared.read.Mode.{Mode}
 use Rattle.mapfile_text.specs.declared.read.Mode.TheVariants.{Tight}
 use Rattle.mapfile_text.specs.MapText.{text_limit, IsMapText}
 use Rattle.crash_site.specs.Files.{File, file_named}
-use Rattle.save_resume.specs.Named.{IsMapOf, map_mode}
+use Rattle.mapfile_resume.specs.Named.{IsMapOf, map_mode}
 use Rattle.rescue_domain.specs.Domain.{whole_domain, in_map}
 use Rattle.map_algebra.specs.declared.shape.Shape.{Shape}
 use Rattle.ddrescuelog_words.specs.declared.options.LogOptions.{LogOptions}

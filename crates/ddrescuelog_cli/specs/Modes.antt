@@ -3,9 +3,9 @@ use Rattle.std.specs.Prelude.{◌≡◌, ◌⊎◌, ℕ, Bool, true, false, List
 use Rattle.block_list.specs.declared.status.Status.{Status}
 use Rattle.crash_site.specs.Files.{File}
 use Rattle.crash_site.specs.Calls.{Call, map_remove, map_settle}
-use Rattle.save_resume.specs.MapNames.{names_of}
-use Rattle.save_resume.specs.SaveStops.{text_file}
-use Rattle.save_resume.specs.Saving.{save_calls}
+use Rattle.mapfile_save.specs.MapNames.{names_of}
+use Rattle.mapfile_save.specs.SaveStops.{text_file}
+use Rattle.mapfile_save.specs.Saving.{save_calls}
 use Rattle.map_algebra.specs.Change.{changed_map}
 use Rattle.map_algebra.specs.Combine.{combined_map}
 use Rattle.map_algebra.specs.Compare.{IsDoneIn, IsOpenIn, AgreeIn, DifferIn, FinishAlikeIn, FinishUnlikeIn}

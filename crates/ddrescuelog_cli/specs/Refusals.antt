@@ -3,7 +3,7 @@ use Rattle.std.specs.Prelude.{◌≡◌, ◌⊎◌, ℕ, ◌<◌, ◌≤◌, tru
 use Rattle.mapfile_text.specs.declared.read.Mode.{Mode}
 use Rattle.mapfile_text.specs.declared.read.MapError.{MapError}
 use Rattle.crash_site.specs.Files.{File}
-use Rattle.save_resume.specs.Resuming.{IsRefusedFor}
+use Rattle.mapfile_resume.specs.Resuming.{IsRefusedFor}
 use Rattle.map_algebra.specs.Numbers.{list_limit, numbers_in}
 use Rattle.ddrescuelog_words.specs.declared.options.LogOptions.{LogOptions}
 use Rattle.ddrescuelog_cli.specs.declared.ending.Which.{Which}

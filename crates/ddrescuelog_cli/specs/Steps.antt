@@ -15,8 +15,8 @@ use Rattle.crash_site.specs.declared.site.SiteCall.TheVariants.{MapRead}
 use Rattle.crash_site.specs.Files.{file_named}
 use Rattle.crash_site.specs.Calls.{Entry}
 use Rattle.crash_site.specs.SiteState.{SiteState, files_in}
-use Rattle.save_resume.specs.Named.{HasStatuses}
-use Rattle.save_resume.specs.Resuming.{IsReadAs}
+use Rattle.mapfile_resume.specs.Named.{HasStatuses}
+use Rattle.mapfile_resume.specs.Resuming.{IsReadAs}
 use Rattle.program_promise.specs.Work.{Take}
 use Rattle.ddrescuelog_words.specs.Command.{Command}
 use Rattle.ddrescuelog_cli.specs.declared.ending.Which.{Which}

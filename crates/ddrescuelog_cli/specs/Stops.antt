@@ -3,8 +3,8 @@ use Rattle.std.specs.Prelude.{◌≡◌, ◌≢◌, ◌⊎◌, ℕ, ◌≤◌, t
 use Rattle.crash_site.specs.Files.{File}
 use Rattle.crash_site.specs.Calls.{Entry}
 use Rattle.crash_site.specs.SiteState.{SiteState}
-use Rattle.save_resume.specs.MapNames.{names_of}
-use Rattle.save_resume.specs.SaveStops.{IsEmptyDraft, LeftAt, CouldBefore}
+use Rattle.mapfile_save.specs.MapNames.{names_of}
+use Rattle.mapfile_save.specs.SaveStops.{IsEmptyDraft, LeftAt, CouldBefore}
 use Rattle.program_promise.specs.Kinds.{AtCall, Failed}
 use Rattle.ddrescuelog_words.specs.declared.mode.LogMode.{LogMode}
 use Rattle.ddrescuelog_words.specs.Modes.{creates, removes_map}

@@ -10,8 +10,8 @@ use Rattle.crash_site.specs.declared.site.MapRead.TheVariants.{Bytes, Absent}
 use Rattle.crash_site.specs.Files.{File}
 use Rattle.crash_site.specs.Calls.{Entry, Done as Returned, map_read}
 use Rattle.crash_site.specs.CallsMade.{Lost}
-use Rattle.save_resume.specs.Loading.{piece_size}
-use Rattle.save_resume.specs.Named.{map_mode}
+use Rattle.mapfile_save.specs.Loading.{piece_size}
+use Rattle.mapfile_resume.specs.Named.{map_mode}
 use Rattle.option_words.specs.declared.fault.UsageFault.TheVariants.{PlaceTooLarge}
 use Rattle.rescue_domain.specs.Domain.{whole_domain}
 use Rattle.rescue_domain.specs.Places.{IsAnyBeyond}

@@ -29,14 +29,14 @@ use ddrescuelog_words::options::LogOptions;
 use map_algebra::blocks::end_of_blocks;
 use map_algebra::create::create;
 use map_algebra::numbers::{NumberError, read_numbers};
+use mapfile_resume::named::mode_of;
+use mapfile_save::draft::{SaveFault, Saved};
+use mapfile_save::names::Names;
+use mapfile_save::save::save;
 use mapfile_text::heading::Heading;
 use mapfile_text::state::{Current, MapState};
 use rescue_console::feed::Feed;
 use rescue_domain::domain::Domain;
-use save_resume::draft::{SaveFault, Saved};
-use save_resume::named::mode_of;
-use save_resume::names::Names;
-use save_resume::save::save;
 use std::alloc::Global;
 
 /// The most bytes that a list may have.

@@ -1,7 +1,7 @@
 //! Reads the maps that the words name, and says which positions of them are examined.
 ghost use Rattle.std.specs.Prelude.{◌≡◌, false, OnOk, IfOk, IfErr, option_map};
 ghost use Rattle.crash_site.specs.SiteChanges.{Stays};
-ghost use Rattle.save_resume.specs.Resuming.{IsWithinLimits};
+ghost use Rattle.mapfile_resume.specs.Resuming.{IsWithinLimits};
 ghost use Rattle.ddrescuelog_words.specs.Modes.{creates};
 ghost use Rattle.ddrescuelog_words.specs.Command.{told_by};
 ghost use Rattle.ddrescuelog_cli.specs.declared.ending.LogEnding.TheVariants.{NoMemory as OutOfMemory};
@@ -13,11 +13,11 @@ use block_list::tiles::Tiles;
 use crash_site::site::{Site, SiteCall};
 use ddrescuelog_words::command::Command;
 use mapfile_reader::read::ReadMap;
+use mapfile_resume::load::{ResumeFault, load_map};
+use mapfile_resume::named::mode_of;
 use mapfile_text::read::Mode;
 use mapfile_text::state::MapState;
 use rescue_domain::domain::Domain;
-use save_resume::load::{ResumeFault, load_map};
-use save_resume::named::mode_of;
 use std::alloc::Global;
 
 /// Reads a map, which must be there.

@@ -4,7 +4,7 @@ use Rattle.std.specs.Bool.{⊤}
 use Rattle.mapfile_text.specs.declared.read.MapError.{MapError}
 use Rattle.mapfile_text.specs.declared.read.Mode.TheVariants.{Tight}
 use Rattle.crash_site.specs.Files.{File}
-use Rattle.save_resume.proofs.AnswerLemmas.{not_there, refused_for_one}
+use Rattle.mapfile_resume.proofs.AnswerLemmas.{not_there, refused_for_one}
 use Rattle.program_promise.specs.Work.{Deeds}
 use Rattle.program_promise.specs.Verdicts.{IsOnce}
 use Rattle.program_promise.specs.World.{WorldState}
@@ -12,7 +12,7 @@ use Rattle.program_promise.specs.Kinds.{IsWorkKind}
 use Rattle.program_promise.specs.WellMade.{IsWellMade}
 use Rattle.program_promise.specs.Promise.{IsDone}
 use Rattle.program_promise.proofs.PromiseLemmas.{asked, keeps_promises}
-use Rattle.save_resume.proofs.FillLemmas.{site_stays}
+use Rattle.mapfile_save.proofs.FillLemmas.{site_stays}
 use Rattle.ddrescueplan_words.specs.Command.{Command, IsAsked}
 use Rattle.ddrescueplan_cli.specs.declared.ending.PlanEnding.{PlanEnding}
 use Rattle.ddrescueplan_cli.specs.declared.ending.PlanEnding.TheVariants.{Usage, Done, MapRefused, ConsoleFault, NoMemory}

@@ -8,11 +8,11 @@ use Rattle.crash_site.specs.Files.{File}
 use Rattle.crash_site.specs.Calls.{Call, Entry, Done as Returned}
 use Rattle.crash_site.specs.SiteState.{SiteState, files_in}
 use Rattle.crash_site.specs.SiteChanges.{Stays}
-use Rattle.save_resume.specs.declared.named.NamedFault.{NamedFault}
-use Rattle.save_resume.specs.declared.named.NamedFault.TheVariants.{ReadFailed, Absent, Refused, NoMemory as NoRoom}
-use Rattle.save_resume.specs.Loading.{IsLoad}
-use Rattle.save_resume.specs.Named.{LoadsNamed, IsNamedAs, NamedCounts}
-use Rattle.save_resume.specs.Resuming.{IsOfFile, IsReadAs, IsRefusedFor, LoadEnded}
+use Rattle.mapfile_resume.specs.declared.named.NamedFault.{NamedFault}
+use Rattle.mapfile_resume.specs.declared.named.NamedFault.TheVariants.{ReadFailed, Absent, Refused, NoMemory as NoRoom}
+use Rattle.mapfile_save.specs.Loading.{IsLoad}
+use Rattle.mapfile_resume.specs.Named.{LoadsNamed, IsNamedAs, NamedCounts}
+use Rattle.mapfile_resume.specs.Resuming.{IsOfFile, IsReadAs, IsRefusedFor, LoadEnded}
 use Rattle.rescue_console.specs.ConsoleState.{ConsoleState}
 use Rattle.rescue_sample.specs.Line.{IsStill}
 use Rattle.rescue_rules.specs.Moves.{IsMove}

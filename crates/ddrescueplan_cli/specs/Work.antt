@@ -7,8 +7,8 @@ use Rattle.mapfile_reader.specs.declared.read.ReadMap.{ReadMap}
 use Rattle.crash_site.specs.Files.{File}
 use Rattle.crash_site.specs.Calls.{Call, Done as Returned}
 use Rattle.crash_site.specs.SiteState.{SiteState, files_in}
-use Rattle.save_resume.specs.Loading.{BeginsLoad, IsLoad}
-use Rattle.save_resume.specs.Resuming.{IsReadAs, IsRefusedFor}
+use Rattle.mapfile_save.specs.Loading.{BeginsLoad, IsLoad}
+use Rattle.mapfile_resume.specs.Resuming.{IsReadAs, IsRefusedFor}
 use Rattle.program_promise.specs.Work.{Deeds, IsIdle, Faults, WorkStep, Take, Look, Read, Works}
 use Rattle.program_promise.specs.World.{WorldState}
 use Rattle.program_promise.specs.Printing.{PutsByKind}

@@ -3,11 +3,11 @@ ghost use Rattle.std.specs.Prelude.{◌≡◌};
 ghost use Rattle.ddrescueplan_cli.specs.Answers.{ending_of, refusal_of, status_of_ending};
 
 use crash_site::site::SiteCall;
+use mapfile_resume::named::NamedFault;
 use mapfile_text::read::MapError;
 use option_words::fault::UsageFault;
 use rescue_plan::PlanLoss;
 use rescue_plan::run::PlanEnd;
-use save_resume::named::NamedFault;
 
 /// How a call of `ddrescueplan` ended.
 #[derive(Clone, Copy, Debug, PartialEq, Eq)]

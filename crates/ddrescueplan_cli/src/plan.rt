@@ -8,13 +8,13 @@ ghost use Rattle.ddrescueplan_cli.specs.Ddrescueplan.{Ddrescueplan, PlanDone, Pl
 use crate::ending::PlanEnding;
 use crash_site::site::Site;
 use ddrescueplan_words::command::{Command, read_command};
+use mapfile_resume::named::load_named;
 use option_words::command_error::CommandError;
 use option_words::words::Words;
 use program_promise::answer::say_ending;
 use rescue_console::console::Console;
 use rescue_plan::ready::make_rescue;
 use rescue_plan::run::put_plan;
-use save_resume::named::load_named;
 use std::alloc::Global;
 use std::marker::Brand;
 

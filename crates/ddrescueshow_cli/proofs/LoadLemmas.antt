@@ -5,10 +5,10 @@ use Rattle.mapfile_text.specs.declared.read.Mode.{Mode}
 use Rattle.mapfile_reader.specs.declared.read.ReadMap.{ReadMap}
 use Rattle.crash_site.specs.Files.{File}
 use Rattle.crash_site.specs.SiteState.{SiteState, files_in}
-use Rattle.save_resume.specs.declared.named.NamedFault.{NamedFault}
-use Rattle.save_resume.specs.declared.named.NamedFault.TheVariants.{ReadFailed, Absent, Refused as NotRead, NoMemory as Starving}
-use Rattle.save_resume.specs.Named.{IsMapOf, LoadsNamed, IsNamedAs, NamedCounts}
-use Rattle.save_resume.specs.Resuming.{IsReadAs, IsOfFile, LoadEnded}
+use Rattle.mapfile_resume.specs.declared.named.NamedFault.{NamedFault}
+use Rattle.mapfile_resume.specs.declared.named.NamedFault.TheVariants.{ReadFailed, Absent, Refused as NotRead, NoMemory as Starving}
+use Rattle.mapfile_resume.specs.Named.{IsMapOf, LoadsNamed, IsNamedAs, NamedCounts}
+use Rattle.mapfile_resume.specs.Resuming.{IsReadAs, IsOfFile, LoadEnded}
 use Rattle.rescue_console.specs.ConsoleState.{ConsoleState}
 use Rattle.program_promise.specs.Causes.{Changed, none_rises}
 use Rattle.program_promise.proofs.LoadedLemmas.{AnswersNamed, reads_alone, read_passes, read_is_map, went_through, named_stopped as stopped}

@@ -5,9 +5,9 @@ use Rattle.mapfile_text.specs.declared.read.MapError.{MapError}
 use Rattle.mapfile_text.specs.declared.read.Mode.{Mode}
 use Rattle.mapfile_text.specs.declared.read.Mode.TheVariants.{Tight}
 use Rattle.crash_site.specs.Files.{File}
-use Rattle.save_resume.specs.Named.{map_mode}
-use Rattle.save_resume.proofs.AnswerLemmas.{not_there, refused_for_one}
-use Rattle.save_resume.proofs.FillLemmas.{site_stays}
+use Rattle.mapfile_resume.specs.Named.{map_mode}
+use Rattle.mapfile_resume.proofs.AnswerLemmas.{not_there, refused_for_one}
+use Rattle.mapfile_save.proofs.FillLemmas.{site_stays}
 use Rattle.program_promise.specs.Work.{Deeds, Take, WorkStep, Works}
 use Rattle.program_promise.specs.Verdicts.{IsOnce}
 use Rattle.program_promise.specs.World.{WorldState}

@@ -10,8 +10,8 @@ use Rattle.crash_site.specs.Disk.{Disk}
 use Rattle.crash_site.specs.Left.{MayBeLeft, MayShow}
 use Rattle.crash_site.specs.SiteState.{SiteState}
 use Rattle.crash_site.proofs.LawLemmas.{after-append, left_past}
-use Rattle.save_resume.specs.Named.{map_mode}
-use Rattle.save_resume.specs.SaveStops.{CouldBefore, disk_of}
+use Rattle.mapfile_resume.specs.Named.{map_mode}
+use Rattle.mapfile_save.specs.SaveStops.{CouldBefore, disk_of}
 use Rattle.program_promise.specs.Work.{Deeds, Take, WorkStep, Works}
 use Rattle.program_promise.proofs.FrontLemmas.{load_reads}
 use Rattle.program_promise.proofs.ReadLemmas.{AreReads, maps_are, maps_broke, maps_then, reads_at, reads_leave, same_reads}

@@ -7,10 +7,10 @@ use Rattle.crash_site.specs.Files.{File, file_named}
 use Rattle.crash_site.specs.Calls.{Entry, Done as Returned}
 use Rattle.crash_site.specs.SiteState.{SiteState, files_in}
 use Rattle.crash_site.specs.SiteChanges.{Stays}
-use Rattle.save_resume.specs.Named.{map_mode}
+use Rattle.mapfile_resume.specs.Named.{map_mode}
 use Rattle.rescue_console.specs.declared.console.Channel.TheVariants.{Out}
 use Rattle.rescue_console.specs.ConsoleState.{ConsoleState, Puts, PutsPart}
-use Rattle.save_resume.proofs.FillLemmas.{site_stays}
+use Rattle.mapfile_save.proofs.FillLemmas.{site_stays}
 use Rattle.program_promise.specs.Work.{IsIdle, Take, WorkStep, Works}
 use Rattle.program_promise.specs.Parts.{only_calls, WentThrough}
 use Rattle.program_promise.proofs.FrontLemmas.{load_reads}

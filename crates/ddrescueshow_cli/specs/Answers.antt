@@ -3,8 +3,8 @@
 use Rattle.std.specs.Prelude.{◌≡◌, ◌≢◌, ℕ, Bool, List, ◌++◌, codes}
 use Rattle.mapfile_text.specs.declared.read.MapError.TheVariants.{NoMemory as OutOfMemory}
 use Rattle.crash_site.specs.declared.site.SiteCall.TheVariants.{MapRead}
-use Rattle.save_resume.specs.declared.named.NamedFault.{NamedFault}
-use Rattle.save_resume.specs.declared.named.NamedFault.TheVariants.{ReadFailed, Absent, Refused, NoMemory as NoRoom}
+use Rattle.mapfile_resume.specs.declared.named.NamedFault.{NamedFault}
+use Rattle.mapfile_resume.specs.declared.named.NamedFault.TheVariants.{ReadFailed, Absent, Refused, NoMemory as NoRoom}
 use Rattle.console_texts.specs.Texts.{error_text, fault_text, message_of}
 use Rattle.program_promise.specs.Kinds.{AtCall, AtPut, is_silent_kind}
 use Rattle.program_promise.specs.Rows.{AnswerRow, asked_row, brought_row, failed_row, only_where, starved_row, wrong_row}

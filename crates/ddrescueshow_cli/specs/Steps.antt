@@ -4,7 +4,7 @@ use Rattle.block_list.specs.Tiled.{Tiled, statuses_in}
 use Rattle.mapfile_text.specs.declared.read.Mode.{Mode}
 use Rattle.crash_site.specs.SiteState.{SiteState, files_in}
 use Rattle.crash_site.specs.Files.{file_named}
-use Rattle.save_resume.specs.Named.{IsMapOf, HasStatuses}
+use Rattle.mapfile_resume.specs.Named.{IsMapOf, HasStatuses}
 use Rattle.rescue_console.specs.ConsoleState.{ConsoleState}
 use Rattle.program_promise.specs.Parts.{DidPart}
 use Rattle.program_promise.specs.Causes.{Changed, changes_of}

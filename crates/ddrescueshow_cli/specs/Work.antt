@@ -6,8 +6,8 @@ use Rattle.mapfile_text.specs.declared.read.Mode.{Mode}
 use Rattle.mapfile_text.specs.declared.read.Mode.TheVariants.{Tight}
 use Rattle.crash_site.specs.Files.{File, file_named}
 use Rattle.crash_site.specs.SiteState.{SiteState, files_in}
-use Rattle.save_resume.specs.Named.{IsMapOf, map_mode, HasStatuses}
-use Rattle.save_resume.specs.Resuming.{IsRefusedFor}
+use Rattle.mapfile_resume.specs.Named.{IsMapOf, map_mode, HasStatuses}
+use Rattle.mapfile_resume.specs.Resuming.{IsRefusedFor}
 use Rattle.rescue_console.specs.declared.console.Channel.TheVariants.{Out}
 use Rattle.rescue_console.specs.ConsoleState.{ConsoleState, Puts, PutsPart}
 use Rattle.rescue_domain.specs.Domain.{in_map, whole_domain}

@@ -3,9 +3,9 @@ ghost use Rattle.std.specs.Prelude.{◌≡◌};
 ghost use Rattle.ddrescueshow_cli.specs.Answers.{refusal_of, status_of_ending};
 
 use crash_site::site::SiteCall;
+use mapfile_resume::named::NamedFault;
 use mapfile_text::read::MapError;
 use option_words::fault::UsageFault;
-use save_resume::named::NamedFault;
 
 /// A map that is named.
 #[derive(Clone, Copy, Debug, PartialEq, Eq)]

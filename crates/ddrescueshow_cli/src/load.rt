@@ -1,14 +1,14 @@
 //! Reads the maps that the words name.
 ghost use Rattle.std.specs.Prelude.{◌≡◌, OnOk, IfOk, IfErr, option_map};
 ghost use Rattle.crash_site.specs.SiteChanges.{Stays};
-ghost use Rattle.save_resume.specs.Named.{map_mode};
+ghost use Rattle.mapfile_resume.specs.Named.{map_mode};
 ghost use Rattle.ddrescueshow_cli.specs.Steps.{ReadCause, ReadsMap, ReadsNamed};
 
 use crate::ending::{ShowEnding, Which};
 use block_list::plain_tiles::PlainTiles;
 use crash_site::site::Site;
 use mapfile_reader::read::ReadMap;
-use save_resume::named::load_named;
+use mapfile_resume::named::load_named;
 use std::alloc::Global;
 
 /// Reads a map, which must be there; a loose one may have gaps.

@@ -8,9 +8,9 @@ use Rattle.mapfile_text.specs.declared.read.MapError.{MapError}
 use Rattle.mapfile_text.specs.declared.read.Mode.TheVariants.{Tight}
 use Rattle.option_words.specs.declared.fault.UsageFault.{UsageFault}
 use Rattle.option_words.specs.declared.fault.UsageFault.TheVariants.{Word, BadValue, Conflict, Modes, Operands, PlaceTooLarge}
-use Rattle.save_resume.specs.MapNames.{names_of}
-use Rattle.save_resume.specs.Saving.{save_calls}
-use Rattle.save_resume.proofs.AnswerLemmas.{none_says_nothing, refused_for_one}
+use Rattle.mapfile_save.specs.MapNames.{names_of}
+use Rattle.mapfile_save.specs.Saving.{save_calls}
+use Rattle.mapfile_resume.proofs.AnswerLemmas.{none_says_nothing, refused_for_one}
 use Rattle.program_promise.specs.Work.{Deeds, Make, Works}
 use Rattle.program_promise.specs.Verdicts.{IsOnce, RefuseOnce}
 use Rattle.program_promise.proofs.AnswerLemmas.{Stopped, Went, came}

@@ -10,8 +10,8 @@ use Rattle.crash_site.specs.SiteState.{SiteState, files_in}
 use Rattle.crash_site.specs.SiteChanges.{Keeps as SiteKeeps}
 use Rattle.crash_site.proofs.LawLemmas.{after-append, failed_other}
 use Rattle.crash_site.proofs.AlongLemmas.{WentOn, all_go, broke_goes, made_goes}
-use Rattle.save_resume.specs.MapNames.{MapNames, names_of, HasOwnDraft}
-use Rattle.save_resume.specs.Saving.{save_calls}
+use Rattle.mapfile_save.specs.MapNames.{MapNames, names_of, HasOwnDraft}
+use Rattle.mapfile_save.specs.Saving.{save_calls}
 use Rattle.program_promise.specs.Work.{Deeds, Works}
 use Rattle.program_promise.proofs.ReadLemmas.{AreReads, reads_leave}
 use Rattle.program_promise.proofs.SavedLemmas.{HasSaved}

@@ -4,7 +4,7 @@ use Rattle.faulty_source.proofs.Keeping.{keeps_self}
 use Rattle.option_words.specs.declared.fault.UsageFault.{UsageFault}
 use Rattle.option_words.specs.Grammar.{unless_empty}
 use Rattle.option_words.specs.Values.{empty_operand}
-use Rattle.save_resume.proofs.FillLemmas.{keeps_self as site_keeps}
+use Rattle.mapfile_save.proofs.FillLemmas.{keeps_self as site_keeps}
 use Rattle.program_promise.specs.Work.{Deeds, Works}
 use Rattle.program_promise.proofs.AnswerLemmas.{Stops, Broken, Refused, Starved, Stopped, Unopened as NotOpened, Went, came}
 use Rattle.rescue_verify.specs.declared.halt.Halt.{Halt}

@@ -2,9 +2,9 @@
 use Rattle.std.proofs.Common.{ℕ, false, List, [], map, Ok, Err, refl, sym, inl, append-nil}
 use Rattle.crash_site.specs.Calls.{Call, Done as Returned}
 use Rattle.crash_site.specs.SiteState.{SiteState}
-use Rattle.save_resume.specs.declared.draft.SaveFault.{SaveFault}
-use Rattle.save_resume.specs.MapNames.{MapNames}
-use Rattle.save_resume.specs.Saving.{save_calls, Saves}
+use Rattle.mapfile_save.specs.declared.draft.SaveFault.{SaveFault}
+use Rattle.mapfile_save.specs.MapNames.{MapNames}
+use Rattle.mapfile_save.specs.Saving.{save_calls, Saves}
 use Rattle.program_promise.proofs.GainLemmas.{MayGain, may_gain}
 use Rattle.ddrescueverify_cli.specs.declared.ending.VerifyEnding.TheVariants.{SiteFault}
 use Rattle.ddrescueverify_cli.specs.Steps.{SavesText}

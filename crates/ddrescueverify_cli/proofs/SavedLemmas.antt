@@ -8,7 +8,7 @@ use Rattle.crash_site.specs.Left.{Leaves, until}
 use Rattle.crash_site.specs.SiteState.{SiteState, files_in}
 use Rattle.crash_site.proofs.DiskLemmas.{reads_rest}
 use Rattle.crash_site.proofs.LawLemmas.{until_all}
-use Rattle.save_resume.specs.SaveStops.{LeftAt}
+use Rattle.mapfile_save.specs.SaveStops.{LeftAt}
 use Rattle.program_promise.specs.World.{WorldState, Told}
 use Rattle.program_promise.specs.Program.{line_by}
 use Rattle.program_promise.specs.Promise.{Says, Nothing, Message}

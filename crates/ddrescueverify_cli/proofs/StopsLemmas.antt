@@ -16,9 +16,9 @@ use Rattle.crash_site.proofs.AlongLemmas.{along_until, along_calls}
 use Rattle.crash_site.proofs.DiskLemmas.{reads_run, rest_sound, run-append, run_reads, same_name, unsynced_shows}
 use Rattle.crash_site.proofs.NestLemmas.{Nested, nested_run, nested_rest, synced_narrows}
 use Rattle.crash_site.proofs.LawLemmas.{at_other, found_lasting, found_only, other_name, own_name, until_all, left_past}
-use Rattle.save_resume.specs.MapNames.{names_of}
-use Rattle.save_resume.specs.Saving.{save_calls}
-use Rattle.save_resume.specs.SaveStops.{disk_of, text_file, IsOldOrNew, Old, New, IsSaved, IsEmptyDraft, LeftAt, CouldBefore}
+use Rattle.mapfile_save.specs.MapNames.{names_of}
+use Rattle.mapfile_save.specs.Saving.{save_calls}
+use Rattle.mapfile_save.specs.SaveStops.{disk_of, text_file, IsOldOrNew, Old, New, IsSaved, IsEmptyDraft, LeftAt, CouldBefore}
 use Rattle.rescue_rules.specs.Start.{Stands as StandsFor}
 use Rattle.rescue_rules.specs.Stops.{has_barrier, is_sync}
 use Rattle.program_promise.specs.Work.{Deeds, Works}
@@ -28,7 +28,7 @@ use Rattle.rescue_verify.specs.Across.{across}
 use Rattle.rescue_verify.specs.Looks.{Look, reads_of, seen_in}
 use Rattle.rescue_verify.specs.Verified.{judged_by}
 use Rattle.ddrescueverify_words.specs.Command.{Command}
-use Rattle.save_resume.proofs.NameLemmas.{apart_draft}
+use Rattle.mapfile_save.proofs.NameLemmas.{apart_draft}
 use Rattle.rescue_rules.proofs.BeforeLemmas.{look_shown}
 use Rattle.rescue_rules.proofs.SearchLemmas.{never_both}
 use Rattle.ddrescueverify_cli.specs.declared.ending.VerifyEnding.{VerifyEnding}

@@ -9,9 +9,9 @@ use Rattle.faulty_source.specs.SourceState.{SourceState}
 use Rattle.faulty_source.specs.SourceChanges.{Keeps as SourceKeeps}
 use Rattle.faulty_source.proofs.Keeping.{keeps_self}
 use Rattle.rescue_console.specs.ConsoleState.{ConsoleState}
-use Rattle.save_resume.specs.MapNames.{MapNames, names_of}
-use Rattle.save_resume.proofs.FillLemmas.{keeps_self as site_keeps}
-use Rattle.save_resume.proofs.NameLemmas.{ne_of}
+use Rattle.mapfile_save.specs.MapNames.{MapNames, names_of}
+use Rattle.mapfile_save.proofs.FillLemmas.{keeps_self as site_keeps}
+use Rattle.mapfile_save.proofs.NameLemmas.{ne_of}
 use Rattle.program_promise.specs.Work.{Deeds, Works}
 use Rattle.rescue_verify.specs.declared.tally.Tally.{Tally}
 use Rattle.rescue_verify.specs.Across.{across}

@@ -2,7 +2,7 @@
 -- message; and whether a draft is left begun. No row stands for several answers.
 use Rattle.std.specs.Prelude.{◌≢◌, ℕ, Bool, true, false, List, ◌++◌, codes}
 use Rattle.mapfile_text.specs.declared.read.MapError.TheVariants.{NoStatusLine, NoMemory as OutOfMemory}
-use Rattle.save_resume.specs.Saving.{drafting_after_fault}
+use Rattle.mapfile_save.specs.Saving.{drafting_after_fault}
 use Rattle.console_texts.specs.Texts.{error_text, fault_text, message_of}
 use Rattle.program_promise.specs.Kinds.{Failure, AtOpen, AtRead, AtCall, AtCallAfterRead, AtTake, AtPut, Kind, Asked, Brought, Wrong, Failed, Starved, is_silent_kind}
 use Rattle.program_promise.specs.Rows.{AnswerRow, asked_row, brought_row, failed_row, only_where, starved_row, usage_row}

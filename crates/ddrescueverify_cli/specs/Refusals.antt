@@ -4,8 +4,8 @@ use Rattle.mapfile_text.specs.declared.read.Mode.TheVariants.{Tight}
 use Rattle.mapfile_text.specs.declared.read.MapError.{MapError}
 use Rattle.mapfile_text.specs.declared.read.MapError.TheVariants.{NoStatusLine}
 use Rattle.crash_site.specs.Files.{File}
-use Rattle.save_resume.specs.MapNames.{names_of}
-use Rattle.save_resume.specs.Resuming.{IsLikeNone, IsRefusedFor}
+use Rattle.mapfile_save.specs.MapNames.{names_of}
+use Rattle.mapfile_resume.specs.Resuming.{IsLikeNone, IsRefusedFor}
 use Rattle.option_words.specs.declared.fault.UsageFault.TheVariants.{PlaceTooLarge}
 use Rattle.ddrescueverify_words.specs.declared.options.VerifyOptions.{VerifyOptions}
 use Rattle.ddrescueverify_words.specs.Command.{Command, Asks}

@@ -11,9 +11,9 @@ use Rattle.crash_site.specs.Files.{File}
 use Rattle.crash_site.specs.Calls.{Entry}
 use Rattle.crash_site.specs.SiteState.{SiteState, files_in}
 use Rattle.option_words.specs.declared.fault.UsageFault.TheVariants.{PlaceTooLarge}
-use Rattle.save_resume.specs.MapNames.{MapNames, names_of}
-use Rattle.save_resume.specs.Saving.{save_calls, drafting_after_fault}
-use Rattle.save_resume.specs.Resuming.{IsResumeCall}
+use Rattle.mapfile_save.specs.MapNames.{MapNames, names_of}
+use Rattle.mapfile_save.specs.Saving.{save_calls, drafting_after_fault}
+use Rattle.mapfile_resume.specs.Resuming.{IsResumeCall}
 use Rattle.rescue_rules.specs.Start.{Stands}
 use Rattle.program_promise.specs.Work.{Deeds, Make, Works}
 use Rattle.program_promise.specs.Parts.{Did, DidPart}

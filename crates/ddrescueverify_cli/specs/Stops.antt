@@ -7,8 +7,8 @@ use Rattle.crash_site.specs.Files.{File, bytes_of}
 use Rattle.crash_site.specs.Disk.{lost_in}
 use Rattle.crash_site.specs.Left.{MatchesFile}
 use Rattle.crash_site.specs.SiteState.{SiteState, files_in}
-use Rattle.save_resume.specs.MapNames.{names_of}
-use Rattle.save_resume.specs.SaveStops.{disk_of, text_file, IsEmptyDraft, LeftAt, CouldBefore}
+use Rattle.mapfile_save.specs.MapNames.{names_of}
+use Rattle.mapfile_save.specs.SaveStops.{disk_of, text_file, IsEmptyDraft, LeftAt, CouldBefore}
 use Rattle.rescue_rules.specs.Start.{Stands}
 use Rattle.rescue_rules.specs.Stops.{has_barrier}
 use Rattle.program_promise.specs.Work.{Deeds}

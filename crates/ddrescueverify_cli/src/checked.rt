@@ -1,7 +1,7 @@
 //! What a comparison needs before it opens a file.
 ghost use Rattle.std.specs.Prelude.{◌≡◌, ◌⊎◌, None, IfOk, IfErr, OnOk};
 ghost use Rattle.option_words.specs.Words.{command_line};
-ghost use Rattle.save_resume.specs.MapNames.{names_of};
+ghost use Rattle.mapfile_save.specs.MapNames.{names_of};
 ghost use Rattle.ddrescueverify_words.specs.Command.{told_by};
 ghost use Rattle.ddrescueverify_cli.specs.declared.ending.VerifyEnding.TheVariants.{NoMemory as OutOfMemory};
 ghost use Rattle.ddrescueverify_cli.specs.Asked.{heading_of};
@@ -11,11 +11,11 @@ ghost use Rattle.ddrescueverify_cli.specs.Refusals.{NamesRefused};
 
 use crate::ending::VerifyEnding;
 use ddrescueverify_words::command::Command;
+use mapfile_save::names::Names;
 use mapfile_text::heading::{Heading, Program};
 use option_words::words::Words;
 use program_promise::heading::make_heading;
 use program_promise::operand::find_same;
-use save_resume::names::Names;
 use std::alloc::Global;
 
 /// The program's name, which begins its command line and its messages.

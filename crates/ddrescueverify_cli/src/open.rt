@@ -9,10 +9,10 @@ use crate::ending::{VerifyEnding, Which};
 use block_list::plain_tiles::PlainTiles;
 use crash_site::site::{ImageKind, Site, SiteCall};
 use mapfile_reader::read::ReadMap;
+use mapfile_resume::load::ResumeFault;
+use mapfile_resume::resume::{Resumed, extend_map, resume};
+use mapfile_save::names::Names;
 use mapfile_text::state::MapState;
-use save_resume::load::ResumeFault;
-use save_resume::names::Names;
-use save_resume::resume::{Resumed, extend_map, resume};
 use std::alloc::Global;
 
 /// The map of a comparison.

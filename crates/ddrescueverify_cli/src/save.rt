@@ -8,12 +8,12 @@ ghost use Rattle.ddrescueverify_cli.specs.Steps.{SaveCause, SavesText};
 use crate::ending::VerifyEnding;
 use crate::open::RunMap;
 use crash_site::site::Site;
+use mapfile_save::draft::{SaveFault, Saved};
+use mapfile_save::names::Names;
+use mapfile_save::save::save;
 use mapfile_text::heading::Heading;
 use mapfile_text::state::{Current, MapState};
 use rescue_verify::tally::Tally;
-use save_resume::draft::{SaveFault, Saved};
-use save_resume::names::Names;
-use save_resume::save::save;
 
 /// What the saved map shows: the first position, from which the pieces that differ are copied again, or what it showed
 /// before if none differs.

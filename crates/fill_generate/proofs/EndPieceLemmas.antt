@@ -6,7 +6,7 @@ use Rattle.block_list.specs.declared.status.Status.{Status}
 use Rattle.crash_site.specs.Calls.{Call, image_sync}
 use Rattle.crash_site.specs.SiteState.{SiteState}
 use Rattle.crash_site.specs.SiteChanges.{Makes, Breaks}
-use Rattle.save_resume.specs.Saving.{save_calls, IsNameIn}
+use Rattle.mapfile_save.specs.Saving.{save_calls, IsNameIn}
 use Rattle.crash_site.specs.declared.site.SiteCall.{SiteCall}
 use Rattle.rescue_console.specs.ClockState.{ClockState, Reads as ReadsClock}
 use Rattle.rescue_console.specs.ConsoleState.{ConsoleState}
@@ -24,7 +24,7 @@ use Rattle.rescue_rules.specs.Step.{save_interval}
 use Rattle.rescue_rules.specs.Lines.{phase_front, report_text}
 use Rattle.rescue_core.specs.declared.keeper.Keeper.{Keeper}
 use Rattle.run_options.specs.declared.settings.Settings.{Settings}
-use Rattle.save_resume.specs.MapNames.{names_in}
+use Rattle.mapfile_save.specs.MapNames.{names_in}
 use Rattle.rescue_core.specs.Keeping.{saves_of, last_calls}
 use Rattle.rescue_core.specs.Closing.{closing_with}
 use Rattle.rescue_core.proofs.ClosingLemmas.{said_with, last_with}

@@ -9,8 +9,8 @@ use Rattle.crash_site.specs.SiteState.{SiteState, image_in}
 use Rattle.crash_site.specs.SiteChanges.{Keeps, Makes}
 use Rattle.crash_site.proofs.LawLemmas.{put_other, after-append}
 use Rattle.mapfile_text.specs.Pieces.{pieces_of}
-use Rattle.save_resume.specs.MapNames.{MapNames}
-use Rattle.save_resume.specs.Saving.{save_calls}
+use Rattle.mapfile_save.specs.MapNames.{MapNames}
+use Rattle.mapfile_save.specs.Saving.{save_calls}
 use Rattle.rescue_rules.specs.Setting.{Setting, place}
 use Rattle.rescue_rules.specs.Snapshots.{Snapshot, text_of}
 use Rattle.rescue_rules.specs.Deeds.{save_of, deed_calls}

@@ -4,7 +4,7 @@ use Rattle.std.proofs.lemmas.Bool.{le-leb}
 use Rattle.crash_site.specs.Calls.{image_read}
 use Rattle.crash_site.specs.SiteState.{SiteState}
 use Rattle.crash_site.specs.SiteChanges.{Keeps as SiteKeeps, Stays as SiteStays, Makes}
-use Rattle.save_resume.proofs.FillLemmas.{keeps_more}
+use Rattle.mapfile_save.proofs.FillLemmas.{keeps_more}
 use Rattle.rescue_console.specs.ClockState.{ClockState, Keeps as ClockKeeps}
 use Rattle.rescue_console.specs.ConsoleState.{ConsoleState}
 use Rattle.rescue_rules.specs.declared.stop.Stop.{Stop}

@@ -6,7 +6,7 @@ use Rattle.crash_site.specs.SiteState.{SiteState}
 use Rattle.crash_site.specs.SiteChanges.{Makes, Breaks}
 use Rattle.fault_count.specs.Counts.{Rose}
 use Rattle.mapfile_text.specs.declared.state.Current.{Current}
-use Rattle.save_resume.specs.Saving.{save_calls, IsNameIn}
+use Rattle.mapfile_save.specs.Saving.{save_calls, IsNameIn}
 use Rattle.rescue_console.specs.ClockState.{ClockState}
 use Rattle.rescue_console.specs.ConsoleState.{ConsoleState}
 use Rattle.rescue_console.specs.Speaking.{SpeaksOn, out_pieces}

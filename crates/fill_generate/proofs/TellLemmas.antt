@@ -6,8 +6,8 @@ use Rattle.crash_site.specs.Calls.{Call, Entry, Done}
 use Rattle.crash_site.specs.CallsMade.{BrokeAt}
 use Rattle.crash_site.specs.SiteState.{SiteState}
 use Rattle.crash_site.specs.SiteChanges.{Makes, Breaks}
-use Rattle.save_resume.specs.Saving.{IsNameIn}
-use Rattle.save_resume.proofs.FillLemmas.{keeps_self, keeps_more}
+use Rattle.mapfile_save.specs.Saving.{IsNameIn}
+use Rattle.mapfile_save.proofs.FillLemmas.{keeps_self, keeps_more}
 use Rattle.rescue_console.specs.ClockState.{ClockState}
 use Rattle.rescue_console.specs.ConsoleState.{ConsoleState}
 use Rattle.rescue_core.proofs.ObjectLemmas.{clock_self, clock_keeps}

@@ -18,7 +18,7 @@ use Rattle.rescue_rules.specs.Said.{is_line_due}
 use Rattle.rescue_rules.specs.Step.{save_interval}
 use Rattle.rescue_rules.specs.Snapshots.{text_of}
 use Rattle.rescue_rules.specs.Lines.{phase_front, report_text}
-use Rattle.save_resume.specs.Saving.{save_calls, IsNameIn}
+use Rattle.mapfile_save.specs.Saving.{save_calls, IsNameIn}
 use Rattle.rescue_rules.specs.Laws.{AreTimes}
 use Rattle.rescue_rules.specs.Deeds.{Deed, save_of, deed_calls}
 use Rattle.sweep_rules.specs.Sweep.{Sweeper, Sweep, Swept, IsPiece, IsSweep, IsSweptOut, is_generated, after_piece, after_pieces, due_save, sweep_snapshot, sweep_end}

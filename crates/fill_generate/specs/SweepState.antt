@@ -3,7 +3,7 @@ use Rattle.std.specs.Prelude.{ℕ, ◌+◌, Bool, List, length, Some}
 use Rattle.block_list.specs.declared.block.Range.{Range}
 use Rattle.block_list.specs.declared.status.Status.{Status}
 use Rattle.mapfile_text.specs.declared.state.Current.{Current}
-use Rattle.save_resume.specs.MapNames.{MapNames, names_in}
+use Rattle.mapfile_save.specs.MapNames.{MapNames, names_in}
 use Rattle.rescue_domain.specs.Parts.{covers}
 use Rattle.rescue_rules.specs.Setting.{Setting}
 use Rattle.rescue_rules.specs.declared.tally.Tally.{Tally}

@@ -8,8 +8,8 @@ use Rattle.crash_site.specs.CallsMade.{BrokeAt, call_name}
 use Rattle.crash_site.specs.Folder.{after}
 use Rattle.crash_site.specs.SiteState.{SiteState, image_in}
 use Rattle.crash_site.specs.SiteChanges.{Makes}
-use Rattle.save_resume.specs.MapNames.{MapNames}
-use Rattle.save_resume.specs.Saving.{IsNameIn, drafting_after_fault}
+use Rattle.mapfile_save.specs.MapNames.{MapNames}
+use Rattle.mapfile_save.specs.Saving.{IsNameIn, drafting_after_fault}
 use Rattle.rescue_console.specs.ClockState.{ClockState, Reads as ReadsClock}
 use Rattle.rescue_console.specs.ConsoleState.{ConsoleState}
 use Rattle.rescue_console.specs.Speaking.{SpeaksOn, out_pieces}

@@ -1,10 +1,10 @@
 //! What a sweep is asked to do.
 use block_list::tiles::Tiles;
+use mapfile_save::names::Names;
 use mapfile_text::heading::Heading;
 use mapfile_text::state::MapState;
 use rescue_domain::domain::Domain;
 use run_options::settings::Settings;
-use save_resume::names::Names;
 
 /// What a sweep is asked to do.
 #[derive(Drop)]

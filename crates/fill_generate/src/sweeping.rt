@@ -4,7 +4,7 @@ ghost use Rattle.crash_site.specs.SiteChanges.{Keeps as SiteKeeps, Stays as Site
 ghost use Rattle.rescue_console.specs.ClockState.{Keeps as ClockKeeps};
 ghost use Rattle.rescue_console.specs.Speaking.{SpeaksOn, out_pieces};
 ghost use Rattle.mapfile_text.specs.declared.heading.Program.TheVariants.{Ddrescue};
-ghost use Rattle.save_resume.specs.Saving.{save_calls, Saves};
+ghost use Rattle.mapfile_save.specs.Saving.{save_calls, Saves};
 ghost use Rattle.rescue_rules.specs.Setting.{place};
 ghost use Rattle.rescue_rules.specs.Said.{is_line_due};
 ghost use Rattle.rescue_rules.specs.Step.{save_interval};
@@ -24,6 +24,7 @@ use crate::mode::SweepMode;
 use crate::search::{first_taken, taken_to};
 use block_list::tiles::Tiles;
 use crash_site::site::{Site, SiteCall};
+use mapfile_save::draft::SaveFault;
 use mapfile_text::state::{Current, MapState};
 use rescue_console::clock::Clock;
 use rescue_console::console::Console;
@@ -35,7 +36,6 @@ use rescue_domain::domain::Domain;
 use rescue_rules::stop::Stop;
 use rescue_rules::tally::Tally;
 use run_options::settings::Settings;
-use save_resume::draft::SaveFault;
 use std::marker::Model;
 
 /// A piece of a map: a position, and how many bytes from there on.

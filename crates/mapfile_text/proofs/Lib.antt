@@ -3,6 +3,7 @@ pub mod PieceLemmas
 pub mod OneReading
 pub mod OneFault
 pub mod MapOrFault
+pub mod MapLemmas
 pub mod ReadPrinted
 -- These are the crate's own.
 mod PrintedBytes

@@ -173,7 +173,7 @@ continue_has_memory mode end (l ∷ ls) e f m =
       | inr (inr x) ↦ continue_has_memory mode (x.0.pos + x.0.size) ls e x.4 m
     ]
 
--- a fault of block lines isn't want of memory
+-- a fault of block lines isn't lack of memory
 pub lists_have_memory : (mode : Mode) (ls : List Line) (e : MapError) → ListsFault mode ls e → e ≡ NoMemory → ⊥
 lists_have_memory mode [] e f m = absurd f
 lists_have_memory mode (l ∷ ls) e f m =

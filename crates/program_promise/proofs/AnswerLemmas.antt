@@ -1,12 +1,12 @@
 -- What an answer of any work is: one of a row that it stopped in, or one of the run after the rows.
-use Rattle.save_resume.specs.Loading.{IsLoad}
+use Rattle.mapfile_save.specs.Loading.{IsLoad}
 use Rattle.crash_site.specs.Calls.{Call, Entry, Done as Returned}
 use Rattle.crash_site.specs.Files.{File}
 use Rattle.std.specs.Bool.{⊤}
 use Rattle.std.proofs.Common.{◌≡◌, ◌⊎◌, List, [], ◌∷◌, Some, None, refl, sym, ◌∙◌, inl, inr, ℕ, ◌++◌, map, Option}
 use Rattle.crash_site.specs.declared.site.SiteCall.{SiteCall}
 use Rattle.crash_site.specs.declared.site.SiteCall.TheVariants.{MapRead}
-use Rattle.save_resume.specs.Saving.{IsNameIn}
+use Rattle.mapfile_save.specs.Saving.{IsNameIn}
 use Rattle.program_promise.specs.Work.{Deeds, Faults, WorkStep, Take, Look, Open, Make, Read, Works, Opening, with_calls, with_opens}
 use Rattle.program_promise.proofs.GainLemmas.{broke_named}
 

@@ -9,7 +9,7 @@ use Rattle.crash_site.specs.Calls.{Call, Entry, Done as Returned, Failed, map_re
 use Rattle.crash_site.specs.CallsMade.{Lost, BrokeAt}
 use Rattle.crash_site.specs.Folder.{Folder, after, after_entry}
 use Rattle.crash_site.proofs.LawLemmas.{after-append}
-use Rattle.save_resume.specs.Loading.{piece_size, piece_reads, BeginsLoad}
+use Rattle.mapfile_save.specs.Loading.{piece_size, piece_reads, BeginsLoad}
 use Rattle.rescue_rules.specs.Work.{is_map_read, AreMapReads}
 
 abbrev pub IsMapRead : Call → Type 0

@@ -3,7 +3,7 @@ use Rattle.std.proofs.Common.{◌≡◌, Bool, true, false, IsTrue, List, [], �
 use Rattle.crash_site.specs.declared.site.SiteCall.{SiteCall}
 use Rattle.crash_site.specs.Calls.{Call, Entry, Done, Failed}
 use Rattle.crash_site.specs.CallsMade.{Lost, BrokeAt}
-use Rattle.save_resume.specs.Saving.{IsNameIn}
+use Rattle.mapfile_save.specs.Saving.{IsNameIn}
 
 -- a record that grew, after other calls
 pub lost_after : (c : Call) (front old new : List Entry) → Lost c old new → Lost c (front ++ old) (front ++ new)

@@ -11,9 +11,9 @@ use Rattle.crash_site.specs.Files.{File}
 use Rattle.crash_site.specs.Calls.{Call, Entry, Done as Returned}
 use Rattle.crash_site.specs.CallsMade.{BrokeAt}
 use Rattle.crash_site.specs.SiteState.{SiteState, files_in}
-use Rattle.save_resume.specs.Saving.{IsNameIn}
-use Rattle.save_resume.specs.Loading.{load_reads, IsReadSize, BeginsLoad, IsLoad}
-use Rattle.save_resume.specs.Resuming.{IsOfFile, LoadEnded, StarvedInLoad, BrokeInLoad}
+use Rattle.mapfile_save.specs.Saving.{IsNameIn}
+use Rattle.mapfile_save.specs.Loading.{load_reads, IsReadSize, BeginsLoad, IsLoad}
+use Rattle.mapfile_resume.specs.Resuming.{IsOfFile, LoadEnded, StarvedInLoad, BrokeInLoad}
 use Rattle.program_promise.specs.Work.{Faults, WorkStep, Look, Read}
 use Rattle.program_promise.specs.Parts.{StoppedIn, WentThrough}
 use Rattle.program_promise.proofs.GainLemmas.{GainsBroken, broke_gains, broke_past}

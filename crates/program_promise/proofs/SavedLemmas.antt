@@ -9,11 +9,11 @@ use Rattle.crash_site.specs.Folder.{Folder}
 use Rattle.crash_site.specs.Disk.{at_rest, disk_after}
 use Rattle.crash_site.specs.Left.{until, MayBeLeft}
 use Rattle.crash_site.specs.SiteState.{SiteState}
-use Rattle.save_resume.specs.declared.draft.SaveFault.{SaveFault}
-use Rattle.save_resume.specs.MapNames.{MapNames, HasOwnDraft}
-use Rattle.save_resume.specs.Saving.{save_calls, drafting_after_fault, Saves}
-use Rattle.save_resume.specs.SaveStops.{IsOldOrNew, IsSaved}
-use Rattle.save_resume.proofs.StopLemmas.{stops_in_save, saved_where_ok}
+use Rattle.mapfile_save.specs.declared.draft.SaveFault.{SaveFault}
+use Rattle.mapfile_save.specs.MapNames.{MapNames, HasOwnDraft}
+use Rattle.mapfile_save.specs.Saving.{save_calls, drafting_after_fault, Saves}
+use Rattle.mapfile_save.specs.SaveStops.{IsOldOrNew, IsSaved}
+use Rattle.mapfile_save.proofs.StopLemmas.{stops_in_save, saved_where_ok}
 use Rattle.program_promise.proofs.GainLemmas.{broke_after, broke_named}
 
 -- a site that began so and made these calls

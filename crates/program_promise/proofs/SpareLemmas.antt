@@ -7,9 +7,9 @@ use Rattle.crash_site.specs.Folder.{Folder, appended, after, after_done, after_f
 use Rattle.crash_site.specs.Along.{GoesAlong}
 use Rattle.crash_site.proofs.LawLemmas.{done_other, failed_other}
 use Rattle.mapfile_text.specs.Pieces.{pieces_of}
-use Rattle.save_resume.specs.MapNames.{MapNames, HasOwnDraft}
-use Rattle.save_resume.specs.Saving.{publish_calls, save_calls}
-use Rattle.save_resume.proofs.StageLemmas.{appended_draft}
+use Rattle.mapfile_save.specs.MapNames.{MapNames, HasOwnDraft}
+use Rattle.mapfile_save.specs.Saving.{publish_calls, save_calls}
+use Rattle.mapfile_save.proofs.StageLemmas.{appended_draft}
 
 -- none of these calls changes a file, as they are made one after another
 abbrev pub AllSpare : List ℕ → Folder → List Call → Type 0

@@ -5,7 +5,7 @@ use Rattle.crash_site.specs.declared.site.SiteCall.{SiteCall}
 use Rattle.crash_site.specs.declared.site.SiteCall.TheVariants.{MapRead}
 use Rattle.crash_site.specs.Calls.{Call, Entry, Done as Returned}
 use Rattle.crash_site.specs.CallsMade.{BrokeAt}
-use Rattle.save_resume.specs.Loading.{BeginsLoad, IsLoad}
+use Rattle.mapfile_save.specs.Loading.{BeginsLoad, IsLoad}
 use Rattle.rescue_rules.specs.Work.{IsNothing}
 use Rattle.program_promise.specs.Work.{Opened, Unopened, Deeds, IsIdle, IsOnlyCalls, with_calls, with_opens, Faults, WorkStep, Take, Look, Open, Make, Read}
 

@@ -1,7 +1,7 @@
 -- The files of a command that have the same name.
 use Rattle.std.specs.Prelude.{ℕ, List, Option, Some, None, if◌then◌else◌}
 use Rattle.std.specs.Str.{bytes_eq}
-use Rattle.save_resume.specs.MapNames.{MapNames}
+use Rattle.mapfile_save.specs.MapNames.{MapNames}
 use Rattle.program_promise.specs.declared.operand.Operand.{Operand}
 use Rattle.program_promise.specs.declared.operand.Operand.TheVariants.{Infile, Outfile, Mapfile, Draft}
 

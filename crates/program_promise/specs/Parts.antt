@@ -3,7 +3,7 @@ use Rattle.std.specs.Prelude.{◌≡◌, IsTrue, List, [], ◌∷◌, ◌++◌, 
 use Rattle.crash_site.specs.Files.{File}
 use Rattle.crash_site.specs.Calls.{Call, Entry, Done as Returned}
 use Rattle.crash_site.specs.SiteState.{SiteState}
-use Rattle.save_resume.specs.Loading.{IsLoad}
+use Rattle.mapfile_save.specs.Loading.{IsLoad}
 use Rattle.program_promise.specs.Work.{Deeds, Faults, WorkStep, Take, Look, Open, Make, Read, Works}
 
 -- calls on the files, and nothing else

@@ -2,7 +2,7 @@
 ghost use Rattle.std.specs.Prelude.{◌≡◌};
 ghost use Rattle.program_promise.specs.Operands.{first_same};
 
-use save_resume::names::Names;
+use mapfile_save::names::Names;
 
 /// A file that a command names, or the draft beside it.
 #[derive(Clone, Copy, Debug, PartialEq, Eq)]

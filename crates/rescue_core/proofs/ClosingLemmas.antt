@@ -5,8 +5,8 @@ use Rattle.mapfile_text.specs.declared.state.MapState.{MapState}
 use Rattle.mapfile_text.specs.declared.state.Current.TheVariants.{Finished}
 use Rattle.crash_site.specs.SiteState.{SiteState}
 use Rattle.crash_site.specs.SiteChanges.{Makes, Breaks}
-use Rattle.save_resume.specs.declared.draft.SaveFault.{SaveFault}
-use Rattle.save_resume.specs.Saving.{IsNameIn, drafting_after_fault, Saves as SavesMap}
+use Rattle.mapfile_save.specs.declared.draft.SaveFault.{SaveFault}
+use Rattle.mapfile_save.specs.Saving.{IsNameIn, drafting_after_fault, Saves as SavesMap}
 use Rattle.rescue_rules.specs.declared.stop.Stop.{Stop}
 use Rattle.rescue_rules.specs.declared.stop.RunEnd.{RunEnd}
 use Rattle.rescue_rules.specs.declared.stop.RunEnd.TheVariants.{SaveFailed}

@@ -6,9 +6,9 @@ use Rattle.mapfile_text.specs.HeadingLines.{HeadingLines}
 use Rattle.crash_site.specs.Calls.{Call}
 use Rattle.crash_site.specs.SiteState.{SiteState}
 use Rattle.crash_site.specs.SiteChanges.{Makes, Breaks}
-use Rattle.save_resume.specs.declared.draft.SaveFault.{SaveFault}
-use Rattle.save_resume.specs.MapNames.{MapNames, names_in}
-use Rattle.save_resume.specs.Saving.{save_calls, IsNameIn, Saves}
+use Rattle.mapfile_save.specs.declared.draft.SaveFault.{SaveFault}
+use Rattle.mapfile_save.specs.MapNames.{MapNames, names_in}
+use Rattle.mapfile_save.specs.Saving.{save_calls, IsNameIn, Saves}
 use Rattle.rescue_rules.specs.Snapshots.{heading_at}
 
 pub heading_is : (program : Program) (line : List ℕ) (began now : ℕ) → program ≡ Ddrescue

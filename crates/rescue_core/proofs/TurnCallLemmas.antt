@@ -7,8 +7,8 @@ use Rattle.crash_site.specs.Calls.{Call, Entry, Done}
 use Rattle.crash_site.specs.CallsMade.{BrokeAt}
 use Rattle.crash_site.specs.SiteState.{SiteState}
 use Rattle.crash_site.specs.SiteChanges.{Keeps, Makes, Breaks}
-use Rattle.save_resume.specs.MapNames.{MapNames, names_in}
-use Rattle.save_resume.specs.Saving.{save_calls, IsNameIn}
+use Rattle.mapfile_save.specs.MapNames.{MapNames, names_in}
+use Rattle.mapfile_save.specs.Saving.{save_calls, IsNameIn}
 use Rattle.rescue_rules.specs.declared.stop.Limit.{Limit}
 use Rattle.rescue_rules.specs.Step.{Event, is_timely, limit_met, step}
 use Rattle.rescue_rules.specs.Snapshots.{text_of, snapshot_of, is_due}

@@ -1,8 +1,8 @@
 -- The calls of a keeper's saves. For contracts and proofs: no promise uses it.
 use Rattle.std.specs.Prelude.{List, [], ◌∷◌, is_some, if◌then◌else◌}
 use Rattle.crash_site.specs.Calls.{Call, image_sync}
-use Rattle.save_resume.specs.Saving.{save_calls}
-use Rattle.save_resume.specs.MapNames.{names_in}
+use Rattle.mapfile_save.specs.Saving.{save_calls}
+use Rattle.mapfile_save.specs.MapNames.{names_in}
 use Rattle.rescue_rules.specs.Snapshots.{Snapshot, text_of}
 use Rattle.rescue_core.specs.declared.keeper.Keeper.{Keeper}
 

@@ -5,7 +5,7 @@ use Rattle.block_list.specs.declared.status.Status.{Status}
 use Rattle.block_list.specs.declared.status.Status.TheVariants.{NonTrimmed}
 use Rattle.block_list.specs.Map.{Has}
 use Rattle.mapfile_text.specs.declared.state.MapState.{MapState}
-use Rattle.save_resume.specs.MapNames.{MapNames, names_in}
+use Rattle.mapfile_save.specs.MapNames.{MapNames, names_in}
 use Rattle.rescue_rules.specs.declared.phase.Phase.{Phase}
 use Rattle.rescue_rules.specs.declared.phase.Phase.TheVariants.{Copying, Trimming, Scraping}
 use Rattle.rescue_rules.specs.declared.stop.TrimMode.{TrimMode}

@@ -9,11 +9,11 @@ use Rattle.crash_site.specs.declared.site.SiteCall.TheVariants.{ImageWrite}
 use Rattle.crash_site.specs.Calls.{Done}
 use Rattle.crash_site.specs.CallsMade.{BrokeAt}
 use Rattle.crash_site.specs.SiteChanges.{Makes, Breaks}
-use Rattle.save_resume.specs.Saving.{save_calls, IsNameIn}
+use Rattle.mapfile_save.specs.Saving.{save_calls, IsNameIn}
 use Rattle.rescue_console.specs.ClockState.{ClockState, Reads as ReadsClock}
 use Rattle.rescue_console.specs.Speaking.{SpokenPiece, SpeaksOn, out_pieces}
 use Rattle.transfer_token.specs.declared.token.Request.{Request}
-use Rattle.save_resume.specs.MapNames.{names_in}
+use Rattle.mapfile_save.specs.MapNames.{names_in}
 use Rattle.rescue_rules.specs.declared.stop.Stop.{Stop}
 use Rattle.rescue_rules.specs.declared.stop.Stop.TheVariants.{SourceLost, Site, LimitMet, NoMemory}
 use Rattle.rescue_rules.specs.declared.stop.Limit.{Limit}

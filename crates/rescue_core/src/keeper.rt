@@ -3,7 +3,7 @@ ghost use Rattle.std.specs.Prelude.{◌≡◌, ◌+◌, ◌/◌, false, nat_le, 
 ghost use Rattle.crash_site.specs.SiteChanges.{Keeps as SiteKeeps};
 ghost use Rattle.rescue_console.specs.Speaking.{SpeaksOn, out_pieces};
 ghost use Rattle.mapfile_text.specs.declared.heading.Program.TheVariants.{Ddrescue};
-ghost use Rattle.save_resume.specs.Saving.{Saves};
+ghost use Rattle.mapfile_save.specs.Saving.{Saves};
 ghost use Rattle.rescue_rules.specs.Said.{is_line_due};
 ghost use Rattle.rescue_rules.specs.Step.{save_interval, tally_at};
 ghost use Rattle.rescue_rules.specs.Snapshots.{snapshot_with};
@@ -17,14 +17,14 @@ use crate::line::{say_last, say_phase};
 use crate::save_now::{save_now, save_or_sync};
 use block_list::tiles::Tiles;
 use crash_site::site::Site;
+use mapfile_save::draft::SaveFault;
+use mapfile_save::names::Names;
 use mapfile_text::heading::Heading;
 use mapfile_text::state::MapState;
 use rescue_console::console::Console;
 use rescue_rules::report::{Counts, Report};
 use rescue_rules::stop::{RunEnd, Stop};
 use rescue_rules::tally::Tally;
-use save_resume::draft::SaveFault;
-use save_resume::names::Names;
 
 /// What a run keeps beside its map.
 #[derive(Drop)]

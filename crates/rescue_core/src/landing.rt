@@ -4,7 +4,7 @@ ghost use Rattle.faulty_source.specs.Journal.{Reading, kept};
 ghost use Rattle.crash_site.specs.SiteChanges.{Stays, Makes, Breaks};
 ghost use Rattle.crash_site.specs.declared.site.SiteCall.TheVariants.{ImageWrite};
 ghost use Rattle.transfer_token.specs.Tokens.{size_of, IfLoaded, IsCut};
-ghost use Rattle.save_resume.specs.Saving.{IsNameIn};
+ghost use Rattle.mapfile_save.specs.Saving.{IsNameIn};
 ghost use Rattle.rescue_rules.specs.Setting.{Setting};
 ghost use Rattle.rescue_rules.specs.RunCalls.{write_calls};
 ghost use Rattle.rescue_core.specs.TurnParts.{fetched_of, IsCutAt};

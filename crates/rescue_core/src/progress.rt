@@ -3,7 +3,7 @@ ghost use Rattle.std.specs.Prelude.{◌≡◌, ℕ, ◌+◌, ◌<◌, ◌≤◌,
 ghost use Rattle.block_list.specs.declared.block.Range.{Range};
 ghost use Rattle.block_list.specs.declared.status.Status.{Status};
 ghost use Rattle.run_options.specs.Settings.{IsSound};
-ghost use Rattle.save_resume.specs.MapNames.{MapNames};
+ghost use Rattle.mapfile_save.specs.MapNames.{MapNames};
 ghost use Rattle.rescue_rules.specs.declared.phase.Phase.{Phase};
 ghost use Rattle.rescue_rules.specs.declared.phase.Phase.TheVariants.{Trimming};
 ghost use Rattle.rescue_rules.specs.declared.stop.TrimMode.TheVariants.{Lead};

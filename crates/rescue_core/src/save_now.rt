@@ -2,17 +2,17 @@
 ghost use Rattle.std.specs.Prelude.{◌≡◌, false, [], ◌∷◌, is_some, if◌then◌else◌};
 ghost use Rattle.mapfile_text.specs.declared.heading.Program.TheVariants.{Ddrescue};
 ghost use Rattle.crash_site.specs.Calls.{image_sync};
-ghost use Rattle.save_resume.specs.Saving.{save_calls, Saves};
-ghost use Rattle.save_resume.specs.MapNames.{names_in};
+ghost use Rattle.mapfile_save.specs.Saving.{save_calls, Saves};
+ghost use Rattle.mapfile_save.specs.MapNames.{names_in};
 ghost use Rattle.rescue_rules.specs.Snapshots.{text_of};
 
 use block_list::tiles::Tiles;
 use crash_site::site::{Site, SiteCall};
+use mapfile_save::draft::SaveFault;
+use mapfile_save::names::Names;
+use mapfile_save::save::save;
 use mapfile_text::heading::Heading;
 use rescue_rules::tally::Tally;
-use save_resume::draft::SaveFault;
-use save_resume::names::Names;
-use save_resume::save::save;
 
 /// Saves a map, with what a run has come to, if there is a mapfile.
 pub(crate) fn save_now<D: Site, T: Tiles>(

@@ -10,7 +10,7 @@ use Rattle.faulty_source.proofs.Keeping.{stays_self, stays_more, reads_more}
 use Rattle.crash_site.specs.Calls.{Call}
 use Rattle.crash_site.specs.SiteState.{SiteState}
 use Rattle.crash_site.specs.SiteChanges.{Makes}
-use Rattle.save_resume.proofs.FillLemmas.{keeps_self, keeps_more}
+use Rattle.mapfile_save.proofs.FillLemmas.{keeps_self, keeps_more}
 use Rattle.rescue_console.specs.ClockState.{ClockState, Reads as ReadsClock}
 use Rattle.rescue_console.specs.ConsoleState.{ConsoleState}
 use Rattle.rescue_console.specs.Speaking.{SpeaksOn, out_pieces}

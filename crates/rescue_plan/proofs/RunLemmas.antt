@@ -7,7 +7,7 @@ use Rattle.std.proofs.lemmas.List.{length-replicate, map-append}
 use Rattle.std.proofs.lemmas.List.Elements.{All-nil, All-cons, All-head, All-tail}
 use Rattle.block_list.specs.declared.status.Status.{Status}
 use Rattle.block_list.specs.declared.status.Status.TheVariants.{NonTried}
-use Rattle.save_resume.specs.MapNames.{MapNames, names_in}
+use Rattle.mapfile_save.specs.MapNames.{MapNames, names_in}
 use Rattle.crash_site.specs.Calls.{Entry}
 use Rattle.faulty_source.specs.declared.journal.ReadEntry.{ReadEntry}
 use Rattle.faulty_source.specs.Journal.{Reading}

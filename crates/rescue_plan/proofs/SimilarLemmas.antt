@@ -9,7 +9,7 @@ use Rattle.block_list.specs.declared.status.Status.{Status}
 use Rattle.block_list.specs.declared.status.Status.TheVariants.{Finished}
 use Rattle.block_list.specs.Map.{marked}
 use Rattle.faulty_source.specs.Journal.{Reading, floor}
-use Rattle.save_resume.specs.MapNames.{names_in}
+use Rattle.mapfile_save.specs.MapNames.{names_in}
 use Rattle.rescue_rules.specs.declared.stop.TrimMode.TheVariants.{Lead}
 use Rattle.rescue_rules.specs.Setting.{Setting}
 use Rattle.rescue_rules.specs.Passes.{Pass, is_up}

@@ -11,8 +11,8 @@ use Rattle.crash_site.specs.Calls.{Call, Entry, Done, Failed, image_open, image_
 use Rattle.crash_site.specs.Disk.{Showing, Disk, lost_in, only, or_this, entered, disk_after}
 use Rattle.crash_site.specs.Left.{MayShow, Leaves, until}
 use Rattle.crash_site.proofs.LawLemmas.{Sure, found_only}
-use Rattle.save_resume.specs.Saving.{save_calls}
-use Rattle.save_resume.specs.SaveStops.{text_file}
+use Rattle.mapfile_save.specs.Saving.{save_calls}
+use Rattle.mapfile_save.specs.SaveStops.{text_file}
 use Rattle.rescue_rules.specs.Setting.{Setting}
 use Rattle.rescue_rules.specs.Snapshots.{Snapshot, text_of}
 use Rattle.rescue_rules.specs.Deeds.{Deed, save_of, deed_calls, doing_calls, some_save, saves_in, image_after, WritesAt, Outlasts, KeepsOn, KeepsUp}

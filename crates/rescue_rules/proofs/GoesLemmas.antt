@@ -12,7 +12,7 @@ use Rattle.crash_site.specs.declared.site.SiteCall.TheVariants.{MapRead as MapRe
 use Rattle.crash_site.specs.Files.{File}
 use Rattle.crash_site.specs.Calls.{Call, Entry, Done}
 use Rattle.crash_site.specs.CallsMade.{Lost, BrokeAt}
-use Rattle.save_resume.specs.Loading.{BeginsLoad}
+use Rattle.mapfile_save.specs.Loading.{BeginsLoad}
 use Rattle.rescue_rules.specs.declared.stop.RunEnd.{RunEnd}
 use Rattle.rescue_rules.specs.Setting.{Setting}
 use Rattle.rescue_rules.specs.Start.{Stands}

@@ -14,10 +14,10 @@ use Rattle.crash_site.specs.Disk.{Showing, Disk, lose, lose_all, in_each, synced
 use Rattle.crash_site.specs.Left.{MayShow, Leaves, until, MayBeLeft}
 use Rattle.crash_site.proofs.DiskLemmas.{same_name}
 use Rattle.crash_site.proofs.LawLemmas.{at_other, some_other, part_other, part_reads}
-use Rattle.save_resume.specs.Saving.{save_calls}
-use Rattle.save_resume.specs.Loading.{piece_size, piece_reads}
-use Rattle.save_resume.proofs.StageLemmas.{appended_draft}
-use Rattle.save_resume.specs.MapNames.{HasOwnDraft}
+use Rattle.mapfile_save.specs.Saving.{save_calls}
+use Rattle.mapfile_save.specs.Loading.{piece_size, piece_reads}
+use Rattle.mapfile_save.proofs.StageLemmas.{appended_draft}
+use Rattle.mapfile_save.specs.MapNames.{HasOwnDraft}
 use Rattle.rescue_rules.specs.Setting.{Setting}
 use Rattle.rescue_rules.specs.Snapshots.{Snapshot, text_of}
 use Rattle.rescue_rules.specs.Deeds.{Deed, save_of, deed_calls, image_after, WritesAt, KeepsOn, KeepsUp}

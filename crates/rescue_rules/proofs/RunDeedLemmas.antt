@@ -8,7 +8,7 @@ use Rattle.block_list.specs.Map.{Has}
 use Rattle.faulty_source.specs.Journal.{Reading, kept}
 use Rattle.crash_site.specs.Files.{written}
 use Rattle.crash_site.specs.Calls.{Call, image_write}
-use Rattle.save_resume.specs.Saving.{save_calls}
+use Rattle.mapfile_save.specs.Saving.{save_calls}
 use Rattle.rescue_rules.specs.Setting.{Setting, IsSensible, place}
 use Rattle.rescue_rules.specs.Machine.{Machine, is_wanted}
 use Rattle.rescue_rules.specs.Step.{Event}

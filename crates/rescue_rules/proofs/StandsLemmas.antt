@@ -13,7 +13,7 @@ use Rattle.mapfile_text.specs.MapText.{IsMapText, Continues, Lists, AreMapLines}
 use Rattle.mapfile_text.proofs.OneReading.{has_one_reading}
 use Rattle.mapfile_text.proofs.ReadPrinted.{printed_is_read}
 use Rattle.crash_site.specs.Files.{File}
-use Rattle.save_resume.proofs.MapLemmas.{map_is_not_blank, state_above}
+use Rattle.mapfile_text.proofs.MapLemmas.{map_is_not_blank, state_above}
 use Rattle.rescue_rules.specs.Start.{IsFresh, IsResumed, TextStands, AsNone, AsMap, Stands}
 use Rattle.rescue_rules.specs.Beginning.{shown_at_first}
 use Rattle.rescue_rules.specs.Snapshots.{Snapshot, heading_at, text_of}

@@ -10,7 +10,7 @@ use Rattle.crash_site.specs.Folder.{Folder}
 use Rattle.crash_site.specs.Disk.{Disk, at_rest, disk_after}
 use Rattle.crash_site.specs.Left.{until}
 use Rattle.crash_site.proofs.DiskLemmas.{run_reads}
-use Rattle.save_resume.specs.Loading.{piece_size, piece_reads}
+use Rattle.mapfile_save.specs.Loading.{piece_size, piece_reads}
 use Rattle.rescue_rules.specs.Setting.{Setting}
 use Rattle.rescue_rules.specs.Start.{Stands}
 use Rattle.rescue_rules.specs.Snapshots.{Snapshot}

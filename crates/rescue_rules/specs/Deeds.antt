@@ -4,7 +4,7 @@ use Rattle.std.specs.List.{flat_map}
 use Rattle.crash_site.specs.Files.{File, written}
 use Rattle.crash_site.specs.Calls.{Call, image_read, image_write}
 use Rattle.crash_site.specs.Left.{IsLoose, Matches}
-use Rattle.save_resume.specs.Saving.{save_calls}
+use Rattle.mapfile_save.specs.Saving.{save_calls}
 use Rattle.rescue_rules.specs.Setting.{Setting}
 use Rattle.rescue_rules.specs.Snapshots.{Snapshot, text_of}
 use Rattle.rescue_rules.specs.RunCalls.{closing_calls}

@@ -3,7 +3,7 @@ use Rattle.std.specs.Prelude.{ℕ, ◌+◌, ◌-◌, ◌*◌, ◌^◌, ◌<◌, 
 use Rattle.run_options.specs.declared.limits.Limits.{Limits}
 use Rattle.run_options.specs.declared.passes.Passes.{Passes}
 use Rattle.run_options.specs.declared.skips.Skips.{Skips}
-use Rattle.save_resume.specs.MapNames.{MapNames}
+use Rattle.mapfile_save.specs.MapNames.{MapNames}
 
 -- What the words of a rescue ask for, once its input's length is known. Sizes and positions are in bytes.
 pub record Setting : Type 0 where

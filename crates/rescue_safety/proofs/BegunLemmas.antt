@@ -8,8 +8,8 @@ use Rattle.block_list.specs.Map.{Has}
 use Rattle.mapfile_text.specs.Pieces.{pieces_of}
 use Rattle.faulty_source.specs.Journal.{Reading, kept, covers}
 use Rattle.crash_site.specs.Calls.{Call, Entry, Done, Failed, image_write, image_sync, draft_append, draft_begin, draft_sync, draft_publish, map_settle}
-use Rattle.save_resume.specs.MapNames.{MapNames}
-use Rattle.save_resume.specs.Saving.{fill_calls, save_calls}
+use Rattle.mapfile_save.specs.MapNames.{MapNames}
+use Rattle.mapfile_save.specs.Saving.{fill_calls, save_calls}
 use Rattle.rescue_rules.specs.Setting.{Setting, IsSensible, place}
 use Rattle.rescue_rules.specs.Machine.{Machine}
 use Rattle.rescue_rules.specs.MachineLaws.{IsInOrder}

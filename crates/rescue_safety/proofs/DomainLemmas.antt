@@ -7,7 +7,7 @@ use Rattle.block_list.specs.declared.status.Status.TheVariants.{Finished}
 use Rattle.block_list.specs.Map.{Has}
 use Rattle.block_list.proofs.StretchLemmas.{equal_from_same}
 use Rattle.crash_site.specs.Files.{File, file_named}
-use Rattle.save_resume.specs.Named.{map_mode, IsMapOf}
+use Rattle.mapfile_resume.specs.Named.{map_mode, IsMapOf}
 use Rattle.rescue_domain.specs.Domain.{is_below, whole_domain, in_map}
 use Rattle.rescue_domain.specs.Finished.{is_finished, is_finished_at}
 use Rattle.ddrescue_words.specs.Command.{Command, Rescue as ForRescue}

@@ -11,7 +11,7 @@ use Rattle.block_list.specs.Map.{Has}
 use Rattle.crash_site.specs.Files.{File, bytes_of, draft_of}
 use Rattle.crash_site.specs.Calls.{Call, Entry}
 use Rattle.crash_site.specs.Left.{NothingLost}
-use Rattle.save_resume.specs.MapNames.{names_of, names_in}
+use Rattle.mapfile_save.specs.MapNames.{names_of, names_in}
 use Rattle.rescue_rules.specs.declared.stop.RunEnd.{RunEnd}
 use Rattle.rescue_rules.specs.Setting.{Setting, IsSensible, place}
 use Rattle.rescue_rules.specs.Start.{Stands}

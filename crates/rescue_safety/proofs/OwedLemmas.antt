@@ -6,7 +6,7 @@ use Rattle.crash_site.specs.Folder.{Folder}
 use Rattle.crash_site.specs.Left.{MayBeLeft}
 use Rattle.crash_site.proofs.DiskLemmas.{reads_rest}
 use Rattle.crash_site.proofs.LawLemmas.{others_stand}
-use Rattle.save_resume.proofs.NameLemmas.{apart_draft}
+use Rattle.mapfile_save.proofs.NameLemmas.{apart_draft}
 use Rattle.rescue_rules.specs.Stops.{Before, files_before, CouldBefore, LeftBy}
 use Rattle.rescue_rules.proofs.BeforeLemmas.{left_before}
 use Rattle.rescue_safety.specs.Saves.{CallsFinished}

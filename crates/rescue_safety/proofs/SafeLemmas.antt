@@ -11,8 +11,8 @@ use Rattle.faulty_source.specs.Journal.{Reading}
 use Rattle.crash_site.specs.Files.{File, bytes_of, draft_of}
 use Rattle.crash_site.specs.Calls.{Entry}
 use Rattle.crash_site.specs.Left.{IsLoose, Matches}
-use Rattle.save_resume.specs.MapNames.{names_of, names_in}
-use Rattle.save_resume.specs.Named.{map_mode, IsMapOf}
+use Rattle.mapfile_save.specs.MapNames.{names_of, names_in}
+use Rattle.mapfile_resume.specs.Named.{map_mode, IsMapOf}
 use Rattle.rescue_domain.specs.Testing.{seen}
 use Rattle.rescue_rules.specs.Setting.{Setting, IsSensible, place}
 use Rattle.rescue_rules.specs.Start.{Stands}

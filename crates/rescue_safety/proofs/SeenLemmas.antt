@@ -9,7 +9,7 @@ use Rattle.block_list.specs.Map.{Has}
 use Rattle.mapfile_text.specs.declared.state.MapState.{MapState}
 use Rattle.crash_site.specs.Files.{File}
 use Rattle.crash_site.specs.Calls.{Call, Entry, Done, image_read}
-use Rattle.save_resume.specs.Saving.{save_calls}
+use Rattle.mapfile_save.specs.Saving.{save_calls}
 use Rattle.rescue_rules.specs.Setting.{Setting, place}
 use Rattle.rescue_rules.specs.Snapshots.{Snapshot, text_of}
 use Rattle.rescue_rules.specs.Deeds.{Deed, save_of, deed_calls, some_save, saves_in}

@@ -6,8 +6,8 @@ use Rattle.mapfile_text.specs.declared.read.MapError.TheVariants.{TooLong}
 use Rattle.mapfile_text.specs.MapText.{text_limit}
 use Rattle.mapfile_text.proofs.MapOrFault.{is_map_or_has_fault}
 use Rattle.crash_site.specs.Files.{File}
-use Rattle.save_resume.specs.Named.{map_mode}
-use Rattle.save_resume.proofs.NamedLemmas.{HasMap}
+use Rattle.mapfile_resume.specs.Named.{map_mode}
+use Rattle.mapfile_resume.proofs.NamedLemmas.{HasMap}
 use Rattle.program_promise.specs.Work.{Deeds, WorkStep, Works, with_calls}
 use Rattle.ddrescue_words.specs.Command.{Command}
 use Rattle.task_files.specs.declared.ending.Ending.{Ending}

@@ -10,7 +10,7 @@ use Rattle.crash_site.specs.declared.site.MapRead.{MapRead}
 use Rattle.crash_site.specs.declared.site.SiteCall.TheVariants.{MapRead as MapReadName}
 use Rattle.crash_site.specs.Files.{File}
 use Rattle.crash_site.specs.Calls.{Call, image_open, image_sync, map_read, map_settle, Entry, Done}
-use Rattle.save_resume.specs.Loading.{piece_size, piece_reads}
+use Rattle.mapfile_save.specs.Loading.{piece_size, piece_reads}
 use Rattle.rescue_rules.specs.Setting.{Setting, IsSensible}
 use Rattle.rescue_rules.specs.Start.{Stands}
 use Rattle.rescue_rules.specs.Machine.{Machine}

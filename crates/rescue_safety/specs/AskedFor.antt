@@ -4,7 +4,7 @@ use Rattle.block_list.specs.declared.status.Status.{Status}
 use Rattle.block_list.specs.declared.status.Status.TheVariants.{Finished}
 use Rattle.block_list.specs.Map.{Has}
 use Rattle.faulty_source.specs.Journal.{Reading}
-use Rattle.save_resume.specs.Named.{map_mode, IsMapOf}
+use Rattle.mapfile_resume.specs.Named.{map_mode, IsMapOf}
 use Rattle.rescue_domain.specs.Testing.{seen}
 use Rattle.task_files.specs.Maps.{MapfileLists, mapfile_of}
 use Rattle.rescue_safety.specs.Rescue.{Rescue, files_at_first}

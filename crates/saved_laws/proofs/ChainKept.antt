@@ -7,7 +7,7 @@ use Rattle.crash_site.specs.Files.{File, draft_of}
 use Rattle.crash_site.specs.Calls.{Entry}
 use Rattle.crash_site.specs.Left.{MayBeLeft}
 use Rattle.crash_site.proofs.LawLemmas.{others_stand}
-use Rattle.save_resume.proofs.NameLemmas.{apart_draft}
+use Rattle.mapfile_save.proofs.NameLemmas.{apart_draft}
 use Rattle.rescue_rules.specs.Preparation.{tried_again, if_asked}
 use Rattle.rescue_rules.specs.Stops.{Before, files_before, has_barrier, CouldBefore, LeftBy}
 use Rattle.rescue_safety.specs.Saves.{CallsFinished}

@@ -13,9 +13,9 @@ use Rattle.faulty_source.specs.Journal.{Reading}
 use Rattle.crash_site.specs.declared.site.MapRead.TheVariants.{Absent}
 use Rattle.crash_site.specs.Files.{File}
 use Rattle.crash_site.specs.Calls.{Call, Entry, Done, image_write, image_sync, draft_begin, draft_sync, draft_publish, map_settle}
-use Rattle.save_resume.specs.Loading.{IsReadSize, load_reads}
-use Rattle.save_resume.specs.Saving.{fill_calls, save_calls}
-use Rattle.save_resume.proofs.NameLemmas.{apart_draft}
+use Rattle.mapfile_save.specs.Loading.{IsReadSize, load_reads}
+use Rattle.mapfile_save.specs.Saving.{fill_calls, save_calls}
+use Rattle.mapfile_save.proofs.NameLemmas.{apart_draft}
 use Rattle.rescue_rules.specs.declared.stop.RunEnd.TheVariants.{Done as Ended}
 use Rattle.rescue_rules.specs.Setting.{Setting, IsSensible}
 use Rattle.rescue_rules.specs.Laws.{AreThreeNames, AreTimes}

@@ -13,11 +13,11 @@ use Rattle.block_list.proofs.Places.{slice_get-append_left, slice_get-append_rig
 use Rattle.mapfile_text.specs.declared.read.Mode.TheVariants.{Tight}
 use Rattle.mapfile_text.specs.declared.state.MapState.{MapState}
 use Rattle.mapfile_text.proofs.OneReading.{has_one_reading}
-use Rattle.save_resume.proofs.MapLemmas.{map_is_not_blank}
+use Rattle.mapfile_text.proofs.MapLemmas.{map_is_not_blank}
 use Rattle.faulty_source.specs.Journal.{Reading, is_failed, kept, covers, floor}
 use Rattle.crash_site.specs.Files.{File}
 use Rattle.crash_site.specs.Calls.{Call, Entry, Done}
-use Rattle.save_resume.specs.Saving.{save_calls}
+use Rattle.mapfile_save.specs.Saving.{save_calls}
 use Rattle.rescue_rules.specs.declared.stop.TrimMode.{TrimMode}
 use Rattle.rescue_rules.specs.declared.stop.TrimMode.TheVariants.{Lead, Tail}
 use Rattle.rescue_rules.specs.declared.phase.Phase.{Phase}

@@ -13,7 +13,7 @@ use Rattle.crash_site.specs.CallsMade.{BrokeAt}
 use Rattle.crash_site.specs.Disk.{Showing, Disk, with_opened, after_part, entered, disk_after}
 use Rattle.crash_site.specs.Left.{MayShow, Leaves, until, MayBeLeft}
 use Rattle.crash_site.proofs.LawLemmas.{at_other}
-use Rattle.save_resume.specs.Loading.{piece_size, piece_reads}
+use Rattle.mapfile_save.specs.Loading.{piece_size, piece_reads}
 use Rattle.rescue_rules.specs.Setting.{Setting}
 use Rattle.rescue_rules.specs.Start.{Stands}
 use Rattle.rescue_rules.specs.Snapshots.{Snapshot}

@@ -4,7 +4,7 @@ use Rattle.crash_site.specs.declared.site.SiteCall.TheVariants.{MapRead}
 use Rattle.crash_site.specs.Files.{File}
 use Rattle.crash_site.specs.Calls.{Call, Entry, Done}
 use Rattle.crash_site.specs.CallsMade.{Lost, BrokeAt}
-use Rattle.save_resume.specs.Loading.{BeginsLoad}
+use Rattle.mapfile_save.specs.Loading.{BeginsLoad}
 use Rattle.rescue_rules.specs.Setting.{Setting}
 use Rattle.rescue_rules.specs.Laws.{AreThreeNames}
 use Rattle.rescue_rules.specs.Stops.{Before, files_before}

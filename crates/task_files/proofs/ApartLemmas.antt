@@ -3,11 +3,11 @@ use Rattle.std.proofs.Common.{◌≡◌, ◌≢◌, ℕ, true, List, Option, Som
 use Rattle.std.specs.Prelude.{option_map}
 use Rattle.std.specs.Str.{bytes_eq}
 use Rattle.std.proofs.lemmas.Bool.{cond_both}
-use Rattle.save_resume.specs.MapNames.{MapNames, names_of, HasOwnDraft, names_in}
+use Rattle.mapfile_save.specs.MapNames.{MapNames, names_of, HasOwnDraft, names_in}
 use Rattle.rescue_rules.specs.Laws.{AreThreeNames}
 use Rattle.ddrescue_words.specs.Command.{Command, Task}
 use Rattle.ddrescue_words.specs.Asking.{IsAsked}
-use Rattle.save_resume.proofs.NameLemmas.{apart_draft, ne_of}
+use Rattle.mapfile_save.proofs.NameLemmas.{apart_draft, ne_of}
 use Rattle.program_promise.specs.declared.operand.Operand.{Operand}
 use Rattle.program_promise.specs.declared.operand.Operand.TheVariants.{Infile, Outfile, Mapfile, Draft}
 use Rattle.task_files.specs.declared.ending.Ending.{Ending}

@@ -8,9 +8,9 @@ use Rattle.mapfile_text.specs.declared.read.MapError.{MapError}
 use Rattle.mapfile_text.specs.MapText.{IsMapText, Blank}
 use Rattle.mapfile_text.specs.Laws.{SameReading}
 use Rattle.crash_site.specs.Files.{File}
-use Rattle.save_resume.specs.Resuming.{IsReadAs, IsRefusedFor, IsLikeNone, NoFile as Absent, Silent}
-use Rattle.save_resume.proofs.AnswerLemmas.{has_answer, read_as_one, read_is_not_refused, not_there, one_there}
-use Rattle.save_resume.proofs.MapLemmas.{map_is_not_blank}
+use Rattle.mapfile_resume.specs.Resuming.{IsReadAs, IsRefusedFor, IsLikeNone, NoFile as Absent, Silent}
+use Rattle.mapfile_resume.proofs.AnswerLemmas.{has_answer, read_as_one, read_is_not_refused, not_there, one_there}
+use Rattle.mapfile_text.proofs.MapLemmas.{map_is_not_blank}
 use Rattle.ddrescue_words.specs.Command.{Command}
 use Rattle.task_files.specs.Maps.{MapfileLists, NoFile, NoText, Blocks, IsListing}
 

@@ -9,9 +9,9 @@ use Rattle.mapfile_text.proofs.MapOrFault.{is_map_or_has_fault}
 use Rattle.crash_site.specs.Files.{File}
 use Rattle.ddrescue_words.specs.Command.{Command}
 use Rattle.task_files.specs.Asked.{Maps}
-use Rattle.save_resume.specs.Named.{IsMapOf, map_mode}
-use Rattle.save_resume.proofs.NamedLemmas.{map_is_one, Reading, HasMap, reading}
-use Rattle.save_resume.proofs.AnswerLemmas.{not_there, one_there}
+use Rattle.mapfile_resume.specs.Named.{IsMapOf, map_mode}
+use Rattle.mapfile_resume.proofs.NamedLemmas.{map_is_one, Reading, HasMap, reading}
+use Rattle.mapfile_resume.proofs.AnswerLemmas.{not_there, one_there}
 use Rattle.task_files.specs.Maps.{Found, AreAskedFor, AreMapsIn, IsNamedMap}
 use Rattle.task_files.proofs.ListingLemmas.{Listing, some_listing}
 

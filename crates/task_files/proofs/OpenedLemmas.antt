@@ -14,7 +14,7 @@ use Rattle.crash_site.specs.CallsMade.{Made}
 use Rattle.crash_site.specs.SiteState.{SiteState, files_in}
 use Rattle.crash_site.specs.SiteChanges.{Keeps}
 use Rattle.crash_site.proofs.LawLemmas.{after-append}
-use Rattle.save_resume.specs.MapNames.{MapNames, names_of}
+use Rattle.mapfile_save.specs.MapNames.{MapNames, names_of}
 use Rattle.rescue_console.specs.ClockState.{ClockState}
 use Rattle.rescue_console.specs.ConsoleState.{ConsoleState}
 use Rattle.option_words.specs.declared.fault.UsageFault.TheVariants.{PlaceTooLarge}

@@ -11,7 +11,7 @@ use Rattle.crash_site.specs.Calls.{Call, Entry, Done as Returned}
 use Rattle.crash_site.specs.CallsMade.{BrokeAt}
 use Rattle.crash_site.specs.SiteState.{SiteState, files_in}
 use Rattle.crash_site.specs.SiteChanges.{Stays}
-use Rattle.save_resume.specs.Named.{map_mode}
+use Rattle.mapfile_resume.specs.Named.{map_mode}
 use Rattle.rescue_console.specs.ClockState.{ClockState}
 use Rattle.rescue_console.specs.ConsoleState.{ConsoleState}
 use Rattle.rescue_rules.specs.Work.{Gain, IsNothing, AreMapReads}
@@ -23,7 +23,7 @@ use Rattle.program_promise.specs.Holds.{after_entries}
 use Rattle.program_promise.proofs.GainLemmas.{broke_after}
 use Rattle.program_promise.proofs.PartLemmas.{stopped_more, through_then}
 use Rattle.ddrescue_words.specs.Command.{Command}
-use Rattle.save_resume.proofs.NamedLemmas.{map_is_one}
+use Rattle.mapfile_resume.proofs.NamedLemmas.{map_is_one}
 use Rattle.task_files.specs.declared.ending.Which.{Which}
 use Rattle.task_files.specs.declared.ending.Which.TheVariants.{DomainMap, TestMap}
 use Rattle.task_files.specs.declared.ending.Ending.{Ending}

@@ -6,7 +6,7 @@ use Rattle.faulty_source.specs.SourceState.{SourceState}
 use Rattle.crash_site.specs.declared.site.SiteCall.{SiteCall}
 use Rattle.crash_site.specs.declared.site.SiteCall.TheVariants.{ImageRead, ImageWrite, MapRemove}
 use Rattle.crash_site.specs.SiteState.{SiteState}
-use Rattle.save_resume.specs.Saving.{drafting_after_fault}
+use Rattle.mapfile_save.specs.Saving.{drafting_after_fault}
 use Rattle.rescue_rules.specs.declared.stop.Stop.{Stop}
 use Rattle.rescue_rules.specs.declared.stop.Stop.TheVariants.{SourceLost as InputLost, Site, LimitMet as Limited, NoMemory as NoRoom}
 use Rattle.rescue_rules.specs.declared.stop.Limit.{Limit}

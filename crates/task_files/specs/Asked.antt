@@ -1,7 +1,7 @@
 -- What a command asks for of an input.
 use Rattle.std.specs.Prelude.{ℕ, Bool, List, Option, Some, None, is_some, unwrap_or, option_map}
 use Rattle.run_options.specs.declared.skips.Skips.{Skips}
-use Rattle.save_resume.specs.MapNames.{MapNames, names_of, names_in}
+use Rattle.mapfile_save.specs.MapNames.{MapNames, names_of, names_in}
 use Rattle.block_list.specs.declared.status.Status.{Status}
 use Rattle.rescue_domain.specs.Domain.{whole_domain, in_map, listed_in}
 use Rattle.rescue_domain.specs.Places.{place_from, AreAllPlaced, IsAnyBeyond}

@@ -7,7 +7,7 @@ use Rattle.mapfile_text.specs.declared.read.Mode.TheVariants.{Tight}
 use Rattle.mapfile_text.specs.MapText.{text_limit, IsMapText, Blank}
 use Rattle.faulty_source.specs.Journal.{Reading}
 use Rattle.crash_site.specs.Files.{File, file_named}
-use Rattle.save_resume.specs.Named.{map_mode, IsMapOf}
+use Rattle.mapfile_resume.specs.Named.{map_mode, IsMapOf}
 use Rattle.rescue_domain.specs.Testing.{seen}
 use Rattle.ddrescue_words.specs.Command.{Command}
 use Rattle.task_files.specs.Asked.{Maps}

@@ -1,7 +1,7 @@
 -- The names of a rescue's files, and the program's own.
 use Rattle.std.specs.Prelude.{◌≡◌, ℕ, false, List, Option, Some, None, if◌then◌else◌, codes}
 use Rattle.std.specs.Str.{bytes_eq}
-use Rattle.save_resume.specs.MapNames.{MapNames}
+use Rattle.mapfile_save.specs.MapNames.{MapNames}
 use Rattle.program_promise.specs.declared.operand.Operand.{Operand}
 use Rattle.program_promise.specs.declared.operand.Operand.TheVariants.{Infile, Outfile}
 use Rattle.program_promise.specs.Operands.{first_same}

@@ -5,7 +5,7 @@ use Rattle.mapfile_text.specs.declared.read.Mode.TheVariants.{Tight}
 use Rattle.mapfile_text.specs.declared.read.MapError.{MapError}
 use Rattle.mapfile_text.specs.declared.read.MapError.TheVariants.{NoStatusLine}
 use Rattle.crash_site.specs.Files.{File}
-use Rattle.save_resume.specs.Resuming.{IsRefusedFor}
+use Rattle.mapfile_resume.specs.Resuming.{IsRefusedFor}
 use Rattle.option_words.specs.declared.fault.UsageFault.TheVariants.{PlaceTooLarge}
 use Rattle.program_promise.specs.declared.operand.Operand.{Operand}
 use Rattle.task_files.specs.declared.ending.Which.{Which}

@@ -1,7 +1,7 @@
 //! What a rescue needs before it opens a file.
 ghost use Rattle.std.specs.Prelude.{◌≡◌, ◌⊎◌, not, None, IfOk, IfErr, OnOk, option_map};
 ghost use Rattle.rescue_rules.specs.Snapshots.{heading_at};
-ghost use Rattle.save_resume.specs.MapNames.{names_of};
+ghost use Rattle.mapfile_save.specs.MapNames.{names_of};
 ghost use Rattle.ddrescue_words.specs.Asking.{told_by};
 ghost use Rattle.option_words.specs.Words.{command_line};
 ghost use Rattle.task_files.specs.Names.{first_same_with_optional_map, program_name};
@@ -12,11 +12,11 @@ ghost use Rattle.task_files.specs.declared.ending.Ending.TheVariants.{NoMemory a
 use crate::ending::Ending;
 use block_list::tiles::NoMemory;
 use ddrescue_words::command::Command;
+use mapfile_save::names::Names;
 use mapfile_text::heading::{Heading, Program};
 use option_words::words::Words;
 use program_promise::heading::make_heading;
 use program_promise::operand::{Operand, find_same};
-use save_resume::names::Names;
 use std::alloc::Global;
 
 /// The program's name, which begins its command line and its messages.

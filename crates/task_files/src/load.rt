@@ -11,11 +11,11 @@ use block_list::plain_tiles::PlainTiles;
 use block_list::tiles::Tiles;
 use crash_site::site::Site;
 use mapfile_reader::read::ReadMap;
+use mapfile_resume::load::ResumeFault;
+use mapfile_resume::resume::{Resumed, extend_map, resume};
+use mapfile_save::names::Names;
 use mapfile_text::state::MapState;
 use paged_blocks::paged_tiles::PagedTiles;
-use save_resume::load::ResumeFault;
-use save_resume::names::Names;
-use save_resume::resume::{Resumed, extend_map, resume};
 use std::alloc::Global;
 
 /// The map of a run.

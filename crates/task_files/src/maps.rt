@@ -4,7 +4,7 @@ ghost use Rattle.block_list.specs.Tiled.{Tiled};
 ghost use Rattle.crash_site.specs.SiteChanges.{Stays};
 ghost use Rattle.rescue_domain.specs.Parts.{covers};
 ghost use Rattle.task_files.specs.Asked.{domain_asked};
-ghost use Rattle.save_resume.specs.Named.{map_mode};
+ghost use Rattle.mapfile_resume.specs.Named.{map_mode};
 ghost use Rattle.task_files.specs.Steps.{refusal_of, ReadsMap, MapCause, maps_read};
 
 use crate::ending::{Ending, Which};
@@ -14,8 +14,8 @@ use block_list::tiles::NoMemory;
 use crash_site::site::{Site, SiteCall};
 use ddrescue_words::options::Options;
 use mapfile_reader::read::ReadMap;
+use mapfile_resume::named::{NamedFault, load_named};
 use rescue_domain::domain::Domain;
-use save_resume::named::{NamedFault, load_named};
 use std::alloc::Global;
 
 /// The answer for a map that an option names and that couldn't be loaded.

@@ -3,7 +3,7 @@ use Rattle.std.proofs.Common.{◌≡◌, ℕ, ◌<◌, ◌≤◌, ◌^◌, Bool,
 use Rattle.block_list.specs.declared.block.Range.{Range}
 use Rattle.block_list.specs.declared.status.Status.{Status}
 use Rattle.mapfile_text.specs.declared.state.MapState.{MapState}
-use Rattle.save_resume.specs.MapNames.{MapNames}
+use Rattle.mapfile_save.specs.MapNames.{MapNames}
 use Rattle.rescue_domain.specs.Parts.{covers}
 use Rattle.rescue_rules.specs.Setting.{Setting}
 use Rattle.rescue_rules.specs.Machine.{Machine}

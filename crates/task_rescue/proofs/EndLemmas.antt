@@ -16,8 +16,8 @@ use Rattle.crash_site.specs.CallsMade.{Made, BrokeAt}
 use Rattle.crash_site.specs.SiteState.{SiteState}
 use Rattle.crash_site.specs.SiteChanges.{Breaks, Makes}
 use Rattle.mapfile_text.specs.declared.state.Current.TheVariants.{Finished}
-use Rattle.save_resume.specs.Saving.{save_calls, IsNameIn}
-use Rattle.save_resume.proofs.CallLemmas.{made_more, broke_front, broke_back, named_front, named_back}
+use Rattle.mapfile_save.specs.Saving.{save_calls, IsNameIn}
+use Rattle.mapfile_save.proofs.CallLemmas.{made_more, broke_front, broke_back, named_front, named_back}
 use Rattle.rescue_console.specs.ClockState.{ClockState, Reads as ReadsClock}
 use Rattle.rescue_console.specs.ConsoleState.{ConsoleState}
 use Rattle.rescue_console.specs.Speaking.{SpeaksOn, out_pieces}
@@ -46,7 +46,7 @@ use Rattle.rescue_core.specs.Closing.{LastSave, Saved, Unsaved as UnsavedEnd, Cl
 use Rattle.rescue_rules.specs.Across.{Across, across}
 use Rattle.rescue_phases.specs.Turns.{IsAlike, moved_to, Went, WentUpTo}
 use Rattle.faulty_source.specs.Journal.{IsFrom}
-use Rattle.save_resume.specs.MapNames.{names_in}
+use Rattle.mapfile_save.specs.MapNames.{names_in}
 use Rattle.rescue_core.proofs.ObjectLemmas.{timed_more}
 use Rattle.rescue_phases.specs.Past.{IsPast}
 use Rattle.task_rescue.specs.Running.{WentToEnd}

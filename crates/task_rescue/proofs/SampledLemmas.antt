@@ -10,7 +10,7 @@ use Rattle.block_list.specs.declared.status.Status.TheVariants.{NonTried}
 use Rattle.mapfile_text.specs.declared.state.MapState.{MapState}
 use Rattle.faulty_source.specs.Journal.{Reading, is_failed}
 use Rattle.faulty_source.specs.SourceState.{SourceState}
-use Rattle.save_resume.specs.MapNames.{MapNames, names_of}
+use Rattle.mapfile_save.specs.MapNames.{MapNames, names_of}
 use Rattle.rescue_console.specs.ClockState.{ClockState, Reads as ReadsClock}
 use Rattle.rescue_console.specs.ConsoleState.{ConsoleState}
 use Rattle.rescue_console.specs.Speaking.{SpeaksOn, out_pieces}

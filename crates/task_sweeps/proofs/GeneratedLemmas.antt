@@ -9,7 +9,7 @@ use Rattle.crash_site.specs.Calls.{Entry, Done as Returned, image_open}
 use Rattle.crash_site.specs.SiteState.{SiteState}
 use Rattle.crash_site.specs.SiteChanges.{Keeps, Stays}
 use Rattle.crash_site.proofs.LawLemmas.{after-append}
-use Rattle.save_resume.specs.MapNames.{MapNames, names_of}
+use Rattle.mapfile_save.specs.MapNames.{MapNames, names_of}
 use Rattle.rescue_console.specs.ClockState.{ClockState}
 use Rattle.rescue_console.specs.ConsoleState.{ConsoleState}
 use Rattle.rescue_console.specs.Speaking.{SpeaksOn, out_pieces}

@@ -14,8 +14,8 @@ use Rattle.faulty_source.specs.SourceChanges.{Stays as SourceStays}
 use Rattle.crash_site.specs.Files.{File}
 use Rattle.crash_site.specs.Calls.{Entry}
 use Rattle.crash_site.specs.SiteState.{SiteState, files_in}
-use Rattle.save_resume.specs.MapNames.{MapNames}
-use Rattle.save_resume.proofs.MapLemmas.{map_is_not_blank}
+use Rattle.mapfile_save.specs.MapNames.{MapNames}
+use Rattle.mapfile_text.proofs.MapLemmas.{map_is_not_blank}
 use Rattle.rescue_console.specs.ClockState.{ClockState}
 use Rattle.rescue_console.specs.ConsoleState.{ConsoleState}
 use Rattle.rescue_rules.specs.Start.{IsFresh, TextStands, AsNone, AsMap, StandsFor, Stands}

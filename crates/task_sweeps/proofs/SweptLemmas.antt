@@ -12,7 +12,7 @@ use Rattle.crash_site.specs.declared.site.SiteCall.{SiteCall}
 use Rattle.crash_site.specs.Calls.{Call, Entry, Done as Returned}
 use Rattle.crash_site.specs.CallsMade.{BrokeAt, call_name}
 use Rattle.crash_site.specs.SiteState.{SiteState}
-use Rattle.save_resume.specs.MapNames.{MapNames, names_in}
+use Rattle.mapfile_save.specs.MapNames.{MapNames, names_in}
 use Rattle.rescue_console.specs.ClockState.{ClockState, Reads as ReadsClock}
 use Rattle.rescue_console.specs.ConsoleState.{ConsoleState}
 use Rattle.rescue_console.specs.Speaking.{SpeaksOn, out_pieces}

@@ -4,7 +4,7 @@ use Rattle.block_list.specs.declared.status.Status.{Status}
 use Rattle.block_list.specs.declared.types.TypeSet.{TypeSet}
 use Rattle.mapfile_text.specs.declared.state.MapState.{MapState}
 use Rattle.crash_site.specs.Files.{File}
-use Rattle.save_resume.specs.Named.{map_mode}
+use Rattle.mapfile_resume.specs.Named.{map_mode}
 use Rattle.rescue_rules.specs.declared.stop.RunEnd.{RunEnd}
 use Rattle.rescue_rules.specs.Setting.{Setting}
 use Rattle.rescue_rules.specs.Start.{Stands}

@@ -10,7 +10,7 @@ use Rattle.mapfile_text.specs.HeadingLines.{HeadingLines}
 use Rattle.faulty_source.specs.SourceState.{SourceState}
 use Rattle.crash_site.specs.Files.{bytes_of}
 use Rattle.crash_site.specs.SiteState.{SiteState, image_in}
-use Rattle.save_resume.specs.MapNames.{MapNames}
+use Rattle.mapfile_save.specs.MapNames.{MapNames}
 use Rattle.rescue_console.specs.Speaking.{SpeaksOn, out_pieces}
 use Rattle.rescue_domain.specs.Parts.{covers}
 use Rattle.rescue_rules.specs.declared.stop.RunEnd.{RunEnd}

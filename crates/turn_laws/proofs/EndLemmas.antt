@@ -12,11 +12,11 @@ use Rattle.crash_site.specs.SiteState.{SiteState}
 use Rattle.crash_site.specs.SiteChanges.{Keeps}
 use Rattle.crash_site.proofs.DiskLemmas.{run-append}
 use Rattle.crash_site.proofs.LawLemmas.{shows_synced}
-use Rattle.save_resume.specs.MapNames.{HasOwnDraft}
-use Rattle.save_resume.specs.Saving.{save_calls}
-use Rattle.save_resume.specs.SaveStops.{disk_of, IsSaved}
-use Rattle.save_resume.proofs.FillLemmas.{keeps_more}
-use Rattle.save_resume.proofs.StopLemmas.{saved_where_ok}
+use Rattle.mapfile_save.specs.MapNames.{HasOwnDraft}
+use Rattle.mapfile_save.specs.Saving.{save_calls}
+use Rattle.mapfile_save.specs.SaveStops.{disk_of, IsSaved}
+use Rattle.mapfile_save.proofs.FillLemmas.{keeps_more}
+use Rattle.mapfile_save.proofs.StopLemmas.{saved_where_ok}
 use Rattle.rescue_rules.specs.declared.stop.Stop.{Stop}
 use Rattle.rescue_rules.specs.declared.stop.Stop.TheVariants.{SourceLost, Site, LimitMet, NoMemory}
 use Rattle.rescue_rules.specs.declared.stop.Limit.{Limit}

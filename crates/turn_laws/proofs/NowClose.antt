@@ -4,8 +4,8 @@ use Rattle.faulty_source.specs.Journal.{Reading}
 use Rattle.crash_site.specs.Calls.{Call, image_sync}
 use Rattle.crash_site.specs.SiteState.{SiteState}
 use Rattle.crash_site.specs.SiteChanges.{Keeps}
-use Rattle.save_resume.specs.SaveStops.{disk_of}
-use Rattle.save_resume.specs.Saving.{save_calls}
+use Rattle.mapfile_save.specs.SaveStops.{disk_of}
+use Rattle.mapfile_save.specs.Saving.{save_calls}
 use Rattle.rescue_rules.specs.declared.stop.Stop.{Stop}
 use Rattle.rescue_rules.specs.declared.stop.Stop.TheVariants.{SourceLost, Site, LimitMet, NoMemory}
 use Rattle.rescue_rules.specs.declared.stop.RunEnd.{RunEnd}

@@ -16,7 +16,7 @@ use Rattle.crash_site.specs.Left.{IsLoose, Matches, MayShow, Leaves}
 use Rattle.crash_site.proofs.DiskLemmas.{run-append, holds_self, holds_more, version_written}
 use Rattle.crash_site.proofs.RangeLemmas.{without_in, without_out}
 use Rattle.crash_site.proofs.LawLemmas.{part_other, part_reads, some_other}
-use Rattle.save_resume.specs.Saving.{save_calls}
+use Rattle.mapfile_save.specs.Saving.{save_calls}
 use Rattle.rescue_rules.specs.Setting.{Setting, IsSensible, place}
 use Rattle.rescue_rules.specs.Machine.{Machine, is_wanted}
 use Rattle.rescue_rules.specs.Step.{Event}

@@ -15,9 +15,9 @@ use Rattle.crash_site.specs.SiteState.{SiteState}
 use Rattle.crash_site.specs.SiteChanges.{Keeps}
 use Rattle.crash_site.proofs.DiskLemmas.{run-append}
 use Rattle.crash_site.proofs.LawLemmas.{own_name, at_other, some_other, part_other, done_other, failed_other, found_only, shows_synced, moved_own}
-use Rattle.save_resume.specs.Saving.{save_calls}
-use Rattle.save_resume.specs.SaveStops.{disk_of, text_file}
-use Rattle.save_resume.proofs.StageLemmas.{appended_draft}
+use Rattle.mapfile_save.specs.Saving.{save_calls}
+use Rattle.mapfile_save.specs.SaveStops.{disk_of, text_file}
+use Rattle.mapfile_save.proofs.StageLemmas.{appended_draft}
 use Rattle.rescue_rules.specs.Setting.{Setting}
 use Rattle.rescue_rules.specs.Held.{Held}
 use Rattle.rescue_rules.specs.Machine.{Machine}

@@ -10,7 +10,7 @@ use Rattle.crash_site.specs.Calls.{Call, Entry, Done}
 use Rattle.crash_site.specs.Disk.{Disk}
 use Rattle.crash_site.specs.SiteState.{SiteState}
 use Rattle.crash_site.specs.SiteChanges.{Keeps}
-use Rattle.save_resume.specs.SaveStops.{disk_of}
+use Rattle.mapfile_save.specs.SaveStops.{disk_of}
 use Rattle.rescue_console.specs.ClockState.{ClockState}
 use Rattle.transfer_token.specs.declared.token.Request.{Request}
 use Rattle.rescue_rules.specs.declared.stop.Stop.{Stop}

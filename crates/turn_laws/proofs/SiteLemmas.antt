@@ -11,7 +11,7 @@ use Rattle.crash_site.specs.SiteState.{SiteState}
 use Rattle.crash_site.specs.SiteChanges.{Keeps}
 use Rattle.crash_site.proofs.DiskLemmas.{run-append}
 use Rattle.crash_site.proofs.LawLemmas.{left_past}
-use Rattle.save_resume.specs.SaveStops.{disk_of}
+use Rattle.mapfile_save.specs.SaveStops.{disk_of}
 use Rattle.rescue_rules.specs.RunStops.{ComesTo}
 use Rattle.turn_laws.specs.Laws.{IsLeftWithin}
 

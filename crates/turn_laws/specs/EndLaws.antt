@@ -8,7 +8,7 @@ use Rattle.crash_site.specs.Calls.{Done}
 use Rattle.crash_site.specs.Disk.{disk_after}
 use Rattle.crash_site.specs.SiteState.{SiteState}
 use Rattle.crash_site.specs.SiteChanges.{Keeps}
-use Rattle.save_resume.specs.SaveStops.{disk_of}
+use Rattle.mapfile_save.specs.SaveStops.{disk_of}
 use Rattle.rescue_rules.specs.declared.phase.Phase.TheVariants.{Retrying}
 use Rattle.rescue_rules.specs.declared.stop.Stop.{Stop}
 use Rattle.rescue_rules.specs.declared.stop.RunEnd.{RunEnd}

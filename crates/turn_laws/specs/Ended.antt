@@ -2,8 +2,8 @@
 use Rattle.std.specs.Prelude.{◌≡◌, ℕ, true, false, List, map, Some}
 use Rattle.crash_site.specs.Calls.{Done}
 use Rattle.crash_site.specs.Disk.{Disk, synced, disk_after}
-use Rattle.save_resume.specs.MapNames.{HasOwnDraft}
-use Rattle.save_resume.specs.SaveStops.{IsSaved}
+use Rattle.mapfile_save.specs.MapNames.{HasOwnDraft}
+use Rattle.mapfile_save.specs.SaveStops.{IsSaved}
 use Rattle.rescue_rules.specs.Setting.{Setting}
 use Rattle.rescue_rules.specs.Machine.{Machine}
 use Rattle.rescue_rules.specs.Step.{Event}

@@ -4,7 +4,7 @@ use Rattle.faulty_source.specs.Journal.{Reading}
 use Rattle.crash_site.specs.Files.{File}
 use Rattle.crash_site.specs.Disk.{Disk}
 use Rattle.crash_site.specs.SiteChanges.{Keeps}
-use Rattle.save_resume.specs.SaveStops.{disk_of}
+use Rattle.mapfile_save.specs.SaveStops.{disk_of}
 use Rattle.transfer_token.specs.declared.token.Request.{Request}
 use Rattle.rescue_rules.specs.declared.stop.Stop.{Stop}
 use Rattle.rescue_rules.specs.declared.stop.Stop.TheVariants.{SourceLost, Site, LimitMet, NoMemory}

@@ -1,5 +1,5 @@
 -- By what the load of it answered.
-use Rattle.save_resume.specs.Named.{map_mode}
+use Rattle.mapfile_resume.specs.Named.{map_mode}
 use Rattle.ddrescueshow_cli.proofs.LoadLemmas.{map_read, map_stopped, stop_cause}
 use Rattle.ddrescueshow_cli.proofs.load.read_map.Goals as goal
 

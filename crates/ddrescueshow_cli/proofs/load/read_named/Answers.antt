@@ -1,5 +1,5 @@
 -- By whether one is named, and what came of its read.
-use Rattle.save_resume.specs.Named.{map_mode}
+use Rattle.mapfile_resume.specs.Named.{map_mode}
 use Rattle.ddrescueshow_cli.proofs.LoadLemmas.{named_read, named_stopped, unnamed}
 use Rattle.ddrescueshow_cli.proofs.load.read_named.Goals as goal
 

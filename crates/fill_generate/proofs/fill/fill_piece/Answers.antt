@@ -1,6 +1,6 @@
 use Rattle.std.specs.Prelude.{⊤}
 use Rattle.std.proofs.Common.{[], ◌∷◌, take, refl, ap, subst, ◌∙◌}
-use Rattle.save_resume.proofs.FillLemmas.{keeps_more}
+use Rattle.mapfile_save.proofs.FillLemmas.{keeps_more}
 use Rattle.crash_site.specs.Calls.{image_write}
 use Rattle.crash_site.specs.SiteChanges.{Makes}
 use Rattle.sweep_rules.specs.Sweep.{filler}

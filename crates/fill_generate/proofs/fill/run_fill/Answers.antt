@@ -1,5 +1,5 @@
 use Rattle.std.proofs.Common.{refl, sym, ap, ◌∙◌}
-use Rattle.save_resume.proofs.FillLemmas.{keeps_more}
+use Rattle.mapfile_save.proofs.FillLemmas.{keeps_more}
 use Rattle.sweep_rules.specs.Sweep.{filler}
 use Rattle.fill_generate.specs.SweepState.{SweepState, setting_for}
 use Rattle.fill_generate.proofs.DraftLemmas.{may_close, left_whole, left_stopped}

@@ -1,4 +1,4 @@
--- A fault of block lines isn't want of memory.
+-- A fault of block lines isn't lack of memory.
 use Rattle.std.proofs.Common.{Result, Ok, Err}
 use Rattle.std.specs.Prelude.{IfErr, ◌≢◌, List}
 use Rattle.mapfile_text.specs.declared.read.Mode.{Mode}

@@ -1,5 +1,5 @@
 -- What the read of a map answers, by what the load of it answered.
-use Rattle.save_resume.specs.Named.{map_mode}
+use Rattle.mapfile_resume.specs.Named.{map_mode}
 use Rattle.task_files.proofs.MapReadLemmas.{named_read, named_stopped, named_cause, unnamed}
 use Rattle.task_files.proofs.maps.read_named.Goals as goal
 

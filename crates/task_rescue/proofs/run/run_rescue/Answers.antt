@@ -1,4 +1,4 @@
-use Rattle.save_resume.proofs.FillLemmas.{keeps_more}
+use Rattle.mapfile_save.proofs.FillLemmas.{keeps_more}
 use Rattle.task_rescue.proofs.StoppedLemmas.{stopped_cause, stopped_draft}
 use Rattle.task_rescue.proofs.EndLemmas.{run_end, stopped_end}
 use Rattle.task_rescue.proofs.run.run_rescue.Goals as goal

@@ -1,6 +1,6 @@
 use Rattle.std.proofs.Common.{Bool, true, false, List, sym, subst}
 use Rattle.crash_site.specs.Calls.{Call}
-use Rattle.save_resume.specs.Saving.{Saves}
+use Rattle.mapfile_save.specs.Saving.{Saves}
 use Rattle.rescue_rules.specs.Snapshots.{snapshot_with}
 use Rattle.fill_generate.specs.SweepState.{SweepState}
 use Rattle.fill_generate.proofs.EndPieceLemmas.{save_if, saves_named}

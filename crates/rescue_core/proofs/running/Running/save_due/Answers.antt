@@ -1,5 +1,5 @@
 use Rattle.std.proofs.Common.{Bool, true, false, length, sym, subst, ◌∙◌}
-use Rattle.save_resume.specs.Saving.{Saves}
+use Rattle.mapfile_save.specs.Saving.{Saves}
 use Rattle.rescue_core.specs.RunState.{RunState, IsRunning, HasCounts}
 use Rattle.rescue_core.proofs.TurnCallLemmas.{save_if}
 use Rattle.rescue_core.proofs.KeeperLemmas.{heading_stays}

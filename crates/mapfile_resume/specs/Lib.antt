@@ -1,0 +1,4 @@
+pub mod Text
+pub mod Resuming
+pub mod Named
+pub mod Laws

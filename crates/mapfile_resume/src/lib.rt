@@ -1,0 +1,7 @@
+//! Loads mapfiles, and resumes from one.
+#![tactic(auto)]
+
+pub mod laws;
+pub mod load;
+pub mod named;
+pub mod resume;

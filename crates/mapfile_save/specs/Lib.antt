@@ -1,0 +1,4 @@
+pub mod MapNames
+pub mod Saving
+pub mod SaveStops
+pub mod Loading

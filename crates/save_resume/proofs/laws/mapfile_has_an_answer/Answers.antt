@@ -1,5 +1,0 @@
-use Rattle.save_resume.proofs.AnswerLemmas.{has_answer}
-use Rattle.save_resume.proofs.laws.mapfile_has_an_answer.Goals as goal
-
-pub returns : goal.returns
-returns c = has_answer

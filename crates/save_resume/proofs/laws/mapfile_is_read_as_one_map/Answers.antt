@@ -1,5 +1,0 @@
-use Rattle.save_resume.proofs.AnswerLemmas.{read_as_one}
-use Rattle.save_resume.proofs.laws.mapfile_is_read_as_one_map.Goals as goal
-
-pub returns : goal.returns
-returns c = read_as_one

@@ -1,5 +1,0 @@
-use Rattle.save_resume.proofs.AnswerLemmas.{pending_nothing_is_found}
-use Rattle.save_resume.proofs.laws.nothing_pending_is_found.Goals as goal
-
-pub returns : goal.returns
-returns c = pending_nothing_is_found
