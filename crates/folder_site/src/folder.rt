@@ -10,6 +10,8 @@ use fault_count::FaultCount;
 use held::HeldMap;
 use image::{OpenImage, open_image, write_image};
 use kernel_devices::identity::OpenInput;
+use kernel_files::kernel::Kernel;
+use kernel_files::real::RealKernel;
 use mapfile::{OpenMap, read_map, remove_map};
 use real_files::file_cursor::{FileCursor, read_full};
 use real_files::read_ahead::ReadAhead;
@@ -25,24 +27,25 @@ mod names;
 mod nodes;
 mod settle;
 
-/// Real files and folders, or a device as the image. It tells no content.
+/// Files and folders over a kernel, or a device as the image. It tells no content.
 ///
-/// A call fails if two of the files that it knows are one, whatever their names: the input that is noted for it, the
+/// A call fails if two of the files that it knows are the same, whatever their names: the input noted for it, the
 /// image, and the files that have a mapfile's or a draft's name. Nothing is written then. The image, the mapfile and
 /// the draft are locked, and a call fails that meets one which another run has locked. It fails, too, if the image is
 /// to be a device that is in use, or would be made among the device nodes, or if the image or a mapfile overlaps the
 /// input or lies on it.
 #[derive(Drop)]
-pub struct FolderSite {
+pub struct KernelSite<K: Kernel> {
+    kernel: K,
     rt: HostRuntime,
     input: Option<OpenInput>,
     image: Option<OpenImage>,
     /// What was read ahead of the image.
     ahead: ReadAhead,
     map: Option<OpenMap>,
-    draft: Option<OpenDraft>,
+    draft: Option<OpenDraft<K>>,
     /// The mapfile that this run has locked.
-    held: Option<HeldMap>,
+    held: Option<HeldMap<K>>,
     /// A mapfile was removed: no save is to come.
     removed: bool,
     faults: FaultCount,
@@ -50,6 +53,9 @@ pub struct FolderSite {
     /// The name of the mapfile whose read failed last, if there was memory for it.
     unread: Option<String>,
 }
+
+/// Real files and folders.
+pub type FolderSite = KernelSite<RealKernel>;
 
 /// Why a call failed: the call, and the system's error.
 #[derive(Clone, Copy, Debug)]
@@ -79,15 +85,27 @@ fn counted<T>(
     }
 }
 
-impl FolderSite {
-    /// Nothing is open or begun.
-    pub fn new(rt: HostRuntime) -> FolderSite
-        ensures open { (⟦<FolderSite as Site>⟧.state result).is_open ≡ false }
-        ensures draft { (⟦<FolderSite as Site>⟧.state result).is_drafting ≡ false }
-        ensures faults { (⟦<FolderSite as Site>⟧.state result).faults ≡ 0 }
+impl KernelSite<RealKernel> {
+    /// Over the files of the system. Nothing is open or begun.
+    pub fn new(rt: HostRuntime) -> KernelSite<RealKernel>
+        ensures open { (⟦<KernelSite<RealKernel> as Site>⟧.state result).is_open ≡ false }
+        ensures draft { (⟦<KernelSite<RealKernel> as Site>⟧.state result).is_drafting ≡ false }
+        ensures faults { (⟦<KernelSite<RealKernel> as Site>⟧.state result).faults ≡ 0 }
+    {
+        KernelSite::over(RealKernel::new(rt), rt)
+    }
+}
+
+impl<K: Kernel> KernelSite<K> {
+    /// Over this kernel. Nothing is open or begun.
+    pub fn over(kernel: K, rt: HostRuntime) -> KernelSite<K>
+        ensures open { (⟦<KernelSite<K> as Site>⟧.state result).is_open ≡ false }
+        ensures draft { (⟦<KernelSite<K> as Site>⟧.state result).is_drafting ≡ false }
+        ensures faults { (⟦<KernelSite<K> as Site>⟧.state result).faults ≡ 0 }
     {
         let ahead = ReadAhead::new(Vec::new(rt.alloc()));
-        FolderSite {
+        KernelSite {
+            kernel,
             rt,
             input: None,
             image: None,
@@ -104,7 +122,7 @@ impl FolderSite {
 
     /// The input that is open from here on, as it is noted here, is kept apart from what is written.
     pub fn keep_apart(&mut self, input: OpenInput)
-        ensures { ⟦<FolderSite as Site>⟧.state self.new ≡ ⟦<FolderSite as Site>⟧.state self.old }
+        ensures { ⟦<KernelSite<K> as Site>⟧.state self.new ≡ ⟦<KernelSite<K> as Site>⟧.state self.old }
     {
         self.input = Some(input);
     }
@@ -112,7 +130,7 @@ impl FolderSite {
     /// From here on the image is read ahead, by as many bytes as there is room for, if a read asks for fewer. What
     /// another program writes there meanwhile may be seen late.
     pub fn read_ahead_in(&mut self, room: Vec<u8>)
-        ensures { ⟦<FolderSite as Site>⟧.state self.new ≡ ⟦<FolderSite as Site>⟧.state self.old }
+        ensures { ⟦<KernelSite<K> as Site>⟧.state self.new ≡ ⟦<KernelSite<K> as Site>⟧.state self.old }
     {
         self.ahead = ReadAhead::new(room);
     }
@@ -133,7 +151,7 @@ impl FolderSite {
     }
 }
 
-impl Site for FolderSite {
+impl<K: Kernel> Site for KernelSite<K> {
     ghost use Rattle.fault_count.specs.Schedule.{no_schedule};
 
     ghost state = { λ s. record {
@@ -212,7 +230,15 @@ impl Site for FolderSite {
 
     fn map_read(&mut self, name: &str, pos: u64, buf: &mut [u8]) -> Result<MapRead, SiteFault> {
         let apart = Apart::new(&self.input, &self.image);
-        let outcome = read_map(&self.rt, &apart, &mut self.map, name, pos, buf);
+        let outcome = read_map(
+            &self.rt,
+            &self.kernel,
+            &apart,
+            &mut self.map,
+            name,
+            pos,
+            buf,
+        );
         if outcome.is_err() {
             self.unread = String::from_str(self.rt.alloc(), name).ok();
         }
@@ -227,7 +253,7 @@ impl Site for FolderSite {
     fn draft_begin(&mut self, name: &str) -> Result<(), SiteFault> {
         self.draft = None;
         let apart = Apart::new(&self.input, &self.image);
-        let begun = OpenDraft::begin(&self.rt, &apart, name);
+        let begun = OpenDraft::begin(&mut self.kernel, self.rt.alloc(), &apart, name);
         self.draft = Some(counted(
             begun,
             SiteCall::DraftBegin,
@@ -242,7 +268,7 @@ impl Site for FolderSite {
             unreachable!();
         };
         counted(
-            draft.append(piece),
+            draft.append(&mut self.kernel, piece),
             SiteCall::DraftAppend,
             &mut self.faults,
             &mut self.trouble,
@@ -254,7 +280,7 @@ impl Site for FolderSite {
             unreachable!();
         };
         counted(
-            draft.sync(),
+            draft.sync(&mut self.kernel),
             SiteCall::DraftSync,
             &mut self.faults,
             &mut self.trouble,
@@ -267,7 +293,7 @@ impl Site for FolderSite {
         };
         self.map = None;
         let apart = Apart::new(&self.input, &self.image);
-        let published = draft.publish(&self.rt, &apart, &self.held, name);
+        let published = draft.publish(&mut self.kernel, &apart, &self.held, name);
         self.held = Some(counted(
             published,
             SiteCall::DraftPublish,
@@ -280,7 +306,14 @@ impl Site for FolderSite {
     fn map_settle(&mut self, name: &str) -> Result<(), SiteFault> {
         self.map = None;
         let apart = Apart::new(&self.input, &self.image);
-        let outcome = settle(&self.rt, &apart, &mut self.held, name, !self.removed);
+        let outcome = settle(
+            &self.rt,
+            &mut self.kernel,
+            &apart,
+            &mut self.held,
+            name,
+            !self.removed,
+        );
         counted(
             outcome,
             SiteCall::MapSettle,
@@ -292,7 +325,7 @@ impl Site for FolderSite {
     fn map_remove(&mut self, name: &str) -> Result<(), SiteFault> {
         self.map = None;
         self.removed = true;
-        let outcome = remove_map(&self.rt, &self.held, name);
+        let outcome = remove_map(&mut self.kernel, &self.held, name);
         counted(
             outcome,
             SiteCall::MapRemove,

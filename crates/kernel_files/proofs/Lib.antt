@@ -1,3 +1,4 @@
 pub mod Volumes
+pub mod Steps
 mod Logs
 mod Silent

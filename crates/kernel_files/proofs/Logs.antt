@@ -65,11 +65,11 @@ below_call k (Rename from to) v h =
     same k (after_done (rename from.items to.items) v)
     (leads k to.items (v.names from.items) (lead from.items None v) (h.names from.items) (leads k from.items None v tt h))
 below_call k (Unlink name) v h = same k (after_done (unlink name.items) v) (leads k name.items None v tt h)
-below_call k (SyncFolder folder) v h =
-    same k (after_done (sync_folder folder.items) v)
+below_call k (SyncFolder name) v h =
+    same k (after_done (sync_folder (folder_of name.items)) v)
     (record {
       names = h.names;
-      may = λ n. pick_all k (bytes_eq (folder_of n) folder.items) (v.names n ∷ []) (v.may n) (h.names n, tt) (h.may n);
+      may = λ n. pick_all k (bytes_eq (folder_of n) (folder_of name.items)) (v.names n ∷ []) (v.may n) (h.names n, tt) (h.may n);
     })
 
 below : (k : ℕ) (acts : List Act) (v : Volume) → Below k v → Below (creates acts + k) (after v (entries_from k acts))
@@ -188,7 +188,7 @@ makes_one (Append i piece) = omega arith
 makes_one (SyncFile i) = omega arith
 makes_one (Rename from to) = omega arith
 makes_one (Unlink name) = omega arith
-makes_one (SyncFolder folder) = omega arith
+makes_one (SyncFolder name) = omega arith
 
 pub creates_below : (acts : List Act) → creates acts ≤ length acts
 creates_below [] = omega arith

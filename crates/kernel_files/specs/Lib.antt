@@ -1,4 +1,6 @@
 pub mod Volume
 pub mod Stops
 pub mod Answers
+pub mod Steps
+pub mod MapCalls
 pub mod Log

@@ -1,6 +1,6 @@
 -- The record of a kernel in memory. For contracts and proofs: no promise uses it.
 use Rattle.std.specs.Prelude.{ℕ, ◌+◌, true, List, [], ◌∷◌, None}
-use Rattle.kernel_files.specs.Volume.{Volume, Call, Entry, Done, create, write, append, sync_file, rename, unlink, sync_folder, new_node}
+use Rattle.kernel_files.specs.Volume.{Volume, Call, Entry, Done, create, write, append, sync_file, rename, unlink, sync_folder, folder_of, new_node}
 use Rattle.kernel_files.specs.Answers.{Told}
 use Rattle.kernel_files.specs.declared.memory.Act.{Act}
 use Rattle.kernel_files.specs.declared.memory.Act.TheVariants.{Create, Write, Append, SyncFile, Rename, Unlink, SyncFolder}
@@ -13,7 +13,7 @@ makes (Append i piece) = 0
 makes (SyncFile i) = 0
 makes (Rename from to) = 0
 makes (Unlink name) = 0
-makes (SyncFolder folder) = 0
+makes (SyncFolder name) = 0
 
 -- how many files were made
 abbrev pub creates : List Act → ℕ
@@ -28,7 +28,7 @@ call_at k (Append i piece) = append i piece.items
 call_at k (SyncFile i) = sync_file i
 call_at k (Rename from to) = rename from.items to.items
 call_at k (Unlink name) = unlink name.items
-call_at k (SyncFolder folder) = sync_folder folder.items
+call_at k (SyncFolder name) = sync_folder (folder_of name.items)
 
 -- the calls, if this many files were made before
 abbrev pub entries_from : ℕ → List Act → List Entry

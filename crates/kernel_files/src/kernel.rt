@@ -1,15 +1,20 @@
 //! The calls of a kernel on files.
-ghost use Rattle.std.specs.Prelude.{◌≡◌, ◌+◌, ◌<◌, ◌≤◌, ◌^◌, ℕ, Some, None, IsTrue, length, take, IfOk, IfErr, OnOk, MatchOption};
+ghost use Rattle.std.specs.Prelude.{◌≡◌, ◌+◌, ◌<◌, ◌≤◌, ◌^◌, ℕ, List, Some, None, IsSome, IsTrue, length, take, IfOk, IfErr, OnOk};
 ghost use Rattle.std.specs.IoError.{error_kind};
-ghost use Rattle.kernel_files.specs.Volume.{create, write, append, sync_file, rename, unlink, sync_folder, IsNew};
+ghost use Rattle.kernel_files.specs.Volume.{create, write, append, sync_file, rename, unlink, sync_folder, folder_of, IsNew};
 ghost use Rattle.kernel_files.specs.Answers.{Told, volume, bytes_at, Made, IsReadAt};
 
+use crate::standing::{Access, Kind, Standing};
 use std::io::{self, ErrorKind};
 
-/// Calls of the system on regular files. Each is one call of the kernel, except that a folder is opened for its sync.
-pub trait Kernel {
+/// Calls of the system on regular files. Each is one call of the kernel. A name that is absent is an error of the kind
+/// `NotFound`.
+pub trait Kernel: Drop {
     /// An open file.
     type Open: Drop;
+
+    /// An open folder.
+    type Folder: Drop;
 
     /// What it tells of itself.
     ghost told: { Self → Told };
@@ -17,11 +22,36 @@ pub trait Kernel {
     /// The number of an open file.
     ghost number: { Self.Open → ℕ };
 
-    /// Opens the file that a name reaches, to read it, and to write it if that is asked. None if the name is absent.
-    fn open(&self, name: &str, write: bool) -> io::Result<Option<Self::Open>>
-        ensures { IfOk result (λ found. IsTrue (told self.now).tells → MatchOption found
-            ((volume (told self.now)).names name.now ≡ None)
-            (λ file. (volume (told self.now)).names name.now ≡ Some (number file))) };
+    /// The text of the names in an open folder up to their last slash.
+    ghost text: { Self.Folder → List ℕ };
+
+    /// What has a name. A link is not followed.
+    fn found(&self, name: &str) -> io::Result<Standing>
+        ensures there { IfOk result (λ standing. IsTrue (told self.now).tells
+            → (standing.kind ≡ Kind.File) × IsSome ((volume (told self.now)).names name.now)) }
+        ensures absent { IfErr result (λ e. error_kind e ≡ ErrorKind.NotFound → IsTrue (told self.now).tells
+            → (volume (told self.now)).names name.now ≡ None) };
+
+    /// What a name reaches, by links too.
+    fn reached(&self, name: &str) -> io::Result<Standing>
+        ensures there { IfOk result (λ standing. IsTrue (told self.now).tells
+            → (standing.kind ≡ Kind.File) × IsSome ((volume (told self.now)).names name.now)) }
+        ensures absent { IfErr result (λ e. error_kind e ≡ ErrorKind.NotFound → IsTrue (told self.now).tells
+            → (volume (told self.now)).names name.now ≡ None) };
+
+    /// What an open file is.
+    fn met(&self, file: &Self::Open) -> io::Result<Standing>;
+
+    /// Opens the file that a name reaches.
+    fn open(&self, name: &str, access: Access) -> io::Result<Self::Open>
+        ensures there { IfOk result (λ file. IsTrue (told self.now).tells
+            → (volume (told self.now)).names name.now ≡ Some (number file)) }
+        ensures absent { IfErr result (λ e. error_kind e ≡ ErrorKind.NotFound → IsTrue (told self.now).tells
+            → (volume (told self.now)).names name.now ≡ None) };
+
+    /// Opens the folder of a name.
+    fn open_folder(&self, name: &str) -> io::Result<Self::Folder>
+        ensures { IfOk result (λ folder. IsTrue (told self.now).tells → text folder ≡ folder_of name.now) };
 
     /// Makes a new file (`O_CREAT | O_EXCL`), open to be written. A name that is there already is an error.
     fn create_new(&mut self, name: &str) -> io::Result<Self::Open>
@@ -62,8 +92,8 @@ pub trait Kernel {
         ensures { Made (sync_file (number file.now)) result (told self.old) (told self.new) };
 
     /// Makes the entries of a folder durable, if its file system can.
-    fn sync_folder(&mut self, folder: &str) -> io::Result<()>
-        ensures { Made (sync_folder folder.now) result (told self.old) (told self.new) };
+    fn sync_folder(&mut self, folder: &Self::Folder) -> io::Result<()>
+        ensures { Made (sync_folder (text folder.now)) result (told self.old) (told self.new) };
 
     /// Gives a file another name, in the place of the file that had it.
     fn rename(&mut self, from: &str, to: &str) -> io::Result<()>
@@ -71,8 +101,19 @@ pub trait Kernel {
 
     /// Removes a name.
     fn unlink(&mut self, name: &str) -> io::Result<()>
-        ensures { Made (unlink name.now) result (told self.old) (told self.new) };
+        ensures made { Made (unlink name.now) result (told self.old) (told self.new) }
+        ensures absent { IfErr result (λ e. error_kind e ≡ ErrorKind.NotFound → IsTrue (told self.old).tells
+            → ((volume (told self.old)).names name.now ≡ None) × ((told self.new).calls ≡ (told self.old).calls)) };
+
+    /// Removes a folder that is empty. What is no folder stays, and is an error.
+    fn remove_folder(&self, name: &str) -> io::Result<()>;
 
     /// Locks a file. One that another run has locked is an error.
     fn lock(&self, file: &Self::Open) -> io::Result<()>;
+
+    /// Gives a file an owner, if one is given, and a group.
+    fn give(&self, file: &Self::Open, owner: Option<u32>, group: u32) -> io::Result<()>;
+
+    /// Sets who may do what with a file.
+    fn set_mode(&self, file: &Self::Open, mode: u32) -> io::Result<()>;
 }

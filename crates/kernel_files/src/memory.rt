@@ -1,12 +1,14 @@
 //! A kernel in memory. It tells its record. A call fails only if there is no memory for it, or if the name of a new
 //! file isn't free.
 ghost use Rattle.std.specs.Prelude.{◌≡◌, ◌+◌, ◌-◌, ◌++◌, ◌∷◌, [], length, min, take, slice_range, OnOk, OnErr, IfOk, IfErr};
+ghost use Rattle.std.specs.IoError.{error_kind};
 ghost use Rattle.crash_site.specs.Files.{written};
-ghost use Rattle.kernel_files.specs.Volume.{Volume, after_done};
+ghost use Rattle.kernel_files.specs.Volume.{Volume, folder_of, after_done};
 ghost use Rattle.kernel_files.specs.Answers.{volume, bytes_at};
 ghost use Rattle.kernel_files.specs.Log.{makes, creates, call_at, told_of};
 
 use crate::kernel::Kernel;
+use crate::standing::{Access, Standing};
 use std::alloc::{AllocError, Global};
 use std::io::{self, ErrorKind};
 
@@ -19,6 +21,7 @@ pub enum Act {
     SyncFile(usize),
     Rename(Vec<u8>, Vec<u8>),
     Unlink(Vec<u8>),
+    /// Of the folder of this name.
     SyncFolder(Vec<u8>),
 }
 
@@ -26,6 +29,12 @@ pub enum Act {
 #[derive(Drop)]
 pub struct OpenNode {
     number: usize,
+}
+
+/// The folder of a name.
+#[derive(Drop)]
+pub struct OpenFolder {
+    name: Vec<u8>,
 }
 
 /// The record of calls, where no file was at first.
@@ -191,6 +200,7 @@ fn copy_part(bytes: &[u8], pos: u64, buf: &mut [u8]) -> usize
 fn list(log: &mut Vec<Act>, act: Act) -> io::Result<()>
     ensures ok { OnOk result (log.new.items ≡ log.old.items ++ act ∷ []) }
     ensures err { OnErr result (log.new.items ≡ log.old.items) }
+    ensures memory { IfErr result (λ e. error_kind e ≡ ErrorKind.OutOfMemory) }
 {
     Ok(log.push(act)?)
 }
@@ -198,14 +208,40 @@ fn list(log: &mut Vec<Act>, act: Act) -> io::Result<()>
 impl Kernel for MemoryKernel {
     type Open = OpenNode;
 
+    type Folder = OpenFolder;
+
     ghost told = { λ k. told_of k.log.items };
 
     ghost number = { λ file. file.number };
 
-    fn open(&self, name: &str, _write: bool) -> io::Result<Option<OpenNode>> {
+    ghost text = { λ folder. folder_of folder.name.items };
+
+    fn found(&self, name: &str) -> io::Result<Standing> {
         match find(self.log.as_slice(), self.made, name.as_bytes()) {
-            Some(number) => Ok(Some(OpenNode { number })),
-            None => Ok(None),
+            Some(number) => Ok(Standing::of_number(number as u64)),
+            None => Err(ErrorKind::NotFound.into()),
+        }
+    }
+
+    fn reached(&self, name: &str) -> io::Result<Standing> {
+        self.found(name)
+    }
+
+    fn met(&self, file: &OpenNode) -> io::Result<Standing> {
+        Ok(Standing::of_number(file.number as u64))
+    }
+
+    fn open(&self, name: &str, _access: Access) -> io::Result<OpenNode> {
+        match find(self.log.as_slice(), self.made, name.as_bytes()) {
+            Some(number) => Ok(OpenNode { number }),
+            None => Err(ErrorKind::NotFound.into()),
+        }
+    }
+
+    fn open_folder(&self, name: &str) -> io::Result<OpenFolder> {
+        match Vec::from_slice(self.alloc, name.as_bytes()) {
+            Ok(name) => Ok(OpenFolder { name }),
+            Err(_) => Err(ErrorKind::OutOfMemory.into()),
         }
     }
 
@@ -260,8 +296,8 @@ impl Kernel for MemoryKernel {
         list(&mut self.log, Act::SyncFile(file.number))
     }
 
-    fn sync_folder(&mut self, folder: &str) -> io::Result<()> {
-        let Ok(copied) = Vec::from_slice(self.alloc, folder.as_bytes()) else {
+    fn sync_folder(&mut self, folder: &OpenFolder) -> io::Result<()> {
+        let Ok(copied) = Vec::from_slice(self.alloc, folder.name.as_slice()) else {
             return Err(ErrorKind::OutOfMemory.into());
         };
         list(&mut self.log, Act::SyncFolder(copied))
@@ -284,7 +320,19 @@ impl Kernel for MemoryKernel {
         list(&mut self.log, Act::Unlink(copied))
     }
 
+    fn remove_folder(&self, _name: &str) -> io::Result<()> {
+        Err(ErrorKind::NotADirectory.into())
+    }
+
     fn lock(&self, _file: &OpenNode) -> io::Result<()> {
+        Ok(())
+    }
+
+    fn give(&self, _file: &OpenNode, _owner: Option<u32>, _group: u32) -> io::Result<()> {
+        Ok(())
+    }
+
+    fn set_mode(&self, _file: &OpenNode, _mode: u32) -> io::Result<()> {
         Ok(())
     }
 }

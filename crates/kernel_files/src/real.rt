@@ -3,10 +3,12 @@ ghost use Rattle.std.specs.Prelude.{false, []};
 ghost use Rattle.kernel_files.specs.Log.{empty_volume};
 
 use crate::kernel::Kernel;
-use real_files::outcome::{folder_synced, if_there, not_held};
-use std::fs::{self, File, OpenOptions};
+use crate::standing::{Access, Standing};
+use kernel_devices::names::folder_of;
+use real_files::outcome::{folder_synced, not_held};
+use std::fs::{self, File, OpenOptions, Permissions};
 use std::io::{self, Write};
-use std::os::unix::fs::FileExt;
+use std::os::unix::fs::{FileExt, PermissionsExt, fchown};
 
 /// The files of the system.
 #[derive(Drop)]
@@ -24,14 +26,35 @@ impl RealKernel {
 impl Kernel for RealKernel {
     type Open = File;
 
+    type Folder = File;
+
     ghost told = { λ k. record { tells = false; start = empty_volume; calls = [] } };
 
     ghost number = { λ file. 0 };
 
-    fn open(&self, name: &str, write: bool) -> io::Result<Option<File>> {
-        let mut rights = OpenOptions::new();
-        rights.read(true).write(write);
-        if_there(rights.open(&self.rt, name))
+    ghost text = { λ folder. [] };
+
+    fn found(&self, name: &str) -> io::Result<Standing> {
+        Ok(Standing::of(&fs::symlink_metadata(&self.rt, name)?))
+    }
+
+    fn reached(&self, name: &str) -> io::Result<Standing> {
+        Ok(Standing::of(&fs::metadata(&self.rt, name)?))
+    }
+
+    fn met(&self, file: &File) -> io::Result<Standing> {
+        Ok(Standing::of(&file.metadata()?))
+    }
+
+    fn open(&self, name: &str, access: Access) -> io::Result<File> {
+        OpenOptions::new()
+            .read(access != Access::Write)
+            .write(access != Access::Read)
+            .open(&self.rt, name)
+    }
+
+    fn open_folder(&self, name: &str) -> io::Result<File> {
+        File::open(&self.rt, folder_of(name))
     }
 
     fn create_new(&mut self, name: &str) -> io::Result<File> {
@@ -62,9 +85,8 @@ impl Kernel for RealKernel {
         file.sync_all()
     }
 
-    fn sync_folder(&mut self, folder: &str) -> io::Result<()> {
-        let folder = if folder.is_empty() { "." } else { folder };
-        folder_synced(File::open(&self.rt, folder)?.sync_all())
+    fn sync_folder(&mut self, folder: &File) -> io::Result<()> {
+        folder_synced(folder.sync_all())
     }
 
     fn rename(&mut self, from: &str, to: &str) -> io::Result<()> {
@@ -75,7 +97,19 @@ impl Kernel for RealKernel {
         fs::remove_file(&self.rt, name)
     }
 
+    fn remove_folder(&self, name: &str) -> io::Result<()> {
+        fs::remove_dir(&self.rt, name)
+    }
+
     fn lock(&self, file: &File) -> io::Result<()> {
         not_held(file.try_lock())
+    }
+
+    fn give(&self, file: &File, owner: Option<u32>, group: u32) -> io::Result<()> {
+        fchown(file, owner, Some(group))
+    }
+
+    fn set_mode(&self, file: &File, mode: u32) -> io::Result<()> {
+        file.set_permissions(Permissions::from_mode(mode))
     }
 }

@@ -11,7 +11,7 @@ use Rattle.crash_site.specs.Folder.{Folder}
 use Rattle.crash_site.specs.Disk.{Showing, Disk, under, with_draft, entered}
 use Rattle.crash_site.specs.Left.{MayShow}
 use Rattle.kernel_laws.specs.Refines.{as_file, files_of, Within, IsAmong, Refines}
-use Rattle.kernel_laws.specs.Calls.{Begins, BreaksBegin}
+use Rattle.kernel_files.specs.MapCalls.{Begins, BreaksBegin}
 use Rattle.kernel_laws.proofs.Names.{shown, lead_within, may_within, lead_here, may_here, lead_reads, others_read, put_reads, with_new, new_within, new_reads, new_sound, begun_new}
 
 -- what a call has to show: if it returned, and if it failed

@@ -13,7 +13,7 @@ use Rattle.crash_site.specs.Folder.{Folder, if_any, appended}
 use Rattle.crash_site.specs.Disk.{Disk, under, under_some, with_draft}
 use Rattle.crash_site.specs.Left.{MayShow}
 use Rattle.kernel_laws.specs.Refines.{as_file, read_at, files_of, Within, IsAmong, IsFirm, Refines, Begun}
-use Rattle.kernel_laws.specs.Calls.{Appends, BreaksAppend}
+use Rattle.kernel_files.specs.MapCalls.{Appends, BreaksAppend}
 use Rattle.kernel_laws.proofs.Nodes.{sound_loss, sound_lost, sound_synced, synced_firm}
 use Rattle.kernel_laws.proofs.Names.{is_name, not_name, free_at, read_same, put_reads}
 use Rattle.kernel_laws.proofs.Stops.{along_map, along_end, along_append, run_append}
@@ -80,7 +80,7 @@ touched_within d draft i v w in_d anything b t n found h =
 
 -- Its text.
 
-sound_end : (piece : List ℕ) (f : Node) → MayRead f f.bytes → MayRead (with_end piece f) (f.bytes ++ piece)
+pub sound_end : (piece : List ℕ) (f : Node) → MayRead f f.bytes → MayRead (with_end piece f) (f.bytes ++ piece)
 sound_end piece f h =
     let size : length (f.bytes ++ piece) ≡ length f.bytes + length piece = length-append f.bytes piece in
     record {

@@ -40,6 +40,24 @@ rest_inside at size lost = record {
   end = (let e = without_end at size lost in omega (arith, e));
 }
 
+pub sound_piece : (at : ℕ) (piece : List ℕ) (g : Node) → MayRead g g.bytes
+    → MayRead (record g { bytes = written g.bytes at piece; loose = (at, length piece) ∷ g.loose; lost = flat_map (without at (length piece)) g.lost })
+    (written g.bytes at piece)
+sound_piece at piece g h =
+    let size : length (written g.bytes at piece) ≡ max (length g.bytes) (at + length piece) = length-written g.bytes at piece in
+    let short : length g.durable ≤ length g.bytes = h.no_shorter in record {
+      stands = λ x lt. elim (cases_lt x at) [
+        | inl below ↦ ⊎_elim (λ l. inl (inr l))
+            (λ e. inr (written_before g.bytes at piece x below (omega (arith, lt, short)) ∙ e)) (h.stands x lt)
+        | inr le ↦ elim (cases_lt x (at + length piece)) [
+          | inl inside ↦ inl (inl (le, inside))
+          | inr above ↦ ⊎_elim (λ l. inl (inr l)) (λ e. inr (written_after g.bytes at piece x above ∙ e)) (h.stands x lt)
+        ]
+      ];
+      no_shorter = omega (arith, short, size);
+      no_longer = (let k : length g.bytes ≤ max (length g.durable) (loose_end g.loose) = h.no_longer in omega (arith, k, size));
+    }
+
 grown_piece : (pos len at : ℕ) (piece : List ℕ) (f g : Node) → pos ≤ at → at + length piece ≤ pos + len → Grown pos len f g
     → Grown pos len f (with_piece at piece g)
 grown_piece pos len at [] f g low high h = h
@@ -53,24 +71,6 @@ grown_piece pos len at (b ∷ bs) f g low high h =
           (inside_on (flat_map (without at (length piece)) g.lost) g.lost g.loose rest h.ordered);
       sound = sound_piece at piece g h.sound;
     }
-  where
-    sound_piece : (at : ℕ) (piece : List ℕ) (g : Node) → MayRead g g.bytes
-        → MayRead (record g { bytes = written g.bytes at piece; loose = (at, length piece) ∷ g.loose; lost = flat_map (without at (length piece)) g.lost })
-        (written g.bytes at piece)
-    sound_piece at piece g h =
-        let size : length (written g.bytes at piece) ≡ max (length g.bytes) (at + length piece) = length-written g.bytes at piece in
-        let short : length g.durable ≤ length g.bytes = h.no_shorter in record {
-          stands = λ x lt. elim (cases_lt x at) [
-            | inl below ↦ ⊎_elim (λ l. inl (inr l))
-                (λ e. inr (written_before g.bytes at piece x below (omega (arith, lt, short)) ∙ e)) (h.stands x lt)
-            | inr le ↦ elim (cases_lt x (at + length piece)) [
-              | inl inside ↦ inl (inl (le, inside))
-              | inr above ↦ ⊎_elim (λ l. inl (inr l)) (λ e. inr (written_after g.bytes at piece x above ∙ e)) (h.stands x lt)
-            ]
-          ];
-          no_shorter = omega (arith, short, size);
-          no_longer = (let k : length g.bytes ≤ max (length g.durable) (loose_end g.loose) = h.no_longer in omega (arith, k, size));
-        }
 
 pub grown_loss : (pos len at size : ℕ) (f g : Node) → pos ≤ at → at + size ≤ pos + len → Grown pos len f g
     → Grown pos len f (with_loss at size g)

@@ -14,3 +14,5 @@ mod Spares
 mod Images
 mod ImageCalls
 mod Opens
+mod Loses
+mod Asked

@@ -52,7 +52,7 @@ both_among : (b : Bool) (e f : Option ℕ) (es : List (Option ℕ)) → IsAmong 
 both_among true e f es h = inl refl
 both_among false e f es h = h
 
-more_among : (b : Bool) (e f : Option ℕ) (es : List (Option ℕ)) → IsAmong f es → IsAmong f (cond b (e ∷ es) es)
+pub more_among : (b : Bool) (e f : Option ℕ) (es : List (Option ℕ)) → IsAmong f es → IsAmong f (cond b (e ∷ es) es)
 more_among true e f es h = inr h
 more_among false e f es h = h
 

@@ -13,7 +13,8 @@ use Rattle.crash_site.specs.Disk.{Showing, Disk, only, with_opened, under, enter
 use Rattle.crash_site.specs.Left.{MayShow, MatchesFile}
 use Rattle.crash_site.proofs.DiskLemmas.{holds_self}
 use Rattle.kernel_laws.specs.Refines.{as_file, read_at, files_of, Within, IsAmong, IsFirm, DraftIs, Refines, Begun}
-use Rattle.kernel_laws.specs.Calls.{Probes, Syncs, Settles, BreaksSettle}
+use Rattle.kernel_files.specs.MapCalls.{Probes}
+use Rattle.kernel_laws.specs.Calls.{Syncs, Settles, BreaksSettle}
 use Rattle.kernel_laws.proofs.Nodes.{firm_found, new_firm, sound_lost, sound_synced, synced_firm}
 use Rattle.kernel_laws.proofs.Names.{is_name, not_name, shown, lead_within, may_within, lead_here, may_here, finds_here, free_at, free_more, whole_found, finds_less, either_node, read_bytes, lead_reads, others_read, put_reads, with_new, new_within, new_reads, new_sound}
 use Rattle.kernel_laws.proofs.Stops.{along_append, run_append}
@@ -207,6 +208,18 @@ module _ (v : Volume) (d : Disk) (o : Option ℕ) (name : List ℕ) (r : Refines
         here = may_here own (Some i) (with_new i v) r.here;
         sound = new_sound i v r.sound;
         draft = draft_on v (step_part (create own i) v) d (entered d (Failed (map_settle name) 0)) o r.draft refl refl (λ n j is e. e) (any_on v d o own r) (made_free v d o own r absent i new) (node_on v d o own r absent i new);
+      },
+    )
+
+    pub fails_left : Fails v d (map_settle name) 1 (Did (create own i) ∷ []) o
+    fails_left = (
+      (trial_within v d o own r, half_made v d o own r absent i new, made_within v d o own r absent i new),
+      record {
+        shows = made_within v d o own r absent i new;
+        reads = λ n. ap (λ (files : List ℕ → Option File). files n) (opened_files v d o own r absent i new (d.reads.files own) (nothing_reads v d o own r absent i new)) ∙ made_reads v d o own r absent i new n;
+        here = lead_here own (Some i) (with_new i v) r.here;
+        sound = new_sound i v r.sound;
+        draft = draft_on v (after_step (create own i) v) d (entered d (Failed (map_settle name) 1)) o r.draft refl refl (λ n j is e. made_names v d o own r absent i new n j e) (any_on v d o own r) (made_free v d o own r absent i new) (node_on v d o own r absent i new);
       },
     )
 
@@ -489,8 +502,10 @@ module _ (v : Volume) (d : Disk) (o : Option ℕ) (name : List ℕ) (r : Refines
       (q.shows, record { shows = q.shows; reads = q.reads; here = q.here; sound = q.sound; draft = q.draft })
   breaks_settle k steps es (inr (inl (absent, i, new, inl h))) =
       by_steps steps 0 es (Broke (create (draft_of name) i) ∷ []) h.0 h.1 (fails_unmade v d o name r absent i new)
-  breaks_settle k steps es (inr (inl (absent, i, new, inr h))) =
-      by_steps steps 1 es (Did (create (draft_of name) i) ∷ Broke (unlink (draft_of name)) ∷ []) h.0 h.1
+  breaks_settle k steps es (inr (inl (absent, i, new, inr (once, inl is)))) =
+      by_steps steps 1 es (Did (create (draft_of name) i) ∷ []) once is (fails_left v d o name r absent i new)
+  breaks_settle k steps es (inr (inl (absent, i, new, inr (once, inr is)))) =
+      by_steps steps 1 es (Did (create (draft_of name) i) ∷ Broke (unlink (draft_of name)) ∷ []) once is
       (fails_kept v d o name r absent i new)
   breaks_settle k steps es (inr (inr (probe, zero_steps, probes, inl is))) =
       let p : Probed v d o name r probe = probed v d o name r probe probes in

@@ -7,7 +7,8 @@ use Rattle.kernel_files.proofs.Volumes.{node_other, names_other, may_other}
 use Rattle.crash_site.specs.Files.{draft_of}
 use Rattle.crash_site.specs.Disk.{Showing, Disk, newest, lost_in}
 use Rattle.kernel_laws.specs.Refines.{IsAmong, Begun, Inside, IsCovered, Imaged}
-use Rattle.kernel_laws.specs.Calls.{Begins, Appends, Probes, Syncs, Settles, BreaksBegin, BreaksAppend, BreaksSettle}
+use Rattle.kernel_files.specs.MapCalls.{Begins, Appends, BreaksBegin, BreaksAppend, Probes}
+use Rattle.kernel_laws.specs.Calls.{Syncs, Settles, BreaksSettle}
 use Rattle.kernel_laws.proofs.Names.{free_at, free_more, lead_here, may_here}
 use Rattle.kernel_laws.proofs.Settles.{one_among, one_free}
 use Rattle.kernel_laws.proofs.Covers.{covered_same}
@@ -230,8 +231,10 @@ module _ (name : List ℕ) (i : ℕ) (v : Volume) (d : Disk) (m : Imaged name i 
   settle_avoids n steps es apart (inl h) = subst (AvoidsAll name i) (sym h.1) tt
   settle_avoids n steps es apart (inr (inl (absent, j, new, inl h))) =
       subst (AvoidsAll name i) (sym h.1) ((absent_else (draft_of n) absent, new_else v j named new), tt)
-  settle_avoids n steps es apart (inr (inl (absent, j, new, inr h))) =
-      subst (AvoidsAll name i) (sym h.1)
+  settle_avoids n steps es apart (inr (inl (absent, j, new, inr (once, inl is)))) =
+      subst (AvoidsAll name i) (sym is) ((absent_else (draft_of n) absent, new_else v j named new), tt)
+  settle_avoids n steps es apart (inr (inl (absent, j, new, inr (once, inr is)))) =
+      subst (AvoidsAll name i) (sym is)
       ((absent_else (draft_of n) absent, new_else v j named new), (absent_else (draft_of n) absent, tt))
   settle_avoids n steps es apart (inr (inr (probe, zero_steps, probes, inl is))) =
       subst (AvoidsAll name i) (sym is) (avoids_append name i probe [] (probes_avoid n probe probes) tt)

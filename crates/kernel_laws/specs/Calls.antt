@@ -1,29 +1,11 @@
 -- The system calls that each call of a site makes.
 use Rattle.std.specs.Prelude.{◌≡◌, ◌⊎◌, ℕ, ◌+◌, ◌≤◌, Bool, true, false, List, [], ◌∷◌, ◌++◌, length, take, Option, Some, None}
-use Rattle.kernel_files.specs.Volume.{Volume, create, write, append, sync_file, rename, unlink, sync_folder, Entry as Step, Done as Did, Failed as Broke, after_done as after_step, folder_of, IsNew}
+use Rattle.kernel_files.specs.Volume.{Volume, create, write, sync_file, rename, unlink, sync_folder, Entry as Step, Done as Did, Failed as Broke, folder_of, IsNew}
+use Rattle.kernel_files.specs.MapCalls.{Begins, Appends, Probes, BreaksBegin, BreaksAppend}
 use Rattle.crash_site.specs.Files.{draft_of}
 use Rattle.crash_site.specs.Calls.{Call, Entry, Done, Failed, image_open, image_read, image_write, image_sync, map_read, draft_begin, draft_append, draft_sync, draft_publish, map_settle, map_remove}
 use Rattle.crash_site.specs.Folder.{Folder}
 use Rattle.kernel_laws.specs.Refines.{IsFirm, Begun}
-
--- a file is made under a name, of which an older one is removed first
-abbrev pub Begins : Volume → List ℕ → ℕ → List Step → Type 0
-Begins v name i es =
-    ((v.names name ≡ None) × IsNew v i × (es ≡ Did (create name i) ∷ []))
-    ⊎ (IsNew (after_step (unlink name) v) i × (es ≡ Did (unlink name) ∷ Did (create name i) ∷ []))
-
--- a piece is written, by one call or by several short ones
-abbrev pub Appends : ℕ → List ℕ → List Step → Type 0
-Appends i piece [] = piece ≡ []
-Appends i piece (Did (append j p) ∷ es) =
-    (rest : List ℕ) × (j ≡ i) × (piece ≡ p ++ rest) × Appends i rest es
-Appends i piece (e ∷ es) = ⊥
-
--- whether a draft could be made is tried out, or known
-abbrev pub Probes : Volume → List ℕ → List Step → Type 0
-Probes v name es = (es ≡ [])
-    ⊎ ((v.names (draft_of name) ≡ None) × (i : ℕ) × IsNew v i
-    × (es ≡ Did (create (draft_of name) i) ∷ Did (unlink (draft_of name)) ∷ []))
 
 -- The folder of a name is synced, and then the file, if there is one. No sync of the file has failed, and no write.
 abbrev pub Syncs : Volume → List ℕ → Option ℕ → List Step → Type 0
@@ -101,22 +83,6 @@ BreaksSync d (Some i) es = (name : List ℕ) × (d.image ≡ Some name)
     × ((es ≡ []) ⊎ ((es ≡ Broke (sync_file i) ∷ []) ⊎ ((es ≡ Did (sync_file i) ∷ [])
     ⊎ (es ≡ Did (sync_file i) ∷ Broke (sync_folder (folder_of name)) ∷ []))))
 
--- a begin that failed: before it removed anything, before it made the draft, or after that
-abbrev pub BreaksBegin : Volume → List ℕ → ℕ → List Step → Type 0
-BreaksBegin v name steps es =
-    ((steps ≡ 0) × (es ≡ []))
-    ⊎ (((steps ≡ 0) × (es ≡ Broke (unlink name) ∷ []))
-    ⊎ (((steps ≡ 1) × (es ≡ Did (unlink name) ∷ []))
-    ⊎ (((i : ℕ) × (steps ≡ 1) × IsNew (after_step (unlink name) v) i
-    × (es ≡ Did (unlink name) ∷ Broke (create name i) ∷ []))
-    ⊎ (((i : ℕ) × (steps ≡ 0) × IsNew v i × (es ≡ Broke (create name i) ∷ []))
-    ⊎ ((i : ℕ) × (steps ≡ 2) × Begins v name i es)))))
-
--- an append that failed: it took `steps` bytes, by calls of which the last may have failed
-abbrev pub BreaksAppend : ℕ → List ℕ → ℕ → List Step → Type 0
-BreaksAppend i piece steps es = (front : List Step) × Appends i (take steps piece) front
-    × ((es ≡ front) ⊎ ((rest : List ℕ) × (es ≡ front ++ Broke (append i rest) ∷ [])))
-
 -- a settle that failed: at its first calls, at the removal of the empty draft, which it then leaves, or at a sync, which
 -- isn't that of the open image
 abbrev pub BreaksSettle : Volume → (k : Option ℕ) → List ℕ → ℕ → List Step → Type 0
@@ -124,7 +90,8 @@ BreaksSettle v k name steps es =
     ((steps ≡ 0) × (es ≡ []))
     ⊎ (((v.names (draft_of name) ≡ None) × (i : ℕ) × IsNew v i
     × (((steps ≡ 0) × (es ≡ Broke (create (draft_of name) i) ∷ []))
-    ⊎ ((steps ≡ 1) × (es ≡ Did (create (draft_of name) i) ∷ Broke (unlink (draft_of name)) ∷ []))))
+    ⊎ ((steps ≡ 1) × ((es ≡ Did (create (draft_of name) i) ∷ [])
+    ⊎ (es ≡ Did (create (draft_of name) i) ∷ Broke (unlink (draft_of name)) ∷ [])))))
     ⊎ ((probe : List Step) × (steps ≡ 0) × Probes v name probe
     × ((es ≡ probe ++ [])
     ⊎ ((es ≡ probe ++ Broke (sync_folder (folder_of name)) ∷ [])

@@ -1,3 +1,5 @@
 pub mod Refines
 pub mod Calls
 pub mod Laws
+pub mod Loses
+pub mod Asked

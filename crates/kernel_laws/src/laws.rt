@@ -1,5 +1,7 @@
 //! The laws.
+ghost use Rattle.kernel_laws.specs.Asked.{SettleIsAsAsked, FailedSettleIsAsAsked};
 ghost use Rattle.kernel_laws.specs.Laws.{EachCallRefines, EachFailureRefines, EachStopRefines, EachEndRefines, SavedTextIsLeft, SyncedImageIsLeft, RetriedSettleIsNotRefined};
+ghost use Rattle.kernel_laws.specs.Loses.{ReadFilesMayBeFound, OldNameMayBeFound, UnsyncedWriteMayBeMissing, UnsyncedPieceMayBeAny, UnsyncedEndMayBeAny, LostPieceMayBeAny};
 
 /// Each call of a site that returned keeps the refinement.
 pub fn each_call_refines()
@@ -34,4 +36,44 @@ pub fn synced_image_is_left()
 /// A settle after a failed sync of its file may leave what the site's model denies.
 pub fn retried_settle_is_not_refined()
     ensures { RetriedSettleIsNotRefined }
+{}
+
+/// The files as they read are one outcome.
+pub fn read_files_may_be_found()
+    ensures { ReadFilesMayBeFound }
+{}
+
+/// What a name had at first may be found until its folder is synced.
+pub fn old_name_may_be_found()
+    ensures { OldNameMayBeFound }
+{}
+
+/// A write that isn't synced may be missing.
+pub fn unsynced_write_may_be_missing()
+    ensures { UnsyncedWriteMayBeMissing }
+{}
+
+/// A piece that isn't synced may be found as any other.
+pub fn unsynced_piece_may_be_any()
+    ensures { UnsyncedPieceMayBeAny }
+{}
+
+/// What was added at a file's end and isn't synced may be found as any other piece.
+pub fn unsynced_end_may_be_any()
+    ensures { UnsyncedEndMayBeAny }
+{}
+
+/// What a failed sync lost may be found as any other piece, however often the file is synced.
+pub fn lost_piece_may_be_any()
+    ensures { LostPieceMayBeAny }
+{}
+
+/// The contract of a settle gives what the laws ask of it.
+pub fn settle_is_as_asked()
+    ensures { SettleIsAsAsked }
+{}
+
+/// The contract of a settle gives what the laws ask of one that failed.
+pub fn failed_settle_is_as_asked()
+    ensures { FailedSettleIsAsAsked }
 {}

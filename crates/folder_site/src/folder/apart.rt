@@ -3,7 +3,7 @@ use crate::folder::image::OpenImage;
 use kernel_devices::devices::{find_under, find_under_open};
 use kernel_devices::identity::{Identity, OpenInput};
 use kernel_devices::names::folder_of;
-use std::fs::{File, Metadata};
+use std::fs::File;
 use std::io::{self, ErrorKind};
 
 /// The files that no mapfile and no draft may be: the open input and the open image.
@@ -20,8 +20,7 @@ impl<'a> Apart<'a> {
     }
 
     /// Refuses a file that is the input or the image under another name.
-    pub fn check(&self, found: &Metadata) -> io::Result<()> {
-        let identity = Identity::of(found);
+    pub fn check(&self, identity: Identity) -> io::Result<()> {
         check_input(self.input, identity)?;
         match self.image {
             Some(image) if image.identity == identity => Err(ErrorKind::ResourceBusy.into()),

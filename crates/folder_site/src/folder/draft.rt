@@ -1,39 +1,104 @@
 //! The draft of a mapfile: begun, appended to, synced, renamed.
+ghost use Rattle.std.specs.Prelude.{◌≡◌, ◌≤◌, length, string_bytes, OnOk, OnErr, IfOk};
+ghost use Rattle.kernel_files.specs.Volume.{unlink, sync_file, rename};
+ghost use Rattle.kernel_files.specs.Answers.{volume, Made};
+ghost use Rattle.kernel_files.specs.Steps.{MadeBy, IsBroken};
+ghost use Rattle.kernel_files.specs.MapCalls.{Begins, Appends, Removes};
+ghost use Rattle.folder_site.specs.Drafts.{BreaksBeginAt, BreaksAppendAt, AppendsOne, BreaksOne};
+
 use crate::folder::apart::Apart;
 use crate::folder::held::{HeldMap, check_free, check_map_free};
 use crate::folder::mapfile::find_map;
-use crate::folder::names::make_new;
+use crate::folder::names::find;
 use kernel_devices::identity::Identity;
-use real_files::file_cursor::put;
-use real_files::outcome::{if_there, not_held};
-use std::fs::{self, File, Metadata, Permissions};
+use kernel_files::kernel::Kernel;
+use kernel_files::standing::Standing;
+use std::alloc::Global;
 use std::io::{self, ErrorKind};
-use std::os::unix::fs::{MetadataExt, PermissionsExt, fchown};
 
 /// The bits of a mode that say who may read, write and run a file.
 const RIGHTS: u32 = 0o777;
 
 /// A begun draft under its own name. It is locked.
 #[derive(Drop)]
-pub(super) struct OpenDraft {
-    file: File,
+pub(super) struct OpenDraft<K: Kernel> {
+    file: K::Open,
     name: String,
     identity: Identity,
 }
 
-impl OpenDraft {
+/// Frees a draft's name. A file that has it loses it; a folder keeps it, and so does the draft of another run.
+fn clear_name<K: Kernel>(kernel: &mut K, apart: &Apart<'_>, name: &str) -> io::Result<()>
+    ensures ok { OnOk result (MadeBy (Removes (volume (K.told kernel.old)) name.now)
+        (K.told kernel.old) (K.told kernel.new)) }
+    ensures err { OnErr result (MadeBy (IsBroken (unlink name.now)) (K.told kernel.old) (K.told kernel.new)) }
+{
+    match find(kernel, name)? {
+        Some(found) => {
+            apart.check(found.identity)?;
+            check_free(kernel, name, &found)?;
+            kernel.unlink(name)
+        }
+        None => Ok(()),
+    }
+}
+
+/// Writes some front of a piece at a file's end, and gives the rest. A write that is interrupted wrote nothing, and one
+/// that takes nothing is an error.
+fn append_some<'a, K: Kernel>(
+    kernel: &mut K,
+    file: &K::Open,
+    piece: &'a [u8],
+) -> io::Result<&'a [u8]>
+    ensures ok { IfOk result (λ rest. MadeBy (AppendsOne (K.number file.now) piece.now rest.now)
+        (K.told kernel.old) (K.told kernel.new)) }
+    ensures err { OnErr result (MadeBy (BreaksOne (K.number file.now)) (K.told kernel.old) (K.told kernel.new)) }
+{
+    match kernel.append(file, piece) {
+        Ok(0) => Err(ErrorKind::WriteZero.into()),
+        Ok(count) => Ok(&piece[count..]),
+        Err(error) if error.kind() == ErrorKind::Interrupted => Ok(piece),
+        Err(error) => Err(error),
+    }
+}
+
+/// Adds a piece at a file's end, whole.
+fn append_all<K: Kernel>(kernel: &mut K, file: &K::Open, piece: &[u8]) -> io::Result<()>
+    ensures ok { OnOk result (MadeBy (Appends (K.number file.now) piece.now)
+        (K.told kernel.old) (K.told kernel.new)) }
+    ensures err { OnErr result (MadeBy (BreaksAppendAt (K.number file.now) piece.now)
+        (K.told kernel.old) (K.told kernel.new)) }
+{
+    let mut rest = piece;
+    for _ in 0..u64::MAX {
+        if rest.is_empty() {
+            return Ok(());
+        }
+        rest = append_some(kernel, file, rest)?;
+    }
+    Err(ErrorKind::TimedOut.into())
+}
+
+impl<K: Kernel> OpenDraft<K> {
     /// Makes a new file. A file that had its name loses that name; a folder keeps it, and so does the draft of another
     /// run.
-    pub fn begin(rt: &HostRuntime, apart: &Apart<'_>, name: &str) -> io::Result<OpenDraft> {
-        if let Some(found) = if_there(fs::symlink_metadata(rt, name))? {
-            apart.check(&found)?;
-            check_free(rt, name, &found)?;
-            fs::remove_file(rt, name)?;
-        }
-        let copy = String::from_str(rt.alloc(), name)?;
-        let file = make_new(rt, name)?;
-        not_held(file.try_lock())?;
-        let identity = Identity::of(&file.metadata()?);
+    pub fn begin(
+        kernel: &mut K,
+        alloc: Global,
+        apart: &Apart<'_>,
+        name: &str,
+    ) -> io::Result<OpenDraft<K>>
+        ensures ok { IfOk result (λ draft. MadeBy (Begins (volume (K.told kernel.old)) name.now (K.number draft.file))
+            (K.told kernel.old) (K.told kernel.new)) }
+        ensures name { IfOk result (λ draft. string_bytes draft.name ≡ name.now) }
+        ensures err { OnErr result (MadeBy (BreaksBeginAt (volume (K.told kernel.old)) name.now)
+            (K.told kernel.old) (K.told kernel.new)) }
+    {
+        clear_name(kernel, apart, name)?;
+        let copy = String::from_str(alloc, name)?;
+        let file = kernel.create_new(name)?;
+        kernel.lock(&file)?;
+        let identity = kernel.met(&file)?.identity;
         Ok(OpenDraft {
             file,
             name: copy,
@@ -42,48 +107,61 @@ impl OpenDraft {
     }
 
     /// Adds a piece at the draft's end.
-    pub fn append(&self, piece: &[u8]) -> io::Result<()> {
-        let mut file = &self.file;
-        put(&mut file, piece)
+    pub fn append(&self, kernel: &mut K, piece: &[u8]) -> io::Result<()>
+        ensures ok { OnOk result (MadeBy (Appends (K.number self.now.file) piece.now)
+            (K.told kernel.old) (K.told kernel.new)) }
+        ensures err { OnErr result (MadeBy (BreaksAppendAt (K.number self.now.file) piece.now)
+            (K.told kernel.old) (K.told kernel.new)) }
+    {
+        append_all(kernel, &self.file, piece)
     }
 
     /// Makes the draft's bytes durable.
-    pub fn sync(&self) -> io::Result<()> {
-        self.file.sync_all()
+    pub fn sync(&self, kernel: &mut K) -> io::Result<()>
+        ensures { Made (sync_file (K.number self.now.file)) result (K.told kernel.old) (K.told kernel.new) }
+    {
+        kernel.sync_file(&self.file)
     }
 
-    /// Renames the draft, if it still has its name, to a mapfile that stays locked. The mode and the owner of a mapfile
-    /// that is there go over to it; what is no regular file, such as a device, keeps its name, and so does a mapfile
-    /// that another run has locked.
-    pub fn publish(
-        self,
-        rt: &HostRuntime,
+    /// Gives the draft the mode and the owner of a mapfile that is there. What is no regular file, such as a device,
+    /// keeps its name, and so does a mapfile that another run has locked. The draft has to have its name still.
+    fn prepare(
+        &self,
+        kernel: &K,
         apart: &Apart<'_>,
-        held: &Option<HeldMap>,
+        held: &Option<HeldMap<K>>,
         name: &str,
-    ) -> io::Result<HeldMap> {
-        let OpenDraft {
-            file,
-            name: draft,
-            identity,
-        } = self;
-        if let Some(found) = find_map(rt, apart, name)? {
-            check_map_free(rt, held, name, &found)?;
-            keep_rights(&file, &found);
+    ) -> io::Result<()> {
+        if let Some(found) = find_map(kernel, apart, name)? {
+            check_map_free(kernel, held, name, &found)?;
+            keep_rights(kernel, &self.file, &found);
         }
-        let standing = fs::symlink_metadata(rt, draft.as_str())?;
-        if Identity::of(&standing) != identity {
+        if kernel.found(self.name.as_str())?.identity != self.identity {
             return Err(ErrorKind::AlreadyExists.into());
         }
-        fs::rename(rt, draft.as_str(), name)?;
-        Ok(HeldMap::keep(file, identity))
+        Ok(())
+    }
+
+    /// Renames the draft to a mapfile that stays locked.
+    pub fn publish(
+        self,
+        kernel: &mut K,
+        apart: &Apart<'_>,
+        held: &Option<HeldMap<K>>,
+        name: &str,
+    ) -> io::Result<HeldMap<K>>
+        ensures { Made (rename (string_bytes self.name) name.now) result (K.told kernel.old) (K.told kernel.new) }
+    {
+        self.prepare(kernel, apart, held, name)?;
+        kernel.rename(self.name.as_str(), name)?;
+        Ok(HeldMap::keep(self.file, self.identity))
     }
 }
 
 /// Gives a file the mode of another, and its owner and group as far as the kernel allows.
-fn keep_rights(file: &File, old: &Metadata) {
-    if fchown(file, Some(old.uid()), Some(old.gid())).is_err() {
-        let _ = fchown(file, None, Some(old.gid()));
+fn keep_rights<K: Kernel>(kernel: &K, file: &K::Open, old: &Standing) {
+    if kernel.give(file, Some(old.owner), old.group).is_err() {
+        let _ = kernel.give(file, None, old.group);
     }
-    let _ = file.set_permissions(Permissions::from_mode(old.mode() & RIGHTS));
+    let _ = kernel.set_mode(file, old.mode & RIGHTS);
 }

@@ -1,5 +1,10 @@
 //! The folder that holds a file, and its sync.
+ghost use Rattle.std.specs.Prelude.{◌≡◌, Some, None, IsNone, IsTrue, IfOk};
+ghost use Rattle.kernel_files.specs.Answers.{volume};
+
 use kernel_devices::names::folder_of;
+use kernel_files::kernel::Kernel;
+use kernel_files::standing::{Access, Standing};
 use real_files::outcome::{folder_synced, if_allowed};
 use std::fs::{self, File, OpenFile, OpenOptions};
 use std::io::{self, ErrorKind};
@@ -43,10 +48,39 @@ pub(super) fn open_with(rt: &HostRuntime, rights: &OpenOptions, name: &str) -> i
     }
 }
 
-/// Makes a new file. If the name has one already, it fails.
-pub(super) fn make_new(rt: &HostRuntime, name: &str) -> io::Result<File> {
-    OpenOptions::new()
-        .write(true)
-        .create_new(true)
-        .open(rt, name)
+/// Opens a file for this, or, if that isn't granted, only to write it.
+pub(super) fn open_as<K: Kernel>(kernel: &K, name: &str, access: Access) -> io::Result<K::Open>
+    ensures { IfOk result (λ file. IsTrue (K.told kernel.now).tells
+        → (volume (K.told kernel.now)).names name.now ≡ Some (K.number file)) }
+{
+    match kernel.open(name, access) {
+        Err(error) if error.kind() == ErrorKind::PermissionDenied => {
+            kernel.open(name, Access::Write)
+        }
+        outcome => outcome,
+    }
+}
+
+/// What has a name, if anything has it. A link is not followed.
+pub(super) fn find<K: Kernel>(kernel: &K, name: &str) -> io::Result<Option<Standing>>
+    ensures { IfOk result (λ found. IsNone found → IsTrue (K.told kernel.now).tells
+        → (volume (K.told kernel.now)).names name.now ≡ None) }
+{
+    match kernel.found(name) {
+        Ok(standing) => Ok(Some(standing)),
+        Err(error) if error.kind() == ErrorKind::NotFound => Ok(None),
+        Err(error) => Err(error),
+    }
+}
+
+/// What a name reaches, if it reaches anything.
+pub(super) fn find_reached<K: Kernel>(kernel: &K, name: &str) -> io::Result<Option<Standing>>
+    ensures { IfOk result (λ found. IsNone found → IsTrue (K.told kernel.now).tells
+        → (volume (K.told kernel.now)).names name.now ≡ None) }
+{
+    match kernel.reached(name) {
+        Ok(standing) => Ok(Some(standing)),
+        Err(error) if error.kind() == ErrorKind::NotFound => Ok(None),
+        Err(error) => Err(error),
+    }
 }

@@ -1,77 +1,139 @@
 //! The settle: the sync of a mapfile's folder, which makes a rename or a removal durable.
+ghost use Rattle.std.specs.Prelude.{◌≡◌, OnOk, OnErr};
+ghost use Rattle.kernel_files.specs.Volume.{sync_folder, folder_of};
+ghost use Rattle.kernel_files.specs.Answers.{volume, Made};
+ghost use Rattle.kernel_files.specs.Steps.{MadeBy};
+ghost use Rattle.kernel_files.specs.MapCalls.{Tries, Probes, SyncsFound, SettlesFound, BreaksTry, BreaksSyncs, BreaksSettles};
+ghost use Rattle.folder_site.specs.Settles.{BreaksProbes, SyncsReached, BreaksReached};
+
 use crate::folder::apart::Apart;
 use crate::folder::held::{HeldMap, check_free, hold_map};
 use crate::folder::mapfile::find_map;
-use crate::folder::names::{folder_for, make_new, open_with, sync_entries};
-use kernel_devices::names::folder_of;
-use real_files::outcome::{if_there, removable};
-use std::fs::{self, File, OpenOptions};
+use crate::folder::names::{find, folder_for, open_as, sync_entries};
+use kernel_files::kernel::Kernel;
+use kernel_files::standing::{Access, Kind};
+use real_files::outcome::removable;
 use std::io::{self, ErrorKind};
 
 /// Makes the entries of a mapfile's folder durable, and then the mapfile itself if it is there. A saved draft was
 /// synced before its rename, so that its name alone can still be lost. Locks the mapfile first; and if more saves are
 /// to come, asks whether it can be saved, and before the first one whether it lies on the input.
-pub(super) fn settle(
+pub(super) fn settle<K: Kernel>(
     rt: &HostRuntime,
+    kernel: &mut K,
     apart: &Apart<'_>,
-    held: &mut Option<HeldMap>,
+    held: &mut Option<HeldMap<K>>,
     name: &str,
     saves: bool,
-) -> io::Result<()> {
+) -> io::Result<()>
+    ensures ok { OnOk result (MadeBy (SettlesFound (volume (K.told kernel.old)) name.now)
+        (K.told kernel.old) (K.told kernel.new)) }
+    ensures err { OnErr result (MadeBy (BreaksSettles (volume (K.told kernel.old)) name.now)
+        (K.told kernel.old) (K.told kernel.new)) }
+{
     if saves && held.is_none() {
         apart.check_folder(rt, name)?;
     }
-    hold_map(rt, apart, held, name)?;
-    if saves {
-        ask_for_saves(rt, apart, name)?;
+    hold_map(kernel, apart, held, name)?;
+    ask_for_saves(rt, kernel, apart, name, saves)?;
+    sync_map(rt, kernel, apart, name)
+}
+
+/// Makes the entries of a mapfile's folder durable, and then the file that has its name.
+fn sync_map<K: Kernel>(
+    rt: &HostRuntime,
+    kernel: &mut K,
+    apart: &Apart<'_>,
+    name: &str,
+) -> io::Result<()>
+    ensures ok { OnOk result (MadeBy (SyncsFound name.now ((volume (K.told kernel.old)).names name.now))
+        (K.told kernel.old) (K.told kernel.new)) }
+    ensures err { OnErr result (MadeBy (BreaksSyncs name.now ((volume (K.told kernel.old)).names name.now))
+        (K.told kernel.old) (K.told kernel.new)) }
+{
+    let found = find_map(kernel, apart, name)?;
+    sync_folder_of(kernel, name)?;
+    match found {
+        Some(_) => sync_reached(rt, kernel, name),
+        None => Ok(()),
     }
-    let found = find_map(rt, apart, name)?;
-    sync_entries(&File::open(rt, folder_of(name))?)?;
-    if found.is_some() {
-        settle_reached(rt, name)?;
-    }
-    Ok(())
+}
+
+/// Makes the entries of a name's folder durable.
+fn sync_folder_of<K: Kernel>(kernel: &mut K, name: &str) -> io::Result<()>
+    ensures { Made (sync_folder (folder_of name.now)) result (K.told kernel.old) (K.told kernel.new) }
+{
+    let folder = kernel.open_folder(name)?;
+    kernel.sync_folder(&folder)
 }
 
 /// Makes the file durable that a name reaches, and before it, if the name is a link, the entry to which it leads, which
 /// may lie in another folder.
-fn settle_reached(rt: &HostRuntime, name: &str) -> io::Result<()> {
-    let mut rights = OpenOptions::new();
-    rights.read(true);
-    let file = open_with(rt, &rights, name)?;
-    if fs::symlink_metadata(rt, name)?.is_symlink() {
+fn sync_reached<K: Kernel>(rt: &HostRuntime, kernel: &mut K, name: &str) -> io::Result<()>
+    ensures ok { OnOk result (MadeBy (SyncsReached (volume (K.told kernel.old)) name.now)
+        (K.told kernel.old) (K.told kernel.new)) }
+    ensures err { OnErr result (MadeBy (BreaksReached (volume (K.told kernel.old)) name.now)
+        (K.told kernel.old) (K.told kernel.new)) }
+{
+    let file = open_as(kernel, name, Access::Read)?;
+    if kernel.found(name)?.kind == Kind::Link {
         if let Some(folder) = folder_for(rt, name, false)? {
             sync_entries(&folder)?;
         }
     }
-    file.sync_all()
+    kernel.sync_file(&file)
 }
 
-/// Whether a draft could be made beside a mapfile, and take its place. No file that is there is lost.
-fn ask_for_saves(rt: &HostRuntime, apart: &Apart<'_>, name: &str) -> io::Result<()> {
-    let draft = format!(in rt.alloc(); "{name}.tmp")?;
-    match if_there(fs::symlink_metadata(rt, draft.as_str()))? {
-        None => {
-            make_new(rt, draft.as_str())?;
-            fs::remove_file(rt, draft.as_str())?;
-        }
-        Some(found) => {
-            apart.check(&found)?;
-            check_free(rt, draft.as_str(), &found)?;
-            ask_for_removal(rt, draft.as_str())?;
-        }
+/// Whether a draft could be made beside a mapfile, and take its place, if there are to be any. No file that is there is
+/// lost.
+fn ask_for_saves<K: Kernel>(
+    rt: &HostRuntime,
+    kernel: &mut K,
+    apart: &Apart<'_>,
+    name: &str,
+    saves: bool,
+) -> io::Result<()>
+    ensures ok { OnOk result (MadeBy (Probes (volume (K.told kernel.old)) name.now)
+        (K.told kernel.old) (K.told kernel.new)) }
+    ensures err { OnErr result (MadeBy (BreaksProbes (volume (K.told kernel.old)) name.now)
+        (K.told kernel.old) (K.told kernel.new)) }
+{
+    if !saves {
+        return Ok(());
     }
-    if if_there(fs::symlink_metadata(rt, name))?.is_some() {
-        ask_for_removal(rt, name)?;
+    let draft = format!(in rt.alloc(); "{name}.tmp")?;
+    probe(kernel, apart, draft.as_str())?;
+    if find(kernel, name)?.is_some() {
+        ask_for_removal(kernel, name)?;
     }
     Ok(())
 }
 
+/// Whether a draft could be made under a name, and removed.
+fn probe<K: Kernel>(kernel: &mut K, apart: &Apart<'_>, draft: &str) -> io::Result<()>
+    ensures ok { OnOk result (MadeBy (Tries (volume (K.told kernel.old)) draft.now)
+        (K.told kernel.old) (K.told kernel.new)) }
+    ensures err { OnErr result (MadeBy (BreaksTry (volume (K.told kernel.old)) draft.now)
+        (K.told kernel.old) (K.told kernel.new)) }
+{
+    match find(kernel, draft)? {
+        None => {
+            kernel.create_new(draft)?;
+            kernel.unlink(draft)
+        }
+        Some(found) => {
+            apart.check(found.identity)?;
+            check_free(kernel, draft, &found)?;
+            ask_for_removal(kernel, draft)
+        }
+    }
+}
+
 /// Whether the file that has a name could be removed. The kernel looks at the rights first and then refuses to remove
 /// as a folder what is none.
-fn ask_for_removal(rt: &HostRuntime, name: &str) -> io::Result<()> {
-    if fs::symlink_metadata(rt, name)?.is_dir() {
+fn ask_for_removal<K: Kernel>(kernel: &K, name: &str) -> io::Result<()> {
+    if kernel.found(name)?.kind == Kind::Folder {
         return Err(ErrorKind::IsADirectory.into());
     }
-    removable(fs::remove_dir(rt, name))
+    removable(kernel.remove_folder(name))
 }

@@ -9,5 +9,5 @@ invariant_of-self c = record {
   counts = counts_kept c.args.self.now.made (Unlink c.in-Ok.copied) c.list.result c.args.self.now.log.items c.list.new.log.items refl c.list.ensures.ok c.list.ensures.err c.args.self.now.counts;
 }
 
-pub returns : goal.returns
-returns c = made_act (unlink c.args.name.now) (Unlink c.in-Ok.copied) c.list.result c.args.self.now.log.items c.list.new.log.items (ap (λ (n : List ℕ). unlink n) (c.in-Ok.ensures.items ∙ c.as_bytes.ensures.value)) c.list.ensures.ok c.list.ensures.err
+pub returns-clause-made : goal.returns-clause-made
+returns-clause-made c = made_act (unlink c.args.name.now) (Unlink c.in-Ok.copied) c.list.result c.args.self.now.log.items c.list.new.log.items (ap (λ (n : List ℕ). unlink n) (c.in-Ok.ensures.items ∙ c.as_bytes.ensures.value)) c.list.ensures.ok c.list.ensures.err
