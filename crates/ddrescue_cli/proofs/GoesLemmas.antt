@@ -9,9 +9,8 @@ use Rattle.crash_site.specs.Files.{File, file_named}
 use Rattle.crash_site.specs.Calls.{Call, Entry, Done as Returned, image_open, image_sync, map_settle}
 use Rattle.crash_site.specs.CallsMade.{Lost, BrokeAt}
 use Rattle.crash_site.specs.Left.{MayBeLeft}
-use Rattle.save_resume.specs.MapNames.{MapNames, names_of}
-use Rattle.save_resume.specs.Loading.{BeginsLoad, IsLoad}
-use Rattle.save_resume.specs.Resuming.{barrier_calls}
+use Rattle.mapfile_save.specs.MapNames.{MapNames, names_of}
+use Rattle.mapfile_save.specs.Loading.{BeginsLoad, IsLoad, barrier_calls}
 use Rattle.rescue_rules.specs.declared.stop.RunEnd.{RunEnd}
 use Rattle.rescue_rules.specs.Setting.{Setting}
 use Rattle.rescue_rules.specs.Start.{Stands}
@@ -25,7 +24,7 @@ use Rattle.task_files.specs.declared.ending.Which.{Which}
 use Rattle.task_files.specs.declared.ending.Which.TheVariants.{DomainMap, TestMap}
 use Rattle.ddrescue_words.specs.declared.options.Options.{Options}
 use Rattle.ddrescue_words.specs.Command.{Command}
-use Rattle.save_resume.specs.Named.{map_mode}
+use Rattle.mapfile_resume.specs.Named.{map_mode}
 use Rattle.task_files.specs.Refusals.{MapfileRefused, PlacesRefused}
 use Rattle.program_promise.specs.Work.{Deeds, WorkStep, Look, Read, Works, with_calls, with_opens}
 use Rattle.task_files.specs.Asked.{Maps, setting_asked, setting_of}

@@ -6,8 +6,7 @@ use Rattle.crash_site.specs.Calls.{Call, Entry, Done as Returned, image_open, im
 use Rattle.crash_site.specs.CallsMade.{Lost, BrokeAt}
 use Rattle.block_list.specs.declared.status.Status.{Status}
 use Rattle.mapfile_text.specs.declared.state.MapState.{MapState}
-use Rattle.save_resume.specs.Loading.{BeginsLoad, IsLoad}
-use Rattle.save_resume.specs.Resuming.{barrier_calls}
+use Rattle.mapfile_save.specs.Loading.{BeginsLoad, IsLoad, barrier_calls}
 use Rattle.rescue_rules.specs.declared.stop.RunEnd.{RunEnd}
 use Rattle.rescue_rules.specs.Setting.{Setting}
 use Rattle.rescue_rules.specs.Start.{Stands}

@@ -4,17 +4,19 @@ use Rattle.mapfile_text.specs.HeadingLines.{HeadingLines}
 use Rattle.option_words.specs.Words.{command_line}
 use Rattle.option_words.specs.declared.fault.UsageFault.{UsageFault}
 use Rattle.option_words.specs.declared.fault.UsageFault.TheVariants.{PlaceTooLarge}
-use Rattle.faulty_source.specs.SourceChanges.{Keeps as SourceKeeps}
-use Rattle.crash_site.specs.SiteChanges.{Keeps as SiteKeeps}
-use Rattle.rescue_console.specs.ClockState.{Keeps as ClockKeeps}
 use Rattle.rescue_console.specs.FeedState.{FeedState}
 use Rattle.rescue_rules.specs.declared.stop.Stop.{Stop}
 use Rattle.rescue_rules.specs.declared.stop.Stop.TheVariants.{SourceLost as InputLost}
 use Rattle.rescue_rules.specs.Snapshots.{heading_at}
-use Rattle.save_resume.specs.MapNames.{MapNames}
+use Rattle.mapfile_save.specs.MapNames.{MapNames}
 use Rattle.ddrescue_words.specs.declared.command.Task.{Task as TaskCode}
 use Rattle.ddrescue_words.specs.Command.{Command, Task, Rescue, Fill, Generate, Sample}
 use Rattle.ddrescue_words.specs.Asking.{AreInLimits, AskSample, IsAsked, IsInLimits, IsTask, is_quiet, told_by}
+use Rattle.faulty_source.specs.SourceState.{SourceState}
+use Rattle.crash_site.specs.SiteState.{SiteState}
+use Rattle.rescue_console.specs.ClockState.{ClockState}
+use Rattle.rescue_console.specs.ConsoleState.{ConsoleState}
+use Rattle.ddrescue_cli.specs.Told.{handed}
 use Rattle.ddrescue_cli.specs.declared.aim.Aim.{Aim}
 use Rattle.ddrescue_cli.specs.declared.aim.Aim.TheVariants.{Rescue as ToRescue, Fill as ToFill, Generate as ToGenerate}
 use Rattle.ddrescue_cli.specs.declared.job.Job.{Job}
@@ -31,8 +33,8 @@ use Rattle.task_files.specs.declared.ending.Ending.{Ending}
 use Rattle.task_files.specs.declared.ending.Ending.TheVariants.{Usage, SiteFault}
 use Rattle.task_files.specs.Names.{first_same_with_optional_map, AreNamedApart, program_name}
 use Rattle.task_files.specs.Asked.{names_by}
-use Rattle.task_files.specs.Answers.{Causes, NameOneFileTwice, drafting_left, failure_after, files_of_task, row_of}
-use Rattle.task_files.specs.Steps.{IsChecked}
+use Rattle.task_files.specs.Answers.{NameOneFileTwice, failure_after, files_of_task, row_of}
+use Rattle.task_files.specs.Steps.{IsChecked, Leaves}
 use Rattle.ddrescue_cli.specs.Aims.{IsNamedFor, task_for, WorkedFor}
 use Rattle.ddrescue_cli.specs.Jobs.{IsJobFor, IsCheckedFor}
 use Rattle.ddrescue_cli.specs.ToldParts.{across}
@@ -127,14 +129,6 @@ never_sampled words aim checked h kib quiet asks =
 
 -- ---- what is done and said
 
--- what is said of a call besides its work
-pub record Leaves (e : Ending) (old new : WorldState) : Type 0 where
-  pub cause : Causes e old.source new.source old.site new.site
-  pub draft : new.site.is_drafting ≡ drafting_left e
-  pub source : SourceKeeps old.source new.source
-  pub site : SiteKeeps old.site new.site
-  pub clock : ClockKeeps old.clock new.clock
-
 -- no answer is for a feed or a put
 record AsksNoConsole (k : Kind) (n m : ℕ) : Type 0 where
   takes : n ≡ (changes_of k).takes n
@@ -155,7 +149,7 @@ apart_by (SiteFault call earlier) n m = call_apart earlier n m
 apart_by e n m = record { takes = refl; puts = refl }
 
 abbrev worked_by : (words : List (List ℕ)) (task : Task) (e : Ending) (old new : WorldState) → new.feed_ ≡ old.feed_
-    → DoneFor rescue_program task (line_by rescue_program words) e old (with_console new old.console) → Leaves e old new
+    → DoneFor rescue_program task (line_by rescue_program words) e old (with_console new old.console) → Leaves e (across old new)
     → Worked rescue_program task words e old (with_console new old.console)
 worked_by words task e old new fed done l =
     let apart = apart_by e old.feed_.faults old.console.out.faults in
@@ -176,7 +170,7 @@ worked_by words task e old new fed done l =
 said_for : (words : List (List ℕ)) (aim : Aim) (c : Command) (e : Ending) (heard : Bool) (old new : WorldState)
     → IsAsked words (task_for aim c) → same_of c ≡ None
     → WorkedFor aim c (command_line program_name words) (not c.options.quiet) heard e (across old new)
-    → new.feed_ ≡ old.feed_ → Leaves e old new → TaskSaid words e heard old new
+    → new.feed_ ≡ old.feed_ → Leaves e (across old new) → TaskSaid words e heard old new
 said_for words ToRescue c e heard old new a different w fed l =
     task_said words (Rescue c) e heard old new a
     (worked_by words (Rescue c) e old new fed
@@ -196,10 +190,20 @@ said_for words ToGenerate c e heard old new a different w fed l =
 pub checked_does : (words : List (List ℕ)) (aim : Aim) (checked : CheckedCommand) (e : Ending) (heard : Bool)
     (old new : WorldState) → IsCheckedFor words aim checked
     → WorkedFor aim (told_by checked.command) checked.heading.line checked.heard heard e (across old new)
-    → new.feed_ ≡ old.feed_ → Leaves e old new → TaskSaid words e heard old new
+    → new.feed_ ≡ old.feed_ → Leaves e (across old new) → TaskSaid words e heard old new
 checked_does words aim checked e heard old new h w fed l =
     let c : Command = told_by checked.command in
     let line : checked.heading.line ≡ command_line program_name words = ap (λ (x : HeadingLines). x.line) h.heading in
     said_for words aim c e heard old new h.asked h.different
     (subst (λ (x : Bool). WorkedFor aim c (command_line program_name words) x heard e (across old new)) h.heard
     (subst (λ (x : List ℕ). WorkedFor aim c x checked.heard heard e (across old new)) line w)) fed l
+
+-- and by states that are the same
+pub said_after : (words : List (List ℕ)) (e : Ending) (heard : Bool) (old : WorldState) (s s' : SourceState) (d d' : SiteState)
+    (k k' : ClockState) (c c' : ConsoleState) → s ≡ s' → d ≡ d' → k ≡ k' → c ≡ c'
+    → TaskSaid words e heard old (handed s d k c) → TaskSaid words e heard old (handed s' d' k' c')
+said_after words e heard old s s' d d' k k' c c' es ed ek ec said =
+    subst (λ (x : ConsoleState). TaskSaid words e heard old (handed s' d' k' x)) ec
+    (subst (λ (x : ClockState). TaskSaid words e heard old (handed s' d' x c)) ek
+    (subst (λ (x : SiteState). TaskSaid words e heard old (handed s' x k c)) ed
+    (subst (λ (x : SourceState). TaskSaid words e heard old (handed x d k c)) es said)))

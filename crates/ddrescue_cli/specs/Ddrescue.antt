@@ -18,8 +18,8 @@ use Rattle.ddrescue_cli.specs.Told.{Told}
 use Rattle.ddrescue_cli.specs.Tasks.{TaskOutside, LeavesAs, TaskAgrees, TaskRuns, task_rows}
 use Rattle.ddrescue_cli.specs.Words.{FitsTask}
 
--- What was told before stays. A draft is left begun exactly if an append to it failed, or its sync. (A file of its name
--- may be left after any failed call of a save.)
+-- What was told before stays. A draft is left begun if and only if an append to it failed, or its sync. (A file of its
+-- name may be left after any failed call of a save.)
 pub record KeepsAs (e : Ending) (old new : WorldState) : Type 0 where
   pub draft : new.site.is_drafting ≡ drafting_left e
   pub source : SourceKeeps old.source new.source

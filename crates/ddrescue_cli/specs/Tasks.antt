@@ -63,7 +63,7 @@ TaskRuns (Generate c) line o =
     let s = asked_by c line o in ThenSweep s (generator s) o.found.mapfile o.pieces o.swept o.lines
 TaskRuns (Sample kib quiet) line o = Samples kib o.lines
 
--- Files agree with all that is told of them, with maps if the words ask for them, which are what the files are.
+-- Files agree with all that they tell, with maps if the words ask for them, which are what the files are.
 pub record AgreesOver (c : Command) (AreMaps : Found → Maps → Type 0) (o : TaskOutside) (did : Deeds)
     (old new : WorldState) : Type 0 where
   pub agrees : Agrees c (across old new) o.found o.end o.maps did

@@ -4,12 +4,22 @@ use Rattle.std.proofs.lemmas.List.{map-append}
 use Rattle.crash_site.specs.Calls.{Call}
 use Rattle.crash_site.specs.SiteState.{SiteState}
 use Rattle.crash_site.specs.SiteChanges.{Makes}
-use Rattle.save_resume.proofs.CallLemmas.{made_more}
+use Rattle.mapfile_save.proofs.CallLemmas.{made_more}
 use Rattle.rescue_console.specs.declared.console.Channel.TheVariants.{Out}
 use Rattle.rescue_console.specs.ClockState.{ClockState, Keeps as ClockKeeps, Reads as ReadsClock}
 use Rattle.rescue_console.specs.ConsoleState.{ConsoleState}
 use Rattle.rescue_console.specs.Speaking.{SpokenPiece, SpeaksOn, out_pieces}
+use Rattle.rescue_core.specs.declared.outside.Outside.{Outside}
+use Rattle.rescue_core.specs.Outside.{AreSame}
 use Rattle.rescue_console.proofs.SpeakingLemmas.{speeches_join}
+
+pub same_on : {S D K C : Type 0} {a b c : Outside S D K C} → AreSame a b → AreSame b c → AreSame a c
+same_on f g = record {
+  source = g.source ∙ f.source;
+  site = g.site ∙ f.site;
+  clock = g.clock ∙ f.clock;
+  console = g.console ∙ f.console;
+}
 
 pub clock_self : (a : ClockState) → ClockKeeps a a
 clock_self a = record { scheduled = refl; schedule = refl }

@@ -4,11 +4,11 @@ use Rattle.crash_site.specs.declared.site.SiteCall.{SiteCall}
 use Rattle.crash_site.specs.Calls.{Call}
 use Rattle.crash_site.specs.SiteState.{SiteState}
 use Rattle.crash_site.specs.SiteChanges.{Keeps, Makes, Breaks}
-use Rattle.save_resume.specs.Saving.{save_calls, IsNameIn}
+use Rattle.mapfile_save.specs.Saving.{save_calls, IsNameIn}
 use Rattle.rescue_console.specs.ConsoleState.{ConsoleState}
 use Rattle.rescue_console.specs.Speaking.{SpeaksOn, out_pieces}
 use Rattle.transfer_token.specs.declared.token.Request.{Request}
-use Rattle.save_resume.specs.MapNames.{names_in}
+use Rattle.mapfile_save.specs.MapNames.{names_in}
 use Rattle.rescue_rules.specs.declared.stop.Limit.{Limit}
 use Rattle.rescue_rules.specs.declared.stop.Stop.TheVariants.{Site, LimitMet}
 use Rattle.rescue_rules.specs.Step.{Event, is_timely, limit_met}
@@ -31,10 +31,12 @@ SaysOf r due heard heard' console console' =
 -- A turn up to its marks, between these two states, after which the line that is due was said, and the run was heard
 -- or not.
 pub record Says (request : Request) (got : Advanced) (r r1 r2 : RunState) (o : Across) (site1 : SiteState) : Type 0 where
-  pub advances : Advances request got r r1 o.source o.source' o.site site1 o.clock o.clock'
+  pub console1 : ConsoleState
+  pub silent : console1 ≡ o.console
+  pub advances : Advances request got r r1 (record o { site' = site1; console' = console1 })
   pub keeps : Keeps o.site site1
   pub stands : r2 ≡ record r1 { heard = r2.heard }
-  pub says : SaysOf r1 got.speaks r1.heard r2.heard o.console o.console'
+  pub says : SaysOf r1 got.speaks r1.heard r2.heard console1 o.console'
 
 says_step : (request : Request) (got : Advanced) (r r1 r2 : RunState) (o : Across) (site1 : SiteState)
     → (w : Says request got r r1 r2 o site1) → r2 ≡ stepped r w.advances.event r2.heard
@@ -47,7 +49,8 @@ says_line : (request : Request) (got : Advanced) (r r1 r2 : RunState) (o : Acros
 says_line request got r r1 r2 o site1 w =
     let e : Event = w.advances.event in
     subst (λ (due : Bool). SaysOf (stepped r e r.heard) due r.heard r2.heard o.console o.console') w.advances.speaks
-    (subst (λ (q : RunState). SaysOf q got.speaks q.heard r2.heard o.console o.console') w.advances.steps w.says)
+    (subst (λ (q : RunState). SaysOf q got.speaks q.heard r2.heard o.console o.console') w.advances.steps
+    (subst (λ (x : ConsoleState). SaysOf r1 got.speaks r1.heard r2.heard x o.console') w.silent w.says))
 
 -- the save that is due then
 save_is : (request : Request) (got : Advanced) (r r1 r2 : RunState) (o : Across) (site1 : SiteState)

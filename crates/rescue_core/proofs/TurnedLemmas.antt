@@ -3,9 +3,6 @@ use Rattle.std.proofs.Common.{◌≡◌, ℕ, ◌+◌, ◌/◌, ◌&&◌, List, 
 use Rattle.std.specs.List.{slice_get}
 use Rattle.block_list.specs.declared.block.Range.{Range}
 use Rattle.block_list.specs.declared.status.Status.{Status}
-use Rattle.faulty_source.specs.SourceState.{SourceState}
-use Rattle.crash_site.specs.SiteState.{SiteState}
-use Rattle.rescue_console.specs.ClockState.{ClockState}
 use Rattle.rescue_domain.specs.Parts.{covers}
 use Rattle.transfer_token.specs.declared.token.Request.{Request}
 use Rattle.rescue_rules.specs.declared.phase.Phase.{Phase}
@@ -109,11 +106,10 @@ event_asks s m e pos len from asked request =
     (subst (λ n. IsRequest s m pos (pos + n)) (sym asked) request)
 
 -- what an event of a turn's request does
-event_steps : (p : Parts) (r : RunState) (room : ℕ) (request : Request) (got : Gathered) (source source' : SourceState)
-    (site site' : SiteState) (clock clock' : ClockState) → Begins p r room request
-    → (g : Gathers request p.settings got source source' site site' clock clock')
+event_steps : (p : Parts) (r : RunState) (room : ℕ) (request : Request) (got : Gathered) (o : Across) → Begins p r room request
+    → (g : Gathers request p.settings got o)
     → StepsBy (setting_in (run_of p)) (run_of p).machine g.event
-event_steps p r room request got source source' site site' clock clock' b g =
+event_steps p r room request got o b g =
     let before : RunState = run_of p in
     move_steps (setting_in before) before.machine g.event (running_sensible before room b.running) b.running.order
     (event_asks (setting_in before) before.machine g.event request.pos request.len g.is.pos g.is.asked
@@ -126,27 +122,26 @@ stands_at p r room request b = record { settings_are = refl; pass = b.running.pa
 
 -- the marks of a turn are those of its event, and leave the map's length
 marks_map : (p : Parts) (r : RunState) (room : ℕ) (request : Request) (got : Gathered) (old map' : List Status)
-    (source source' : SourceState) (site site' : SiteState) (clock clock' : ClockState) → Begins p r room request
-    → (g : Gathers request p.settings got source source' site site' clock clock') → old ≡ p.map
+    (o : Across) → Begins p r room request
+    → (g : Gathers request p.settings got o) → old ≡ p.map
     → Marks p.settings p.phase p.progress request got.kept old map'
     → map' ≡ (step (setting_in (run_of p)) (run_of p).machine g.event).map
-marks_map p r room request got old map' source source' site site' clock clock' b g old_is marks =
+marks_map p r room request got old map' o b g old_is marks =
     marks (run_of p) g.event.reading (stands_at p r room request b) (sym old_is) g.is.pos g.cut
 
 pub marks_size : (p : Parts) (r : RunState) (room : ℕ) (request : Request) (got : Gathered) (old map' : List Status)
-    (source source' : SourceState) (site site' : SiteState) (clock clock' : ClockState) → Begins p r room request
-    → Gathers request p.settings got source source' site site' clock clock' → old ≡ p.map
+    (o : Across) → Begins p r room request
+    → Gathers request p.settings got o → old ≡ p.map
     → Marks p.settings p.phase p.progress request got.kept old map' → length map' ≡ length p.map
-marks_size p r room request got old map' source source' site site' clock clock' b g old_is marks =
+marks_size p r room request got old map' o b g old_is marks =
     ap (λ (l : List Status). length l)
-    (marks_map p r room request got old map' source source' site site' clock clock' b g old_is marks)
-    ∙ (event_steps p r room request got source source' site site' clock clock' b g).size
+    (marks_map p r room request got old map' o b g old_is marks)
+    ∙ (event_steps p r room request got o b g).size
 
 -- what a turn answers tells of its read
-read_of : (p : Parts) (request : Request) (got : Gathered) (source source' : SourceState) (site site' : SiteState)
-    (clock clock' : ClockState) → (g : Gathers request p.settings got source source' site site' clock clock')
+read_of : (p : Parts) (request : Request) (got : Gathered) (o : Across) → (g : Gathers request p.settings got o)
     → IsReadOf request got.turn.given got.turn.ended g.event.reading
-read_of p request got source source' site site' clock clock' g =
+read_of p request got o g =
     let turn : got.turn ≡ turn_of (run_of p) g.event = g.turn (run_of p) refl in record {
       pos = g.is.pos;
       asked = g.is.asked;
@@ -156,12 +151,11 @@ read_of p request got source source' site site' clock clock' g =
 
 -- the run after the marks of a turn is the one after its event
 pub does_step : (p : Parts) (r : RunState) (room : ℕ) (request : Request) (got : Gathered) (map' : List Status)
-    (progress' : Progress) (tally' : Tally) (counts counts' : Counts) (advanced : Advanced) (source source' : SourceState)
-    (site site' : SiteState) (clock clock' : ClockState) → Begins p r room request
-    → (g : Gathers request p.settings got source source' site site' clock clock')
+    (progress' : Progress) (tally' : Tally) (counts counts' : Counts) (advanced : Advanced) (o : Across) → Begins p r room request
+    → (g : Gathers request p.settings got o)
     → Does p request got map' progress' tally' counts counts' advanced
     → run_of (parts_after p map' progress' tally') ≡ stepped (run_of p) g.event p.keeper.heard
-does_step p r room request got map' progress' tally' counts counts' advanced source source' site site' clock clock' b g d =
+does_step p r room request got map' progress' tally' counts counts' advanced o b g d =
     let before : RunState = run_of p in
     let e : Event = g.event in
     let s : Setting = setting_in before in
@@ -170,9 +164,9 @@ does_step p r room request got map' progress' tally' counts counts' advanced sou
     let turn : got.turn ≡ turn_of before e = g.turn before refl in
     let at : RunsAt p.settings p.phase p.progress before = stands_at p r room request b in
     let read : IsReadOf request got.turn.given got.turn.ended e.reading
-    = read_of p request got source source' site site' clock clock' g in
+    = read_of p request got o g in
     let map_is : map' ≡ n.map
-    = marks_map p r room request got d.old map' source source' site site' clock clock' b g d.old_is d.goes.marks in
+    = marks_map p r room request got d.old map' o b g d.old_is d.goes.marks in
     let x : ℕ = request.pos + request.len in
     let more : p.phase ≡ Trimming → d.goes.more ≡ is_wanted s (record m { map = n.map }) x
     = λ trims. d.goes.more_is trims
@@ -191,15 +185,14 @@ does_step p r room request got map' progress' tally' counts counts' advanced sou
 
 -- it stands as between any turns
 pub does_running : (p : Parts) (r : RunState) (room : ℕ) (request : Request) (got : Gathered) (map' : List Status)
-    (progress' : Progress) (tally' : Tally) (counts counts' : Counts) (advanced : Advanced) (source source' : SourceState)
-    (site site' : SiteState) (clock clock' : ClockState) → Begins p r room request
-    → Gathers request p.settings got source source' site site' clock clock'
+    (progress' : Progress) (tally' : Tally) (counts counts' : Counts) (advanced : Advanced) (o : Across) → Begins p r room request
+    → Gathers request p.settings got o
     → Does p request got map' progress' tally' counts counts' advanced → IsRunning (run_of (parts_after p map' progress' tally')) room
-does_running p r room request got map' progress' tally' counts counts' advanced source source' site site' clock clock' b g d =
+does_running p r room request got map' progress' tally' counts counts' advanced o b g d =
     let before : RunState = run_of p in
     let e : Event = g.event in
     subst (λ (x : RunState). IsRunning x room)
-    (sym (does_step p r room request got map' progress' tally' counts counts' advanced source source' site site' clock clock' b g d))
+    (sym (does_step p r room request got map' progress' tally' counts counts' advanced o b g d))
     (running_steps before room e p.keeper.heard b.running
     (event_asks (setting_in before) before.machine e request.pos request.len g.is.pos g.is.asked
     (begins_asks p r room request b))
@@ -207,39 +200,37 @@ does_running p r room request got map' progress' tally' counts counts' advanced 
 
 -- and its counts are those of its map
 pub does_counted : (p : Parts) (r : RunState) (room : ℕ) (request : Request) (got : Gathered) (map' : List Status)
-    (progress' : Progress) (tally' : Tally) (counts counts' : Counts) (advanced : Advanced) (source source' : SourceState)
-    (site site' : SiteState) (clock clock' : ClockState) → Begins p r room request
-    → Gathers request p.settings got source source' site site' clock clock'
+    (progress' : Progress) (tally' : Tally) (counts counts' : Counts) (advanced : Advanced) (o : Across) → Begins p r room request
+    → Gathers request p.settings got o
     → Does p request got map' progress' tally' counts counts' advanced → HasCounts (run_of p) counts
     → HasCounts (run_of (parts_after p map' progress' tally')) counts'
-does_counted p r room request got map' progress' tally' counts counts' advanced source source' site site' clock clock' b g d were =
+does_counted p r room request got map' progress' tally' counts counts' advanced o b g d were =
     subst (λ (x : RunState). HasCounts x counts')
-    (sym (does_step p r room request got map' progress' tally' counts counts' advanced source source' site site' clock clock' b g d))
+    (sym (does_step p r room request got map' progress' tally' counts counts' advanced o b g d))
     (d.goes.recounts (run_of p) g.event p.keeper.heard were (record {
       room = room;
       running = b.running;
       phase_is = refl;
       asks = begins_asks p r room request b;
-      read = read_of p request got source source' site site' clock clock' g;
+      read = read_of p request got o g;
       few = g.is.few;
       answers = g.turn (run_of p) refl;
       domain_is = d.goes.domain_is;
       over_is = d.goes.over_is;
-      map_is = marks_map p r room request got d.old map' source source' site site' clock clock' b g d.old_is d.goes.marks;
+      map_is = marks_map p r room request got d.old map' o b g d.old_is d.goes.marks;
     }) (d.goes.meets g.event.reading g.cut))
 
 -- a turn up to its marks
 pub does_advance : (p : Parts) (r : RunState) (room : ℕ) (request : Request) (got : Gathered) (map' : List Status)
-    (progress' : Progress) (tally' : Tally) (counts counts' : Counts) (advanced : Advanced) (source source' : SourceState)
-    (site site' : SiteState) (clock clock' : ClockState) → Begins p r room request
-    → Gathers request p.settings got source source' site site' clock clock'
+    (progress' : Progress) (tally' : Tally) (counts counts' : Counts) (advanced : Advanced) (o : Across) → Begins p r room request
+    → Gathers request p.settings got o
     → Does p request got map' progress' tally' counts counts' advanced
-    → Advances request advanced r (run_of (parts_after p map' progress' tally')) source source' site site' clock clock'
-does_advance p r room request got map' progress' tally' counts counts' advanced source source' site site' clock clock' b g d =
+    → Advances request advanced r (run_of (parts_after p map' progress' tally')) o
+does_advance p r room request got map' progress' tally' counts counts' advanced o b g d =
     let later : RunState = run_of (parts_after p map' progress' tally') in
     let is : later ≡ stepped (run_of p) g.event p.keeper.heard
-    = does_step p r room request got map' progress' tally' counts counts' advanced source source' site site' clock clock' b g d in
-    subst (λ (x : RunState). Advances request advanced x later source source' site site' clock clock') b.is (record {
+    = does_step p r room request got map' progress' tally' counts counts' advanced o b g d in
+    subst (λ (x : RunState). Advances request advanced x later o) b.is (record {
       event = g.event;
       is = g.is;
       answers = d.goes.answers ∙ g.turn (run_of p) refl;

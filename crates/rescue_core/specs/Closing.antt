@@ -5,7 +5,7 @@ use Rattle.crash_site.specs.declared.site.SiteCall.{SiteCall}
 use Rattle.crash_site.specs.Calls.{Call}
 use Rattle.crash_site.specs.SiteState.{SiteState}
 use Rattle.crash_site.specs.SiteChanges.{Makes, Breaks}
-use Rattle.save_resume.specs.Saving.{IsNameIn, drafting_after_fault}
+use Rattle.mapfile_save.specs.Saving.{IsNameIn, drafting_after_fault}
 use Rattle.rescue_rules.specs.declared.stop.Stop.{Stop}
 use Rattle.rescue_rules.specs.declared.stop.Stop.TheVariants.{SourceLost, Site, LimitMet, NoMemory}
 use Rattle.rescue_rules.specs.declared.stop.RunEnd.{RunEnd}
@@ -44,7 +44,7 @@ pub data LastCalls (calls : List Call) (stop : Option Stop) (end : RunEnd) (site
 abbrev pub LastSave : Option Stop → RunState → RunEnd → (site site' : SiteState) → Type 0
 LastSave stop r end site site' = LastCalls (closing_calls (setting_in r) (closing_snapshot stop r)) stop end site site'
 
--- At the end these calls are made; but after a call on the files that failed no further one is.
+-- At the end these calls are made, but none after a failed call on the files.
 abbrev pub EndsBy : List Call → Option Stop → RunEnd → (site site' : SiteState) → Type 0
 EndsBy calls None end site site' = LastCalls calls None end site site'
 EndsBy calls (Some SourceLost) end site site' = LastCalls calls (Some SourceLost) end site site'

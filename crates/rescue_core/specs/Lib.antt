@@ -1,3 +1,4 @@
+pub mod Outside
 pub mod RunState
 pub mod Keeping
 pub mod Requesting

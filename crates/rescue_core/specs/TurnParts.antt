@@ -3,7 +3,6 @@ use Rattle.std.specs.Prelude.{◌≡◌, ⊤, ℕ, ◌+◌, ◌/◌, ◌≤◌, 
 use Rattle.faulty_source.specs.Got.{count_of, is_end}
 use Rattle.faulty_source.specs.Journal.{Reading}
 use Rattle.faulty_source.specs.SourceState.{SourceState}
-use Rattle.crash_site.specs.SiteState.{SiteState}
 use Rattle.crash_site.specs.SiteChanges.{Makes}
 use Rattle.rescue_console.specs.ClockState.{ClockState}
 use Rattle.transfer_token.specs.declared.token.Request.{Request}
@@ -20,6 +19,7 @@ use Rattle.rescue_rules.specs.Machine.{pass_of}
 use Rattle.rescue_rules.specs.Said.{is_line_due}
 use Rattle.rescue_rules.specs.Step.{Event, is_timely}
 use Rattle.rescue_rules.specs.RunCalls.{write_calls}
+use Rattle.rescue_rules.specs.Across.{Across}
 use Rattle.rescue_core.specs.declared.gather.Gathered.{Gathered}
 use Rattle.rescue_core.specs.declared.landing.Kept.{Kept}
 use Rattle.rescue_core.specs.declared.landing.Kept.TheVariants.{Whole as WholeKept, Part as PartKept, Nothing as NothingKept, Ended as EndedKept, Empty as EmptyKept}
@@ -79,24 +79,22 @@ IsBackOf Lead pos = ⊤
 IsBackOf (Tail low) pos = low ≤ pos
 
 -- A read of what was requested whose kept part was written, and what a turn answers of it.
-pub record Gathers (request : Request) (settings : Settings) (got : Gathered) (source source' : SourceState)
-    (site site' : SiteState) (clock clock' : ClockState) : Type 0 where
+pub record Gathers (request : Request) (settings : Settings) (got : Gathered) (o : Across) : Type 0 where
   pub event : Event
-  pub is : IsEvent request event source source' clock clock'
+  pub is : IsEvent request event o.source o.source' o.clock o.clock'
   pub cut : IsCut settings.sector event.reading (fetched_of got.kept)
   pub turn : (r : RunState) → r.settings ≡ settings → got.turn ≡ turn_of r event
   pub after : event.after ≡ got.after
-  pub writes : (r : RunState) → r.settings ≡ settings → Makes (write_calls (setting_in r) event.reading) site site'
+  pub writes : (r : RunState) → r.settings ≡ settings → Makes (write_calls (setting_in r) event.reading) o.site o.site'
 
 -- A turn up to its marks: one event of the request, its step and its write; and whether a line is due after it, and
 -- whether it is time for a save.
-pub record Advances (request : Request) (got : Advanced) (r r' : RunState) (source source' : SourceState)
-    (site site' : SiteState) (clock clock' : ClockState) : Type 0 where
+pub record Advances (request : Request) (got : Advanced) (r r' : RunState) (o : Across) : Type 0 where
   pub event : Event
-  pub is : IsEvent request event source source' clock clock'
+  pub is : IsEvent request event o.source o.source' o.clock o.clock'
   pub answers : got.turn ≡ turn_of r event
   pub steps : r' ≡ stepped r event r.heard
-  pub writes : Makes (write_calls (setting_in r) event.reading) site site'
+  pub writes : Makes (write_calls (setting_in r) event.reading) o.site o.site'
   pub speaks : got.speaks
       ≡ is_line_due r.machine.tally.said (move_by r event).after.tally.shown.current
       ((move_by r event).after.tally.now / 1000)

@@ -2,24 +2,22 @@
 ghost use Rattle.std.specs.Prelude.{◌≡◌, ◌+◌, ◌-◌, ◌<◌, ◌≤◌, ◌^◌, true, false, length, IfOk, IfErr};
 ghost use Rattle.size_suffixes.specs.Sectors.{largest_cluster};
 ghost use Rattle.run_options.specs.Settings.{IsSound};
-ghost use Rattle.faulty_source.specs.SourceChanges.{Stays as SourceStays};
-ghost use Rattle.crash_site.specs.SiteChanges.{Stays as SiteStays};
-ghost use Rattle.rescue_console.specs.ClockState.{Keeps as ClockKeeps};
-ghost use Rattle.rescue_console.specs.ConsoleState.{ConsoleState};
 ghost use Rattle.transfer_token.specs.Tokens.{Spans};
-ghost use Rattle.rescue_rules.specs.Across.{across};
+ghost use Rattle.rescue_core.specs.Outside.{between, IsOpen, AreSame, SilentlyStay};
 ghost use Rattle.rescue_core.specs.RunState.{RunState};
 ghost use Rattle.rescue_core.specs.Turning.{Halted};
 ghost use Rattle.rescue_core.specs.Closing.{drafting_at_stop};
 ghost use Rattle.rescue_core.specs.TurnParts.{fetched_of, Gathers};
 
 use crate::landing::{Kept, land_kept};
+use crate::outside::Outside;
 use crate::tally::turn_after;
 use crate::timed::{Timed, read_timed};
 use crate::turn::Turn;
 use crash_site::site::{Site, SiteCall};
 use faulty_source::source::Source;
 use rescue_console::clock::Clock;
+use rescue_console::console::Console;
 use rescue_rules::stop::Stop;
 use run_options::settings::Settings;
 use transfer_token::token::Request;
@@ -35,13 +33,11 @@ pub(crate) struct Gathered {
 /// Reads what is requested, and writes what is kept of it to its place in the output. A lost read or a failed write is
 /// a stop.
 #[inline(always)]
-pub(crate) fn gather<S: Source, D: Site, K: Clock>(
+pub(crate) fn gather<S: Source, D: Site, K: Clock, C: Console>(
     request: Request,
     settings: &Settings,
     buf: &mut [u8],
-    source: &mut S,
-    site: &mut D,
-    clock: &mut K,
+    outside: &mut Outside<S, D, K, C>,
 ) -> Result<Gathered, Stop>
     requires sound { IsSound settings.now }
     requires some { 0 < request.len }
@@ -49,21 +45,18 @@ pub(crate) fn gather<S: Source, D: Site, K: Clock>(
     requires cluster { length buf.old ≤ largest_cluster }
     requires short { request.pos + request.len < 2 ^ 63 }
     requires place { request.pos - settings.now.input_position + settings.now.output_position + request.len < 2 ^ 63 }
-    requires input { (S.state source.old).is_open ≡ true }
-    requires image { (D.state site.old).is_open ≡ true }
-    ensures gathered { IfOk result (λ got. Gathers request settings.now got (S.state source.old) (S.state source.new)
-        (D.state site.old) (D.state site.new) (K.state clock.old) (K.state clock.new)) }
+    requires open { IsOpen S.Source D.Site outside.old }
+    ensures gathered { IfOk result (λ got. Gathers request settings.now got (between S.Source D.Site K.Clock C.Console
+        outside.old outside.new)) }
     ensures parts { IfOk result (λ got. Spans request (fetched_of got.kept)) }
-    ensures halted { IfErr result (λ stop. (r : RunState) (console : ConsoleState) → r.settings ≡ settings.now
-        → Halted request stop r r (across (S.state source.old) (S.state source.new) (D.state site.old)
-        (D.state site.new) (K.state clock.old) (K.state clock.new) console console)) }
+    ensures halted { IfErr result (λ stop. (r : RunState) → r.settings ≡ settings.now
+        → Halted request stop r r (between S.Source D.Site K.Clock C.Console outside.old outside.new)) }
     ensures draft { IfErr result (λ stop. drafting_at_stop stop ≡ false) }
     ensures same { length buf.new ≡ length buf.old }
-    ensures source { SourceStays (S.state source.old) (S.state source.new) }
-    ensures site { SiteStays (D.state site.old) (D.state site.new) }
-    ensures clock { ClockKeeps (K.state clock.old) (K.state clock.new) }
+    ensures stays { SilentlyStay (between S.Source D.Site K.Clock C.Console outside.old outside.new) }
+    ensures objects { AreSame outside.old outside.new }
 {
-    let Ok(timed) = read_timed(source, clock, buf, request, settings.sector) else {
+    let Ok(timed) = read_timed(outside.source, outside.clock, buf, request, settings.sector) else {
         return Err(Stop::SourceLost);
     };
     let Timed {
@@ -73,7 +66,7 @@ pub(crate) fn gather<S: Source, D: Site, K: Clock>(
         after,
     } = timed;
     let at = request.pos.saturating_sub(settings.input_position) + settings.output_position;
-    let Ok(kept) = land_kept(fetched, buf, site, at) else {
+    let Ok(kept) = land_kept(fetched, buf, outside.site, at) else {
         return Err(Stop::Site(SiteCall::ImageWrite));
     };
     let turn = turn_after(settings, request, got, kept.size(), before, after);

@@ -11,6 +11,7 @@ mod landing;
 mod limit;
 mod line;
 mod mark;
+pub mod outside;
 pub mod phases;
 mod progress;
 mod request;

@@ -9,7 +9,8 @@ ghost use Rattle.run_options.specs.Settings.{IsSound, Suits, HasPlaces};
 ghost use Rattle.rescue_rules.specs.Passes.{numbered};
 ghost use Rattle.rescue_rules.specs.Machine.{IsRequest, has_request};
 ghost use Rattle.rescue_rules.specs.Moves.{ready, no_pass_left};
-ghost use Rattle.rescue_rules.specs.Across.{ObjectsStay, across};
+ghost use Rattle.rescue_rules.specs.Across.{ObjectsStay};
+ghost use Rattle.rescue_core.specs.Outside.{between, IsOpen, AreSame};
 ghost use Rattle.rescue_core.specs.RunState.{RunState, setting_in, started, passed, run_showing, IsGone};
 ghost use Rattle.rescue_domain.specs.Parts.{covers};
 ghost use Rattle.rescue_core.specs.Turning.{Turned, Halted};
@@ -18,11 +19,13 @@ ghost use Rattle.rescue_core.specs.Closing.{Closes, MayClose, drafting_at_stop, 
 ghost use Rattle.rescue_core.specs.Stages.{Reached, Begun, Copied, Trimmed, Scraped, Over};
 
 use crate::closing::Closed;
+use crate::outside::Outside;
 use crate::running::Running;
 use crate::turn::Turn;
 use block_list::tiles::Tiles;
 use crash_site::site::Site;
 use faulty_source::source::Source;
+use mapfile_save::names::Names;
 use mapfile_text::heading::Heading;
 use mapfile_text::state::MapState;
 use rescue_console::clock::Clock;
@@ -31,7 +34,6 @@ use rescue_domain::domain::Domain;
 use rescue_rules::phase::Phase;
 use rescue_rules::stop::Stop;
 use run_options::settings::Settings;
-use save_resume::names::Names;
 use std::marker::Model;
 use transfer_token::token::Request;
 
@@ -251,7 +253,7 @@ impl<P: Stage, T: Tiles> Rescue<P, T> {
         ensures within { IfSome result (λ q. q.pos + q.len ≤ length self.now.machine.map) }
         ensures short { IfSome result (λ q. q.pos + q.len < 2 ^ 63) }
     {
-        self.running.next_request()
+        self.running.pending_request()
     }
 
     /// Goes on to the next pass, after one that has no request left.
@@ -272,28 +274,22 @@ impl<P: Stage, T: Tiles> Rescue<P, T> {
     pub fn turn<S: Source, D: Site, K: Clock, C: Console>(
         &mut self,
         request: Request,
-        source: &mut S,
-        site: &mut D,
-        clock: &mut K,
-        console: &mut C,
+        outside: &mut Outside<S, D, K, C>,
     ) -> Result<Turn, Stop>
         requires request { IsRequest (setting_in self.old) self.old.machine request.pos (request.pos + request.len) }
         requires places { HasPlaces self.old.settings (covers self.old.domain) }
-        requires input { (S.state source.old).is_open ≡ true }
-        requires image { (D.state site.old).is_open ≡ true }
-        requires no_draft { (D.state site.old).is_drafting ≡ false }
-        ensures turned { IfOk result (λ turn. Turned request turn self.old self.new (across (S.state source.old)
-            (S.state source.new) (D.state site.old) (D.state site.new) (K.state clock.old) (K.state clock.new)
-            (C.state console.old) (C.state console.new))) }
-        ensures halted { IfErr result (λ stop. Halted request stop self.old self.new (across (S.state source.old)
-            (S.state source.new) (D.state site.old) (D.state site.new) (K.state clock.old) (K.state clock.new)
-            (C.state console.old) (C.state console.new))) }
-        ensures draft { OnOk result ((D.state site.new).is_drafting ≡ false) }
-        ensures draft_left { IfErr result (λ stop. (D.state site.new).is_drafting ≡ drafting_at_stop stop) }
-        ensures objects { ObjectsStay (across (S.state source.old) (S.state source.new) (D.state site.old)
-            (D.state site.new) (K.state clock.old) (K.state clock.new) (C.state console.old) (C.state console.new)) }
+        requires open { IsOpen S.Source D.Site outside.old }
+        requires no_draft { (D.state outside.old.site.now).is_drafting ≡ false }
+        ensures turned { IfOk result (λ turn. Turned request turn self.old self.new (between S.Source D.Site K.Clock
+            C.Console outside.old outside.new)) }
+        ensures halted { IfErr result (λ stop. Halted request stop self.old self.new (between S.Source D.Site K.Clock
+            C.Console outside.old outside.new)) }
+        ensures draft { OnOk result ((D.state outside.new.site.now).is_drafting ≡ false) }
+        ensures draft_left { IfErr result (λ stop. (D.state outside.new.site.now).is_drafting ≡ drafting_at_stop stop) }
+        ensures objects { ObjectsStay (between S.Source D.Site K.Clock C.Console outside.old outside.new) }
+        ensures same { AreSame outside.old outside.new }
     {
-        self.running.turn(request, source, site, clock, console)
+        self.running.take_turn(request, outside)
     }
 
     /// A rescue that stopped, with its stop.

@@ -5,7 +5,7 @@ ghost use Rattle.block_list.specs.declared.block.Range.{Range};
 ghost use Rattle.block_list.specs.declared.status.Status.{Status};
 ghost use Rattle.block_list.specs.declared.status.Status.TheVariants.{NonTrimmed};
 ghost use Rattle.run_options.specs.Settings.{IsSound};
-ghost use Rattle.save_resume.specs.MapNames.{MapNames};
+ghost use Rattle.mapfile_save.specs.MapNames.{MapNames};
 ghost use Rattle.rescue_domain.specs.Live.{lives};
 ghost use Rattle.rescue_rules.specs.declared.phase.Phase.{Phase};
 ghost use Rattle.rescue_rules.specs.declared.phase.Phase.TheVariants.{Trimming};
@@ -180,7 +180,7 @@ fn request_by<T: Tiles>(
 
 /// The next request of a phase at a place, of a machine that is there.
 #[inline(always)]
-pub(crate) fn next_request<T: Tiles>(
+pub(crate) fn find_request<T: Tiles>(
     settings: &Settings,
     live: Live<'_>,
     tiles: &T,

@@ -14,9 +14,10 @@ use crate::closing::Closed;
 use crate::counts::counts_at_first;
 use crate::keeper::Keeper;
 use crate::progress::{first_progress, progress_at_start};
-use crate::request::{leads_up, next_lead, next_request};
+use crate::request::{find_request, leads_up, next_lead};
 use block_list::tiles::Tiles;
 use crash_site::site::Site;
+use mapfile_save::names::Names;
 use mapfile_text::heading::Heading;
 use mapfile_text::state::MapState;
 use rescue_console::console::Console;
@@ -28,7 +29,6 @@ use rescue_rules::report::Counts;
 use rescue_rules::stop::Stop;
 use rescue_rules::tally::Tally;
 use run_options::settings::Settings;
-use save_resume::names::Names;
 use std::marker::Model;
 use transfer_token::token::Request;
 
@@ -104,7 +104,7 @@ impl<T: Tiles> Running<T> {
 
     /// The next request of this pass.
     #[inline(always)]
-    pub fn next_request(&self) -> Option<Request>
+    pub fn pending_request(&self) -> Option<Request>
         ensures some { IfSome result (λ q. IsRequest (setting_in self.now) self.now.machine q.pos (q.pos + q.len)) }
         ensures none { IfNone result (has_request (setting_in self.now) self.now.machine ≡ false) }
         ensures len { IfSome result (λ q. 0 < q.len) }
@@ -119,7 +119,7 @@ impl<T: Tiles> Running<T> {
         if leads_up(&self.settings, self.phase, &self.progress) {
             next_lead(&self.settings, live, &self.tiles, &self.progress)
         } else {
-            next_request(
+            find_request(
                 &self.settings,
                 live,
                 &self.tiles,

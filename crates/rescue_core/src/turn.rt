@@ -1,19 +1,16 @@
 //! One turn of a rescue, and what it did.
 ghost use Rattle.std.specs.Prelude.{◌≡◌, ℕ, ◌+◌, true, false, not, ◌||◌, [], ◌∷◌, is_some, if◌then◌else◌, IfOk, IfErr, OnOk};
 ghost use Rattle.run_options.specs.Settings.{HasPlaces};
-ghost use Rattle.faulty_source.specs.SourceChanges.{Stays as SourceStays};
-ghost use Rattle.crash_site.specs.SiteChanges.{Stays as SiteStays};
-ghost use Rattle.rescue_console.specs.ClockState.{Keeps as ClockKeeps};
-ghost use Rattle.rescue_console.specs.ConsoleState.{ConsoleState};
 ghost use Rattle.rescue_console.specs.Speaking.{SpeaksOn, out_pieces};
-ghost use Rattle.save_resume.specs.Saving.{save_calls, Saves as SavesMap};
+ghost use Rattle.mapfile_save.specs.Saving.{save_calls, Saves as SavesMap};
 ghost use Rattle.rescue_domain.specs.Parts.{covers};
-ghost use Rattle.save_resume.specs.MapNames.{names_in};
+ghost use Rattle.mapfile_save.specs.MapNames.{names_in};
 ghost use Rattle.rescue_rules.specs.Machine.{IsRequest};
 ghost use Rattle.rescue_rules.specs.Step.{limit_met as limit_by};
 ghost use Rattle.rescue_rules.specs.Snapshots.{text_of, snapshot_of};
 ghost use Rattle.rescue_rules.specs.Lines.{phase_front, report_of, report_text};
-ghost use Rattle.rescue_rules.specs.Across.{ObjectsStay, across};
+ghost use Rattle.rescue_rules.specs.Across.{ObjectsStay};
+ghost use Rattle.rescue_core.specs.Outside.{between, IsOpen, AreSame, SilentlyStay};
 ghost use Rattle.rescue_core.specs.RunState.{setting_in, IsRunning};
 ghost use Rattle.rescue_core.specs.Turning.{Turned, Halted};
 ghost use Rattle.rescue_core.specs.TurnParts.{Advances};
@@ -22,14 +19,15 @@ ghost use Rattle.rescue_core.specs.Closing.{drafting_at_stop};
 use crate::after::go_on_by_kind;
 use crate::gather::gather;
 use crate::limit::limit_met;
+use crate::outside::Outside;
 use crate::running::Running;
 use block_list::tiles::Tiles;
 use crash_site::site::Site;
 use faulty_source::source::Source;
+use mapfile_save::draft::SaveFault;
 use rescue_console::clock::Clock;
 use rescue_console::console::Console;
 use rescue_rules::stop::{Limit, Stop};
-use save_resume::draft::SaveFault;
 use transfer_token::token::Request;
 
 /// How many blocks the marks of a turn may add to the map.
@@ -82,41 +80,35 @@ impl<T: Tiles> Running<T> {
     // Inlined in the loop of each phase, with what it calls that is marked so, or a request of one sector costs half as
     // much again (bench/turns).
     #[inline(always)]
-    pub fn turn<S: Source, D: Site, K: Clock, C: Console>(
+    pub fn take_turn<S: Source, D: Site, K: Clock, C: Console>(
         &mut self,
         request: Request,
-        source: &mut S,
-        site: &mut D,
-        clock: &mut K,
-        console: &mut C,
+        outside: &mut Outside<S, D, K, C>,
     ) -> Result<Turn, Stop>
         requires request { IsRequest (setting_in self.old) self.old.machine request.pos (request.pos + request.len) }
         requires places { HasPlaces self.old.settings (covers self.old.domain) }
-        requires input { (S.state source.old).is_open ≡ true }
-        requires image { (D.state site.old).is_open ≡ true }
-        requires no_draft { (D.state site.old).is_drafting ≡ false }
-        ensures turned { IfOk result (λ turn. Turned request turn self.old self.new (across (S.state source.old)
-            (S.state source.new) (D.state site.old) (D.state site.new) (K.state clock.old) (K.state clock.new)
-            (C.state console.old) (C.state console.new))) }
-        ensures halted { IfErr result (λ stop. Halted request stop self.old self.new (across (S.state source.old)
-            (S.state source.new) (D.state site.old) (D.state site.new) (K.state clock.old) (K.state clock.new)
-            (C.state console.old) (C.state console.new))) }
-        ensures draft { OnOk result ((D.state site.new).is_drafting ≡ false) }
-        ensures draft_left { IfErr result (λ stop. (D.state site.new).is_drafting ≡ drafting_at_stop stop) }
-        ensures objects { ObjectsStay (across (S.state source.old) (S.state source.new) (D.state site.old)
-            (D.state site.new) (K.state clock.old) (K.state clock.new) (C.state console.old) (C.state console.new)) }
+        requires open { IsOpen S.Source D.Site outside.old }
+        requires no_draft { (D.state outside.old.site.now).is_drafting ≡ false }
+        ensures turned { IfOk result (λ turn. Turned request turn self.old self.new (between S.Source D.Site K.Clock
+            C.Console outside.old outside.new)) }
+        ensures halted { IfErr result (λ stop. Halted request stop self.old self.new (between S.Source D.Site K.Clock
+            C.Console outside.old outside.new)) }
+        ensures draft { OnOk result ((D.state outside.new.site.now).is_drafting ≡ false) }
+        ensures draft_left { IfErr result (λ stop. (D.state outside.new.site.now).is_drafting ≡ drafting_at_stop stop) }
+        ensures objects { ObjectsStay (between S.Source D.Site K.Clock C.Console outside.old outside.new) }
+        ensures same { AreSame outside.old outside.new }
         ensures running { (room : ℕ) × IsRunning self.old room }
     {
         let Advanced {
             turn,
             speaks,
             saves,
-        } = self.advance(request, source, site, clock)?;
-        self.say_due(speaks, console);
+        } = self.advance(request, outside)?;
+        self.say_due(speaks, outside.console);
         if let Some(limit) = self.limit() {
             return Err(Stop::LimitMet(limit));
         }
-        if let Err(fault) = self.save_due(saves, site) {
+        if let Err(fault) = self.save_due(saves, outside.site) {
             return Err(Stop::Site(fault.call));
         }
         Ok(turn)
@@ -124,32 +116,27 @@ impl<T: Tiles> Running<T> {
 
     /// The part of a turn up to its marks, and what is due after them.
     #[inline(always)]
-    fn advance<S: Source, D: Site, K: Clock>(
+    fn advance<S: Source, D: Site, K: Clock, C: Console>(
         &mut self,
         request: Request,
-        source: &mut S,
-        site: &mut D,
-        clock: &mut K,
+        outside: &mut Outside<S, D, K, C>,
     ) -> Result<Advanced, Stop>
         requires request { IsRequest (setting_in self.old) self.old.machine request.pos (request.pos + request.len) }
         requires places { HasPlaces self.old.settings (covers self.old.domain) }
-        requires input { (S.state source.old).is_open ≡ true }
-        requires image { (D.state site.old).is_open ≡ true }
-        ensures advanced { IfOk result (λ got. Advances request got self.old self.new (S.state source.old)
-            (S.state source.new) (D.state site.old) (D.state site.new) (K.state clock.old) (K.state clock.new)) }
-        ensures halted { IfErr result (λ stop. (console : ConsoleState) → Halted request stop self.old self.new
-            (across (S.state source.old) (S.state source.new) (D.state site.old) (D.state site.new) (K.state clock.old)
-            (K.state clock.new) console console)) }
+        requires open { IsOpen S.Source D.Site outside.old }
+        ensures advanced { IfOk result (λ got. Advances request got self.old self.new
+            (between S.Source D.Site K.Clock C.Console outside.old outside.new)) }
+        ensures halted { IfErr result (λ stop. Halted request stop self.old self.new
+            (between S.Source D.Site K.Clock C.Console outside.old outside.new)) }
         ensures draft { IfErr result (λ stop. drafting_at_stop stop ≡ false) }
-        ensures source { SourceStays (S.state source.old) (S.state source.new) }
-        ensures site { SiteStays (D.state site.old) (D.state site.new) }
-        ensures clock { ClockKeeps (K.state clock.old) (K.state clock.new) }
+        ensures stays { SilentlyStay (between S.Source D.Site K.Clock C.Console outside.old outside.new) }
+        ensures same { AreSame outside.old outside.new }
         ensures running { (room : ℕ) × IsRunning self.old room }
     {
         if self.tiles.reserve(MOST_NEW_BLOCKS).is_err() {
             return Err(Stop::NoMemory);
         }
-        let gathered = gather(request, &self.settings, &mut self.buf, source, site, clock)?;
+        let gathered = gather(request, &self.settings, &mut self.buf, outside)?;
         Ok(go_on_by_kind(
             &self.settings,
             &self.domain,

@@ -5,8 +5,8 @@ use Rattle.faulty_source.specs.SourceState.{SourceState}
 use Rattle.crash_site.specs.declared.site.SiteCall.{SiteCall}
 use Rattle.crash_site.specs.declared.site.SiteCall.TheVariants.{MapRead}
 use Rattle.crash_site.specs.SiteState.{SiteState}
-use Rattle.save_resume.specs.Saving.{drafting_after_fault}
-use Rattle.save_resume.specs.Resuming.{IsResumeCall}
+use Rattle.mapfile_save.specs.Saving.{drafting_after_fault}
+use Rattle.mapfile_resume.specs.Resuming.{IsResumeCall}
 use Rattle.rescue_rules.specs.declared.stop.Stop.TheVariants.{Site}
 use Rattle.task_files.specs.declared.ending.Which.{Which}
 use Rattle.task_files.specs.declared.ending.Which.TheVariants.{RunMap}
@@ -37,6 +37,11 @@ pub load_leaves : (e : Ending) (faults faults' : ℕ) → LoadCause e faults fau
 load_leaves e faults faults' (inl c) = rw c.0 refl
 load_leaves e faults faults' (inr (inl c)) = rw c.1 refl
 load_leaves e faults faults' (inr (inr c)) = rw c.1 (resume_leaves c.0 c.2)
+
+pub output_leaves : (e : Ending) (faults faults' : ℕ) → OutputCause e faults faults' → drafting_left e ≡ false
+output_leaves e faults faults' (inl c) = rw c.0 refl
+output_leaves e faults faults' (inr (inl c)) = rw c.0 refl
+output_leaves e faults faults' (inr (inr c)) = rw c.0 refl
 
 -- a call that failed was counted, and nothing else
 pub map_causes : (which : Which) (e : Ending) (s : SourceState) (d d' : SiteState) → (which ≡ RunMap → ⊥)

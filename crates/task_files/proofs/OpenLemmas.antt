@@ -15,7 +15,7 @@ use Rattle.program_promise.proofs.LoadLemmas.{by_tells}
 use Rattle.program_promise.proofs.LoadedLemmas.{broke_first}
 use Rattle.program_promise.proofs.PartLemmas.{idle}
 use Rattle.task_files.specs.declared.ending.Ending.{Ending}
-use Rattle.task_files.specs.declared.ending.Ending.TheVariants.{NoOutput, NotRegular, SiteFault}
+use Rattle.task_files.specs.declared.ending.Ending.TheVariants.{NoOutput, SiteFault}
 use Rattle.task_files.specs.Refusals.{is_other, OutputMissing, OutputRefused}
 use Rattle.task_files.specs.Work.{missing_rows, output_rows, rescue_faults}
 use Rattle.task_files.specs.Steps.{OpensOutput}
@@ -62,11 +62,10 @@ there None other v missing = cc
 there (Some f) other v missing = let no : Some f ≡ None = missing.0 in cc
 
 -- the rows of a file that is refused for what it is,
-refused_rows : (makes forced : Bool) (out : List ℕ) (file : Option File) → forced ≡ false → is_other file ≡ true
-    → StoppedIn rescue_faults (output_rows makes forced out file) NotRegular (Returned (image_open out makes) ∷ [])
-refused_rows true forced out file unforced other = inr ([], refl, inl ((unforced, other, refl), idle))
-refused_rows false forced out file unforced other =
-    inr ([], refl, inr (there file other, inl ((unforced, other, refl), idle)))
+refused_rows : (makes forced : Bool) (out : List ℕ) (file : Option File) (e : Ending) → OutputRefused forced file e
+    → StoppedIn rescue_faults (output_rows makes forced out file) e (Returned (image_open out makes) ∷ [])
+refused_rows true forced out file e refused = inr ([], refl, inl (refused, idle))
+refused_rows false forced out file e refused = inr ([], refl, inr (there file refused.1, inl (refused, idle)))
 
 -- of one that is taken,
 taken_rows : (makes forced : Bool) (out : List ℕ) (file : Option File)
@@ -76,26 +75,28 @@ taken_rows true forced out file apart some = ([], refl, (apart, refl))
 taken_rows false forced out file apart some = ([], refl, ((λ v missing. some refl missing.0), (apart, refl)))
 
 -- the output was refused
-pub output_refused : (makes forced : Bool) (out : List ℕ) (old new : SiteState) → forced ≡ false
+pub output_refused : (makes forced : Bool) (out : List ℕ) (e : Ending) (old new : SiteState)
+    → ((file : Option File) → is_other file ≡ true → OutputRefused forced file e)
     → (IsTrue old.tells → Other ≡ kind_of (files_in old out) makes)
     → (IsTrue old.tells → new.calls ≡ old.calls ++ Returned (image_open out makes) ∷ [])
-    → OpensOutput {T = Unit {0}} makes forced out (Err NotRegular) old new
+    → OpensOutput {T = Unit {0}} makes forced out (Err e) old new
 unfolding other_file
-output_refused makes forced out old new unforced kind made =
-    by_tells old.tells (OpensOutput {T = Unit {0}} makes forced out (Err NotRegular) old new)
+output_refused makes forced out e old new refuses kind made =
+    by_tells old.tells (OpensOutput {T = Unit {0}} makes forced out (Err e) old new)
     (λ t. record {
       file = files_in old out;
       calls = Returned (image_open out makes) ∷ [];
       is_own = λ s. refl;
       gained = made;
-      did = refused_rows makes forced out (files_in old out) unforced (is_of_other makes (files_in old out) (kind t));
+      did = refused_rows makes forced out (files_in old out) e
+          (refuses (files_in old out) (is_of_other makes (files_in old out) (kind t)));
     })
     (λ n. record {
       file = other_file;
       calls = Returned (image_open out makes) ∷ [];
       is_own = λ s. absurd (n s);
       gained = made;
-      did = refused_rows makes forced out other_file unforced refl;
+      did = refused_rows makes forced out other_file e (refuses other_file refl);
     })
 
 -- or wasn't there

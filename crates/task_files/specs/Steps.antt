@@ -7,17 +7,20 @@ use Rattle.mapfile_text.specs.declared.state.MapState.{MapState}
 use Rattle.mapfile_text.specs.declared.read.Mode.{Mode}
 use Rattle.mapfile_text.specs.declared.read.MapError.{MapError}
 use Rattle.mapfile_text.specs.declared.read.MapError.TheVariants.{NoStatusLine, NoMemory as OutOfMemory}
+use Rattle.faulty_source.specs.SourceChanges.{Keeps as SourceKeeps}
 use Rattle.crash_site.specs.declared.site.SiteCall.{SiteCall}
 use Rattle.crash_site.specs.declared.site.SiteCall.TheVariants.{ImageOpen, MapRead}
 use Rattle.crash_site.specs.Files.{File, file_named}
 use Rattle.crash_site.specs.Calls.{Call, Done as Returned}
 use Rattle.crash_site.specs.CallsMade.{BrokeAt}
 use Rattle.crash_site.specs.SiteState.{SiteState, files_in}
-use Rattle.save_resume.specs.declared.named.NamedFault.{NamedFault}
-use Rattle.save_resume.specs.declared.named.NamedFault.TheVariants.{ReadFailed, Absent, Refused as NotRead, NoMemory as Starving}
-use Rattle.save_resume.specs.MapNames.{MapNames}
-use Rattle.save_resume.specs.Named.{IsMapOf}
-use Rattle.save_resume.specs.Resuming.{IsResumeCall}
+use Rattle.crash_site.specs.SiteChanges.{Keeps as SiteKeeps}
+use Rattle.mapfile_resume.specs.declared.named.NamedFault.{NamedFault}
+use Rattle.mapfile_resume.specs.declared.named.NamedFault.TheVariants.{ReadFailed, Absent, Refused as NotRead, NoMemory as Starving}
+use Rattle.mapfile_save.specs.MapNames.{MapNames}
+use Rattle.mapfile_resume.specs.Named.{IsMapOf}
+use Rattle.mapfile_resume.specs.Resuming.{IsResumeCall}
+use Rattle.rescue_console.specs.ClockState.{Keeps as ClockKeeps}
 use Rattle.rescue_console.specs.Speaking.{SpeaksOn, out_pieces}
 use Rattle.rescue_rules.specs.Setting.{Setting}
 use Rattle.rescue_rules.specs.Snapshots.{heading_at}
@@ -37,6 +40,7 @@ use Rattle.task_files.specs.declared.ending.Which.TheVariants.{RunMap}
 use Rattle.task_files.specs.declared.ending.Ended.{Ended}
 use Rattle.task_files.specs.declared.ending.Ending.{Ending}
 use Rattle.task_files.specs.declared.ending.Ending.TheVariants.{NoMap, NotRegular, MapRefused, NoOutput, SiteFault, NoMemory}
+use Rattle.task_files.specs.Answers.{Causes, drafting_left}
 use Rattle.task_files.specs.Names.{AreNamedApart, first_same_with_optional_map}
 use Rattle.task_files.specs.Asked.{ArePlacedBy, Maps, names_by, setting_of}
 use Rattle.task_files.specs.Maps.{Found, AreAskedFor, AreMapsIn, IsListing, MapfileLists, mapfile_of}
@@ -53,6 +57,15 @@ ending_of (Err e) = e
 abbrev pub heard_after : (heard : Bool) → Result Ended Ending → Bool
 heard_after heard (Ok ended) = ended.heard
 heard_after heard (Err e) = heard
+
+-- what an answer says of the objects: their counts have its cause, a draft is left begun by it or not, and what was told
+-- before stays
+pub record Leaves (e : Ending) (o : Across) : Type 0 where
+  pub cause : Causes e o.source o.source' o.site o.site'
+  pub draft : o.site'.is_drafting ≡ drafting_left e
+  pub source : SourceKeeps o.source o.source'
+  pub site : SiteKeeps o.site o.site'
+  pub clock : ClockKeeps o.clock o.clock'
 
 -- what a rescue needs before it opens a file: the names of its mapfile and its draft, apart from the outfile's, files
 -- of different names, the heading of a map that wasn't saved yet, and options within their limits

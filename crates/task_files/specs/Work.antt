@@ -5,9 +5,9 @@ use Rattle.mapfile_text.specs.declared.read.Mode.{Mode}
 use Rattle.mapfile_text.specs.declared.state.MapState.{MapState}
 use Rattle.crash_site.specs.Files.{File}
 use Rattle.crash_site.specs.Calls.{Call, image_open}
-use Rattle.save_resume.specs.MapNames.{names_of}
-use Rattle.save_resume.specs.Named.{map_mode}
-use Rattle.save_resume.specs.Resuming.{barrier_calls}
+use Rattle.mapfile_save.specs.MapNames.{names_of}
+use Rattle.mapfile_resume.specs.Named.{map_mode}
+use Rattle.mapfile_save.specs.Loading.{barrier_calls}
 use Rattle.rescue_rules.specs.Setting.{Setting}
 use Rattle.rescue_rules.specs.Start.{Stands}
 use Rattle.rescue_rules.specs.declared.stop.Stop.TheVariants.{SourceLost as InputLost, Site, LimitMet as Limited, NoMemory as NoRoom}

@@ -1,15 +1,12 @@
 //! A rescue: the maps that options name, the files, the mapfile, and the run.
 ghost use Rattle.std.specs.Prelude.{◌≡◌, ◌<◌, ◌^◌, false, Option, None};
-ghost use Rattle.faulty_source.specs.SourceChanges.{Keeps as SourceKeeps, Stays as SourceStays};
-ghost use Rattle.crash_site.specs.SiteChanges.{Keeps as SiteKeeps};
-ghost use Rattle.rescue_console.specs.ClockState.{Keeps as ClockKeeps};
+ghost use Rattle.faulty_source.specs.SourceChanges.{Stays as SourceStays};
 ghost use Rattle.block_list.specs.Tiled.{Tiled, statuses_in};
 ghost use Rattle.ddrescue_words.specs.Asking.{told_by};
 ghost use Rattle.task_files.specs.Asked.{setting_of};
-ghost use Rattle.task_files.specs.Answers.{Causes, drafting_left};
-ghost use Rattle.task_files.specs.Steps.{ending_of, heard_after, maps_read, DidRun, CanBegin, IsChecked, DidAfterMaps, Worked};
+ghost use Rattle.task_files.specs.Steps.{ending_of, heard_after, maps_read, Leaves, DidRun, CanBegin, IsChecked, DidAfterMaps, Worked};
 ghost use Rattle.task_rescue.specs.Running.{AreReady};
-ghost use Rattle.rescue_rules.specs.Across.{across};
+ghost use Rattle.rescue_core.specs.Outside.{between, AreSame};
 
 use crate::ready::{begin, make_ready};
 use crate::run::run_rescue;
@@ -19,6 +16,7 @@ use faulty_source::source::Source;
 use option_words::fault::UsageFault;
 use rescue_console::clock::Clock;
 use rescue_console::console::Console;
+use rescue_core::outside::Outside;
 use rescue_domain::test_source::TestSource;
 use task_files::checked::CheckedCommand;
 use task_files::ending::{Ended, Ending, Which, answer};
@@ -47,25 +45,18 @@ struct TestedFiles {
 fn run<S: Source, D: Site, K: Clock, C: Console>(
     checked: CheckedCommand<'_>,
     loaded: LoadedFiles,
-    source: &mut S,
-    site: &mut D,
-    clock: &mut K,
-    console: &mut C,
+    outside: &mut Outside<S, D, K, C>,
 ) -> Ended
-    requires ready { AreReady (S.state source.old) (D.state site.old) }
+    requires ready { AreReady (S.state outside.old.source.now) (D.state outside.old.site.now) }
     requires checked { IsChecked checked }
     requires begins { CanBegin (told_by checked.command).options loaded.end loaded.map.tiles.statuses loaded.map.state }
     ensures ran { (test : Option Tiled) → DidRun (setting_of (told_by checked.entry.command) checked.entry.heading.line
         loaded.end (maps_read (told_by checked.entry.command).options loaded.domain_map test loaded.map)) None
-        loaded.map.tiles.statuses loaded.map.state checked.entry.heard result.heard result.ending (across
-        (S.state source.old) (S.state source.new) (D.state site.old) (D.state site.new) (K.state clock.old)
-        (K.state clock.new) (C.state console.old) (C.state console.new)) }
-    ensures cause { Causes result.ending (S.state source.old) (S.state source.new) (D.state site.old)
-        (D.state site.new) }
-    ensures draft { (D.state site.new).is_drafting ≡ drafting_left result.ending }
-    ensures source { SourceStays (S.state source.old) (S.state source.new) }
-    ensures site { SiteKeeps (D.state site.old) (D.state site.new) }
-    ensures clock { ClockKeeps (K.state clock.old) (K.state clock.new) }
+        loaded.map.tiles.statuses loaded.map.state checked.entry.heard result.heard
+        result.ending (between S.Source D.Site K.Clock C.Console outside.old outside.new) }
+    ensures leaves { Leaves result.ending (between S.Source D.Site K.Clock C.Console outside.old outside.new) }
+    ensures source { SourceStays (S.state outside.old.source.now) (S.state outside.new.source.now) }
+    ensures same { AreSame outside.old outside.new }
 {
     let CheckedCommand {
         command,
@@ -78,10 +69,16 @@ fn run<S: Source, D: Site, K: Clock, C: Console>(
         let ending = Ending::NoMemory;
         return Ended { ending, heard };
     };
-    let moment = clock.now_ms();
-    let heard = say_line(console, &ready.opening, heard);
+    let moment = outside.clock.now_ms();
+    let heard = say_line(outside.console, &ready.opening, heard);
     let rescue = begin(ready, command, names, heading, moment, heard);
-    let closed = run_rescue(rescue, source, site, clock, console);
+    let closed = run_rescue(
+        rescue,
+        outside.source,
+        outside.site,
+        outside.clock,
+        outside.console,
+    );
     Ended {
         ending: answer(closed.end),
         heard: closed.heard,
@@ -92,33 +89,32 @@ fn run<S: Source, D: Site, K: Clock, C: Console>(
 fn run_tested<S: Source, D: Site, K: Clock, C: Console>(
     checked: CheckedCommand<'_>,
     files: TestedFiles,
-    source: &mut S,
-    site: &mut D,
-    clock: &mut K,
-    console: &mut C,
+    outside: &mut Outside<S, D, K, C>,
 ) -> Ended
-    requires ready { AreReady (S.state source.old) (D.state site.old) }
+    requires ready { AreReady (S.state outside.old.source.now) (D.state outside.old.site.now) }
     requires checked { IsChecked checked }
     requires begins { CanBegin (told_by checked.command).options files.loaded.end files.loaded.map.tiles.statuses
         files.loaded.map.state }
     ensures ran { DidRun (setting_of (told_by checked.entry.command) checked.entry.heading.line files.loaded.end
         (maps_read (told_by checked.entry.command).options files.loaded.domain_map files.test_map files.loaded.map))
         (statuses_in files.test_map) files.loaded.map.tiles.statuses files.loaded.map.state checked.entry.heard
-        result.heard result.ending (across (S.state source.old) (S.state source.new) (D.state site.old)
-        (D.state site.new) (K.state clock.old) (K.state clock.new) (C.state console.old) (C.state console.new)) }
-    ensures cause { Causes result.ending (S.state source.old) (S.state source.new) (D.state site.old)
-        (D.state site.new) }
-    ensures draft { (D.state site.new).is_drafting ≡ drafting_left result.ending }
-    ensures source { SourceStays (S.state source.old) (S.state source.new) }
-    ensures site { SiteKeeps (D.state site.old) (D.state site.new) }
-    ensures clock { ClockKeeps (K.state clock.old) (K.state clock.new) }
+        result.heard result.ending (between S.Source D.Site K.Clock C.Console outside.old outside.new) }
+    ensures leaves { Leaves result.ending (between S.Source D.Site K.Clock C.Console outside.old outside.new) }
+    ensures source { SourceStays (S.state outside.old.source.now) (S.state outside.new.source.now) }
+    ensures same { AreSame outside.old outside.new }
 {
     let TestedFiles { loaded, test_map } = files;
     match &test_map {
-        None => run(checked, loaded, source, site, clock, console),
+        None => run(checked, loaded, outside),
         Some(tiles) => {
-            let mut tested = TestSource::new(source, tiles);
-            run(checked, loaded, &mut tested, site, clock, console)
+            let mut tested = TestSource::new(outside.source, tiles);
+            let mut within = Outside {
+                source: &mut tested,
+                site: outside.site,
+                clock: outside.clock,
+                console: outside.console,
+            };
+            run(checked, loaded, &mut within)
         }
     }
 }
@@ -127,31 +123,23 @@ fn run_tested<S: Source, D: Site, K: Clock, C: Console>(
 fn open_and_run<S: Source, D: Site, K: Clock, C: Console>(
     checked: CheckedCommand<'_>,
     maps: NamedMaps,
-    source: &mut S,
-    site: &mut D,
-    clock: &mut K,
-    console: &mut C,
+    outside: &mut Outside<S, D, K, C>,
 ) -> Result<Ended, Ending>
-    requires no_draft { (D.state site.old).is_drafting ≡ false }
+    requires no_draft { (D.state outside.old.site.now).is_drafting ≡ false }
     requires checked { IsChecked checked }
     ensures opened { DidAfterMaps (told_by checked.entry.command) checked.entry.heading.line
         (statuses_in maps.domain_map) (statuses_in maps.test_map) checked.entry.heard
-        (heard_after checked.entry.heard result) (ending_of result) (across (S.state source.old) (S.state source.new)
-        (D.state site.old) (D.state site.new) (K.state clock.old) (K.state clock.new) (C.state console.old)
-        (C.state console.new)) }
-    ensures cause { Causes (ending_of result) (S.state source.old) (S.state source.new) (D.state site.old)
-        (D.state site.new) }
-    ensures draft { (D.state site.new).is_drafting ≡ drafting_left (ending_of result) }
-    ensures source { SourceKeeps (S.state source.old) (S.state source.new) }
-    ensures site { SiteKeeps (D.state site.old) (D.state site.new) }
-    ensures clock { ClockKeeps (K.state clock.old) (K.state clock.new) }
+        (heard_after checked.entry.heard result)
+        (ending_of result) (between S.Source D.Site K.Clock C.Console outside.old outside.new) }
+    ensures leaves { Leaves (ending_of result) (between S.Source D.Site K.Clock C.Console outside.old outside.new) }
+    ensures same { AreSame outside.old outside.new }
 {
     let command = checked.command;
-    let Ok(end) = source.open_input(command.infile) else {
+    let Ok(end) = outside.source.open_input(command.infile) else {
         return Err(Ending::SourceFault);
     };
-    open_output(site, command.outfile, true, command.options.forced)?;
-    let map = load(checked.alloc, site, &checked.names, end)?;
+    open_output(outside.site, command.outfile, true, command.options.forced)?;
+    let map = load(checked.alloc, outside.site, &checked.names, end)?;
     if !places_fit(&command.options, end) {
         return Err(Ending::Usage(UsageFault::PlaceTooLarge));
     }
@@ -165,43 +153,41 @@ fn open_and_run<S: Source, D: Site, K: Clock, C: Console>(
         end,
     };
     let files = TestedFiles { loaded, test_map };
-    Ok(run_tested(checked, files, source, site, clock, console))
+    Ok(run_tested(checked, files, outside))
 }
 
 /// Reads the maps that options name, opens the files, loads the mapfile if there is one, and runs the rescue.
 pub fn rescue<S: Source, D: Site, K: Clock, C: Console>(
     checked: CheckedCommand<'_>,
-    source: &mut S,
-    site: &mut D,
-    clock: &mut K,
-    console: &mut C,
+    outside: &mut Outside<S, D, K, C>,
 ) -> Result<Ended, Ending>
-    requires no_draft { (D.state site.old).is_drafting ≡ false }
+    requires no_draft { (D.state outside.old.site.now).is_drafting ≡ false }
     requires checked { IsChecked checked }
-    ensures worked { Worked (told_by checked.entry.command) checked.entry.heading.line checked.entry.heard
-        (heard_after checked.entry.heard result) (ending_of result) (across (S.state source.old) (S.state source.new)
-        (D.state site.old) (D.state site.new) (K.state clock.old) (K.state clock.new) (C.state console.old)
-        (C.state console.new)) }
-    ensures cause { Causes (ending_of result) (S.state source.old) (S.state source.new) (D.state site.old)
-        (D.state site.new) }
-    ensures draft { (D.state site.new).is_drafting ≡ drafting_left (ending_of result) }
-    ensures source { SourceKeeps (S.state source.old) (S.state source.new) }
-    ensures site { SiteKeeps (D.state site.old) (D.state site.new) }
-    ensures clock { ClockKeeps (K.state clock.old) (K.state clock.new) }
+    ensures worked { Worked (told_by checked.entry.command) checked.entry.heading.line
+        checked.entry.heard (heard_after checked.entry.heard result)
+        (ending_of result) (between S.Source D.Site K.Clock C.Console outside.old outside.new) }
+    ensures leaves { Leaves (ending_of result) (between S.Source D.Site K.Clock C.Console outside.old outside.new) }
+    ensures same { AreSame outside.old outside.new }
 {
     let command = checked.command;
     let loose = command.options.loose;
     let domain_map = read_named(
         checked.alloc,
-        site,
+        outside.site,
         Which::DomainMap,
         command.domain_map,
         loose,
     )?;
-    let test_map = read_named(checked.alloc, site, Which::TestMap, command.test_map, loose)?;
+    let test_map = read_named(
+        checked.alloc,
+        outside.site,
+        Which::TestMap,
+        command.test_map,
+        loose,
+    )?;
     let maps = NamedMaps {
         domain_map,
         test_map,
     };
-    open_and_run(checked, maps, source, site, clock, console)
+    open_and_run(checked, maps, outside)
 }

@@ -1,5 +1,5 @@
 -- The pattern: a front that is repeated after itself, and what came of its read.
-use Rattle.std.proofs.Common.{◌≡◌, ℕ, ◌+◌, ◌-◌, ◌<◌, ◌≤◌, ◌%◌, min, List, [], ◌∷◌, ◌++◌, length, take, None, Some, Ok, Err, IsTrue, get_or, slice_get, refl, sym, ap, ◌∙◌, inl, inr, subst, arith, length-append}
+use Rattle.std.proofs.Common.{◌≡◌, ℕ, ◌+◌, ◌-◌, ◌<◌, ◌≤◌, ◌%◌, false, min, List, [], ◌∷◌, ◌++◌, length, take, None, Some, Ok, Err, IsTrue, get_or, slice_get, refl, sym, ap, ◌∙◌, inl, inr, subst, arith, length-append}
 use Rattle.std.specs.List.{slice_range}
 use Rattle.std.proofs.Math.ListN.{set, get_or-append}
 use Rattle.std.proofs.Math.Nat.{mod-eq_of_lt, mod-eq-sub-mod, mod-lt, ne_of_lt}
@@ -16,7 +16,7 @@ use Rattle.faulty_source.specs.Journal.{IsFrom}
 use Rattle.crash_site.specs.SiteState.{SiteState}
 use Rattle.task_files.specs.declared.ending.Ending.{Ending}
 use Rattle.task_files.specs.declared.ending.Ending.TheVariants.{EmptyPattern, PatternUnread, NoMemory}
-use Rattle.task_files.specs.Answers.{Causes}
+use Rattle.task_files.specs.Answers.{Causes, drafting_left}
 use Rattle.task_files.specs.Outside.{HasGainedReads}
 use Rattle.task_sweeps.specs.Pattern.{IsPatternRead, IsRepeated, PatternRead, PatternCause, PatternTaken, ReadsPattern, TakesPattern}
 
@@ -186,3 +186,17 @@ pattern_causes T cluster end reads e s s' d (inr (inr (some, inl (is, none)))) =
 pattern_causes T cluster end reads e s s' d (inr (inr (some, inr (r, one, pattern, less, is)))) =
     subst (λ (v : Ending). CountsAs T v s s' d) (sym is)
     (λ c. record { opens = c.faults; reads = c.losses; calls = refl; also = tt })
+
+-- and leaves no draft begun
+pub pattern_leaves : (cluster end : ℕ) (reads : List Reading) (e : Ending) → PatternTaken cluster end reads (Err e)
+    → drafting_left e ≡ false
+pattern_leaves cluster end reads e (inl (zero, is, none)) =
+    let same : e ≡ EmptyPattern = cc in
+    subst (λ (v : Ending). drafting_left v ≡ false) (sym same) refl
+pattern_leaves cluster end reads e (inr (inl (some, is, none))) =
+    let same : e ≡ NoMemory = cc in
+    subst (λ (v : Ending). drafting_left v ≡ false) (sym same) refl
+pattern_leaves cluster end reads e (inr (inr (some, inl (is, none)))) =
+    subst (λ (v : Ending). drafting_left v ≡ false) (sym is) refl
+pattern_leaves cluster end reads e (inr (inr (some, inr (r, one, pattern, less, is)))) =
+    subst (λ (v : Ending). drafting_left v ≡ false) (sym is) refl

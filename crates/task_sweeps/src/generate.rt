@@ -1,15 +1,14 @@
 //! Generate mode: a mapfile is made of what the outfile holds.
 ghost use Rattle.std.specs.Prelude.{◌≡◌, ◌<◌, ◌^◌, true, false, is_some, Option};
 ghost use Rattle.block_list.specs.Tiled.{Tiled};
-ghost use Rattle.faulty_source.specs.SourceChanges.{Keeps as SourceKeeps};
 ghost use Rattle.crash_site.specs.SiteChanges.{Keeps as SiteKeeps};
 ghost use Rattle.rescue_console.specs.ClockState.{Keeps as ClockKeeps};
-ghost use Rattle.rescue_rules.specs.Across.{across};
+ghost use Rattle.rescue_core.specs.Outside.{between, AreSame};
 ghost use Rattle.fill_generate.specs.Sweeping.{around};
 ghost use Rattle.ddrescue_words.specs.Asking.{told_by};
 ghost use Rattle.task_files.specs.Asked.{setting_of};
-ghost use Rattle.task_files.specs.Answers.{Causes, drafting_left};
-ghost use Rattle.task_files.specs.Steps.{ending_of, heard_after, maps_read, CanBegin, IsChecked};
+ghost use Rattle.task_files.specs.Answers.{drafting_left};
+ghost use Rattle.task_files.specs.Steps.{ending_of, heard_after, maps_read, Leaves, CanBegin, IsChecked};
 ghost use Rattle.task_sweeps.specs.SweepSteps.{DidGenerate, SweepCause, WorkedGenerate};
 
 use crate::sweep::{make_job, make_sweep};
@@ -19,6 +18,7 @@ use fill_generate::generate::run_generate;
 use option_words::fault::UsageFault;
 use rescue_console::clock::Clock;
 use rescue_console::console::Console;
+use rescue_core::outside::Outside;
 use task_files::checked::CheckedCommand;
 use task_files::ending::{Ended, Ending, Which, answer};
 use task_files::load::{LoadedFiles, load};
@@ -83,39 +83,31 @@ fn run<D: Site, K: Clock, C: Console>(
 /// the mapfile, and looks up what the outfile holds.
 pub fn generate<S: Source, D: Site, K: Clock, C: Console>(
     checked: CheckedCommand<'_>,
-    source: &mut S,
-    site: &mut D,
-    clock: &mut K,
-    console: &mut C,
+    outside: &mut Outside<S, D, K, C>,
 ) -> Result<Ended, Ending>
-    requires no_draft { (D.state site.old).is_drafting ≡ false }
+    requires no_draft { (D.state outside.old.site.now).is_drafting ≡ false }
     requires checked { IsChecked checked }
     requires named { is_some (told_by checked.command).mapfile ≡ true }
-    ensures worked { WorkedGenerate (told_by checked.entry.command) checked.entry.heading.line checked.entry.heard
-        (heard_after checked.entry.heard result) (ending_of result) (across (S.state source.old) (S.state source.new)
-        (D.state site.old) (D.state site.new) (K.state clock.old) (K.state clock.new) (C.state console.old)
-        (C.state console.new)) }
-    ensures cause { Causes (ending_of result) (S.state source.old) (S.state source.new) (D.state site.old)
-        (D.state site.new) }
-    ensures draft { (D.state site.new).is_drafting ≡ drafting_left (ending_of result) }
-    ensures source { SourceKeeps (S.state source.old) (S.state source.new) }
-    ensures site { SiteKeeps (D.state site.old) (D.state site.new) }
-    ensures clock { ClockKeeps (K.state clock.old) (K.state clock.new) }
+    ensures worked { WorkedGenerate (told_by checked.entry.command) checked.entry.heading.line
+        checked.entry.heard (heard_after checked.entry.heard result)
+        (ending_of result) (between S.Source D.Site K.Clock C.Console outside.old outside.new) }
+    ensures leaves { Leaves (ending_of result) (between S.Source D.Site K.Clock C.Console outside.old outside.new) }
+    ensures same { AreSame outside.old outside.new }
 {
     let command = checked.command;
     let loose = command.options.loose;
     let domain_map = read_named(
         checked.alloc,
-        site,
+        outside.site,
         Which::DomainMap,
         command.domain_map,
         loose,
     )?;
-    let Ok(end) = source.open_input(command.infile) else {
+    let Ok(end) = outside.source.open_input(command.infile) else {
         return Err(Ending::SourceFault);
     };
-    open_output(site, command.outfile, false, command.options.forced)?;
-    let map = load(checked.alloc, site, &checked.names, end)?;
+    open_output(outside.site, command.outfile, false, command.options.forced)?;
+    let map = load(checked.alloc, outside.site, &checked.names, end)?;
     if !places_fit(&command.options, end) {
         return Err(Ending::Usage(UsageFault::PlaceTooLarge));
     }
@@ -124,5 +116,11 @@ pub fn generate<S: Source, D: Site, K: Clock, C: Console>(
         map,
         end,
     };
-    Ok(run(checked, loaded, site, clock, console))
+    Ok(run(
+        checked,
+        loaded,
+        outside.site,
+        outside.clock,
+        outside.console,
+    ))
 }

@@ -9,12 +9,12 @@ use Rattle.rescue_core.specs.TurnParts.{IsCutAt, fetched_of}
 use Rattle.rescue_core.proofs.gather.gather.Goals as goal
 
 pub returns-in_default-clause-halted : goal.returns-in_default-clause-halted
-returns-in_default-clause-halted g c = λ r console same.
+returns-in_default-clause-halted g c = λ r same.
     Lost refl refl (search rules) refl c.in_default.ensures.lost_clock.0
     c.in_default.ensures.lost_clock.1 c.in_default.ensures.lost_clock.2 refl
 
 pub returns-in_default-land_kept-clause-halted : goal.returns-in_default-land_kept-clause-halted
-returns-in_default-land_kept-clause-halted g c = λ r console same.
+returns-in_default-land_kept-clause-halted g c = λ r same.
     let t = c.in-Ok.ensures.timed in
     let from = t.is.pos in
     let cut_at : IsCutAt c.in-Ok.timed.fetched c.read_timed.new.buf (c.saturating_sub.result + c.args.settings.now.output_position) (setting_in r) t.event.reading

@@ -1,14 +1,18 @@
-use Rattle.std.proofs.Common.{sym, ◌∙◌, ap, arith, ℕ, ◌+◌, Some}
+use Rattle.std.proofs.Common.{refl, sym, ◌∙◌, ap, arith, ℕ, ◌+◌, Some}
 use Rattle.std.proofs.lemmas.Result.{err_from_is_err_and}
 use Rattle.rescue_rules.specs.declared.phase.Phase.TheVariants.{Copying}
 use Rattle.rescue_rules.specs.Passes.{numbered}
+use Rattle.rescue_core.proofs.ObjectLemmas.{same_on}
 use Rattle.rescue_phases.proofs.CopyingLemmas.{second_is}
 use Rattle.rescue_phases.proofs.TurnLemmas.{begins, goes_on, goes_on_by_next, went_up_to_on, objects_stay}
 use Rattle.rescue_phases.proofs.copy.run_passes.Goals as goal
 
 pub passes-init : goal.passes-init
-passes-init g c =
-    (begins _ _ _ _ _ c.requires.places c.requires.input c.requires.image c.requires.no_draft, c.requires.copying)
+passes-init g c = (
+  begins _ _ _ _ _ c.requires.places c.requires.open.input c.requires.open.image c.requires.no_draft,
+  record { source = refl; site = refl; clock = refl; console = refl },
+  c.requires.copying,
+)
 
 pub returns-in_err-run_pass-clause-ends : goal.returns-in_err-run_pass-clause-ends
 returns-in_err-run_pass-clause-ends g c =
@@ -34,7 +38,8 @@ begin_pass-requires-clause-next g c =
 
 pub passes-preserved : goal.passes-preserved
 passes-preserved g c =
-    goes_on_by_next _ _ _ _ _
+    let on = goes_on_by_next _ _ _ _ _
     (goes_on _ _ _ _ _ _ _ _ _ _ _ _ _ _ _ c.passes.invariant.0 c.in_ok-run_pass.ensures.ends.goes)
     c.in_ok-run_pass.ensures.copying c.in_ok-run_pass.ensures.spent
-    (omega (arith, c.if-pass-ge-COPYING_PASSES.false, c.pass-pass.ensures)) c.pass-pass.ensures c.begin_pass.ensures
+    (omega (arith, c.if-pass-ge-COPYING_PASSES.false, c.pass-pass.ensures)) c.pass-pass.ensures c.begin_pass.ensures in
+    (on.0, same_on c.passes.invariant.1 c.run_pass.ensures.same, on.1)

@@ -1,5 +1,5 @@
 -- What the open of the output did, by what it found.
-use Rattle.std.proofs.Common.{◌≡◌, false, true, rules, sym, ◌∙◌}
+use Rattle.std.proofs.Common.{◌≡◌, false, true, refl, rules, sym, ◌∙◌}
 use Rattle.crash_site.specs.declared.site.ImageKind.TheVariants.{Absent, Other}
 use Rattle.task_files.proofs.OpenLemmas.{output_failed, output_missing, output_opened, output_refused}
 use Rattle.task_files.proofs.open.open_output.Goals as goal
@@ -11,8 +11,8 @@ returns-in-Ok-Absent-clause-opens g c =
 
 pub returns-in-Ok-Other-clause-opens : goal.returns-in-Ok-Other-clause-opens
 returns-in-Ok-Other-clause-opens g c =
-    output_refused _ _ _ _ _ c.if-not-forced.true (rw c.in-Ok-Other.field-0-is at c.in-Ok-Other.ensures.kind)
-    c.in-Ok-Other.ensures.call.done
+    output_refused _ _ _ _ _ _ (λ file other. (c.if-not-forced.true, other, refl))
+    (rw c.in-Ok-Other.field-0-is at c.in-Ok-Other.ensures.kind) c.in-Ok-Other.ensures.call.done
 
 pub returns-in-Ok-Regular-clause-opens : goal.returns-in-Ok-Regular-clause-opens
 returns-in-Ok-Regular-clause-opens g c =

@@ -1,9 +1,10 @@
 use Rattle.std.proofs.Common.{None, refl, sym, ◌∙◌}
 use Rattle.std.proofs.lemmas.Result.{err_from_is_err_and}
 use Rattle.faulty_source.proofs.Keeping.{keeps_self}
+use Rattle.mapfile_save.proofs.FillLemmas.{keeps_more as site_keeps_more}
 use Rattle.ddrescue_words.specs.Asking.{told_by}
 use Rattle.task_files.specs.declared.ending.Which.TheVariants.{DomainMap}
-use Rattle.task_files.proofs.CauseLemmas.{causes_after, load_causes, load_leaves, map_causes, map_drafts, output_causes}
+use Rattle.task_files.proofs.CauseLemmas.{causes_after, load_causes, load_leaves, map_causes, map_drafts, output_causes, output_leaves}
 use Rattle.task_files.proofs.OpenedLemmas.{not_opened}
 use Rattle.task_sweeps.proofs.SweptEnds.{cause_after}
 use Rattle.task_sweeps.proofs.GeneratedLemmas.{generate_unread, generate_unopened, generate_output, generate_load, generate_unplaced, generate_goes}
@@ -13,42 +14,27 @@ pub returns-in_err-domain_map-clause-worked : goal.returns-in_err-domain_map-cla
 returns-in_err-domain_map-clause-worked g c =
     let p = err_from_is_err_and c.from_residual.result c.from_residual.ensures.1 in
     rw (p.1, p.2) (generate_unread (told_by c.args.checked.command) _ c.args.checked.heard c.requires.checked.different _
-    (g.S.Source.state c.args.source.now) (g.D.Site.state c.args.site.now) (g.D.Site.state c.read_named.new.site)
-    (g.K.Clock.state c.args.clock.now)
-    (g.C.Console.state c.args.console.now) c.in_err-domain_map.ensures.told)
-
-pub returns-in_err-domain_map-clause-cause : goal.returns-in_err-domain_map-clause-cause
-returns-in_err-domain_map-clause-cause g c =
-    let p = err_from_is_err_and c.from_residual.result c.from_residual.ensures.1 in
-    rw (p.1, p.2) (map_causes DomainMap _ (g.S.Source.state c.args.source.now) (g.D.Site.state c.args.site.now)
-    (g.D.Site.state c.read_named.new.site) (λ is. cc) c.in_err-domain_map.ensures.cause)
-
-pub returns-in_err-domain_map-clause-draft : goal.returns-in_err-domain_map-clause-draft
-returns-in_err-domain_map-clause-draft g c =
-    let p = err_from_is_err_and c.from_residual.result c.from_residual.ensures.1 in
-    rw (p.1, p.2) (c.in_err-domain_map.ensures.site.draft ∙ c.requires.no_draft
-    ∙ sym (map_drafts DomainMap _ _ _ c.in_err-domain_map.ensures.cause))
-
-pub returns-in_err-domain_map-clause-source : goal.returns-in_err-domain_map-clause-source
-returns-in_err-domain_map-clause-source g c = keeps_self _
+    (g.S.Source.state c.args.outside.now.source.now) (g.D.Site.state c.args.outside.now.site.now) (g.D.Site.state c.read_named.new.site)
+    (g.K.Clock.state c.args.outside.now.clock.now)
+    (g.C.Console.state c.args.outside.now.console.now) c.in_err-domain_map.ensures.told)
 
 pub returns-in_default-clause-worked : goal.returns-in_default-clause-worked
 returns-in_default-clause-worked g c =
     generate_unopened (told_by c.args.checked.command) _ c.args.checked.heard c.requires.checked.different
-    c.in_ok-domain_map.domain_map (g.S.Source.state c.args.source.now) (g.D.Site.state c.args.site.now)
+    c.in_ok-domain_map.domain_map (g.S.Source.state c.args.outside.now.source.now) (g.D.Site.state c.args.outside.now.site.now)
     (g.D.Site.state c.read_named.new.site) c.in_ok-domain_map.ensures.told c.in_ok-domain_map.ensures.site
-    (g.S.Source.state c.open_input.new.self) (g.K.Clock.state c.args.clock.now)
-    (g.C.Console.state c.args.console.now) c.open_input.ensures.call.journal
+    (g.S.Source.state c.open_input.new.self) (g.K.Clock.state c.args.outside.now.clock.now)
+    (g.C.Console.state c.args.outside.now.console.now) c.open_input.ensures.call.journal
     (not_opened _ c.open_input.result _ _ c.in_default.not-Ok c.open_input.ensures.call c.open_input.ensures.schedule)
 
 pub returns-in_err-open_output-clause-worked : goal.returns-in_err-open_output-clause-worked
 returns-in_err-open_output-clause-worked g c =
     let p = err_from_is_err_and c.from_residual-in_err-open_output.result c.from_residual-in_err-open_output.ensures.1 in
     rw (p.1, p.2) (generate_output (told_by c.args.checked.command) _ c.args.checked.heard c.requires.checked.different
-    c.in_ok-domain_map.domain_map (g.S.Source.state c.args.source.now) (g.D.Site.state c.args.site.now)
+    c.in_ok-domain_map.domain_map (g.S.Source.state c.args.outside.now.source.now) (g.D.Site.state c.args.outside.now.site.now)
     (g.D.Site.state c.read_named.new.site) c.in_ok-domain_map.ensures.told c.in_ok-domain_map.ensures.site
-    c.in-Ok.end (g.S.Source.state c.open_input.new.self) (g.K.Clock.state c.args.clock.now)
-    (g.C.Console.state c.args.console.now) (record {
+    c.in-Ok.end (g.S.Source.state c.open_input.new.self) (g.K.Clock.state c.args.outside.now.clock.now)
+    (g.C.Console.state c.args.outside.now.console.now) (record {
       opened = (c.open_input.ensures.call.opens, c.in-Ok.ensures.call.named);
       same = c.open_input.ensures.call.journal;
       bytes = c.open_input.ensures.call.keeps.bytes;
@@ -61,10 +47,10 @@ pub returns-in_err-map-clause-worked : goal.returns-in_err-map-clause-worked
 returns-in_err-map-clause-worked g c =
     let p = err_from_is_err_and c.from_residual-in_err-map.result c.from_residual-in_err-map.ensures.1 in
     rw (p.1, p.2) (generate_load (told_by c.args.checked.command) _ c.args.checked.heard c.requires.checked.different
-    c.in_ok-domain_map.domain_map (g.S.Source.state c.args.source.now) (g.D.Site.state c.args.site.now)
+    c.in_ok-domain_map.domain_map (g.S.Source.state c.args.outside.now.source.now) (g.D.Site.state c.args.outside.now.site.now)
     (g.D.Site.state c.read_named.new.site) c.in_ok-domain_map.ensures.told c.in_ok-domain_map.ensures.site
-    c.in-Ok.end (g.S.Source.state c.open_input.new.self) (g.K.Clock.state c.args.clock.now)
-    (g.C.Console.state c.args.console.now) (record {
+    c.in-Ok.end (g.S.Source.state c.open_input.new.self) (g.K.Clock.state c.args.outside.now.clock.now)
+    (g.C.Console.state c.args.outside.now.console.now) (record {
       opened = (c.open_input.ensures.call.opens, c.in-Ok.ensures.call.named);
       same = c.open_input.ensures.call.journal;
       bytes = c.open_input.ensures.call.keeps.bytes;
@@ -79,36 +65,13 @@ returns-in_err-map-clause-worked g c =
       loads = c.in_err-map.ensures.loaded;
     }))
 
-pub returns-in_err-open_output-clause-cause : goal.returns-in_err-open_output-clause-cause
-returns-in_err-open_output-clause-cause g c =
-    let p = err_from_is_err_and c.from_residual-in_err-open_output.result c.from_residual-in_err-open_output.ensures.1 in
-    rw (p.1, p.2) (causes_after _ (g.S.Source.state c.args.source.now) (g.S.Source.state c.open_input.new.self)
-    (g.S.Source.state c.open_input.new.self) (g.D.Site.state c.args.site.now) (g.D.Site.state c.read_named.new.site)
-    (g.D.Site.state c.open_output.new.site) c.in-Ok.ensures.call.kept c.open_input.ensures.call.losses
-    c.in_ok-domain_map.ensures.kept (output_causes _ _ _ _ c.in_err-open_output.ensures.cause))
-
-pub returns-in_err-map-clause-cause : goal.returns-in_err-map-clause-cause
-returns-in_err-map-clause-cause g c =
-    let p = err_from_is_err_and c.from_residual-in_err-map.result c.from_residual-in_err-map.ensures.1 in
-    rw (p.1, p.2) (causes_after _ (g.S.Source.state c.args.source.now) (g.S.Source.state c.open_input.new.self)
-    (g.S.Source.state c.open_input.new.self) (g.D.Site.state c.args.site.now) (g.D.Site.state c.open_output.new.site)
-    (g.D.Site.state c.load.new.site) c.in-Ok.ensures.call.kept c.open_input.ensures.call.losses
-    (c.in_ok-open_output.ensures.kept ∙ c.in_ok-domain_map.ensures.kept)
-    (load_causes _ _ _ _ c.in_err-map.ensures.cause))
-
-pub returns-in_err-map-clause-draft : goal.returns-in_err-map-clause-draft
-returns-in_err-map-clause-draft g c =
-    let p = err_from_is_err_and c.from_residual-in_err-map.result c.from_residual-in_err-map.ensures.1 in
-    rw (p.1, p.2) (c.load.ensures.site.draft ∙ c.open_output.ensures.draft ∙ c.read_named.ensures.site.draft
-    ∙ c.requires.no_draft ∙ sym (load_leaves _ _ _ c.in_err-map.ensures.cause))
-
 pub returns-then-not-places_fit-clause-worked : goal.returns-then-not-places_fit-clause-worked
 returns-then-not-places_fit-clause-worked g c =
     generate_unplaced (told_by c.args.checked.command) _ c.args.checked.heard c.requires.checked.different
-    c.in_ok-domain_map.domain_map (g.S.Source.state c.args.source.now) (g.D.Site.state c.args.site.now)
+    c.in_ok-domain_map.domain_map (g.S.Source.state c.args.outside.now.source.now) (g.D.Site.state c.args.outside.now.site.now)
     (g.D.Site.state c.read_named.new.site) c.in_ok-domain_map.ensures.told c.in_ok-domain_map.ensures.site
-    c.in-Ok.end (g.S.Source.state c.open_input.new.self) (g.K.Clock.state c.args.clock.now)
-    (g.C.Console.state c.args.console.now) (record {
+    c.in-Ok.end (g.S.Source.state c.open_input.new.self) (g.K.Clock.state c.args.outside.now.clock.now)
+    (g.C.Console.state c.args.outside.now.console.now) (record {
       opened = (c.open_input.ensures.call.opens, c.in-Ok.ensures.call.named);
       same = c.open_input.ensures.call.journal;
       bytes = c.open_input.ensures.call.keeps.bytes;
@@ -127,10 +90,10 @@ returns-then-not-places_fit-clause-worked g c =
 pub returns-clause-worked : goal.returns-clause-worked
 returns-clause-worked g c =
     generate_goes (told_by c.args.checked.command) _ c.args.checked.heard c.requires.checked.different
-    c.in_ok-domain_map.domain_map (g.S.Source.state c.args.source.now) (g.D.Site.state c.args.site.now)
+    c.in_ok-domain_map.domain_map (g.S.Source.state c.args.outside.now.source.now) (g.D.Site.state c.args.outside.now.site.now)
     (g.D.Site.state c.read_named.new.site) c.in_ok-domain_map.ensures.told c.in_ok-domain_map.ensures.site
-    c.in-Ok.end (g.S.Source.state c.open_input.new.self) (g.K.Clock.state c.args.clock.now)
-    (g.C.Console.state c.args.console.now) (record {
+    c.in-Ok.end (g.S.Source.state c.open_input.new.self) (g.K.Clock.state c.args.outside.now.clock.now)
+    (g.C.Console.state c.args.outside.now.console.now) (record {
       opened = (c.open_input.ensures.call.opens, c.in-Ok.ensures.call.named);
       same = c.open_input.ensures.call.journal;
       bytes = c.open_input.ensures.call.keeps.bytes;
@@ -149,9 +112,62 @@ returns-clause-worked g c =
     c.requires.named c.load.ensures.site.keeps
     (c.if-not-places_fit.ensures.fit refl) (c.run.ensures.ran None)
 
-pub returns-clause-cause : goal.returns-clause-cause
-returns-clause-cause g c =
-    cause_after _ (g.S.Source.state c.args.source.now) (g.S.Source.state c.open_input.new.self)
-    (g.D.Site.state c.args.site.now) (g.D.Site.state c.load.new.site) (g.D.Site.state c.run.new.site)
-    c.in-Ok.ensures.call.kept c.open_input.ensures.call.losses
-    (c.in_ok-map.ensures.kept ∙ c.in_ok-open_output.ensures.kept ∙ c.in_ok-domain_map.ensures.kept) c.run.ensures.cause
+pub returns-in_err-domain_map-clause-leaves : goal.returns-in_err-domain_map-clause-leaves
+returns-in_err-domain_map-clause-leaves g c =
+    let p = err_from_is_err_and c.from_residual.result c.from_residual.ensures.1 in
+    rw (p.1, p.2) (record {
+      cause = map_causes DomainMap _ (g.S.Source.state c.args.outside.now.source.now) (g.D.Site.state
+          c.args.outside.now.site.now) (g.D.Site.state c.read_named.new.site) (λ is. cc)
+          c.in_err-domain_map.ensures.cause;
+      draft = c.in_err-domain_map.ensures.site.draft ∙ c.requires.no_draft ∙ sym (map_drafts DomainMap _ _ _
+          c.in_err-domain_map.ensures.cause);
+      source = keeps_self _;
+      site = c.in_err-domain_map.ensures.site.keeps;
+      clock = record { scheduled = refl; schedule = refl };
+    })
+
+pub returns-in_err-open_output-clause-leaves : goal.returns-in_err-open_output-clause-leaves
+returns-in_err-open_output-clause-leaves g c =
+    let p = err_from_is_err_and c.from_residual-in_err-open_output.result c.from_residual-in_err-open_output.ensures.1 in
+    rw (p.1, p.2) (record {
+      cause = causes_after _ (g.S.Source.state c.args.outside.now.source.now) (g.S.Source.state c.open_input.new.self)
+          (g.S.Source.state c.open_input.new.self) (g.D.Site.state c.args.outside.now.site.now) (g.D.Site.state
+          c.read_named.new.site) (g.D.Site.state c.open_output.new.site) c.in-Ok.ensures.call.kept
+          c.open_input.ensures.call.losses c.in_ok-domain_map.ensures.kept (output_causes _ _ _ _
+          c.in_err-open_output.ensures.cause);
+      draft = c.open_output.ensures.draft ∙ c.in_ok-domain_map.ensures.site.draft ∙ c.requires.no_draft ∙ sym
+          (output_leaves _ _ _ c.in_err-open_output.ensures.cause);
+      source = c.open_input.ensures.call.keeps;
+      site = site_keeps_more _ _ _ c.in_ok-domain_map.ensures.site.keeps c.open_output.ensures.keeps;
+      clock = record { scheduled = refl; schedule = refl };
+    })
+
+pub returns-in_err-map-clause-leaves : goal.returns-in_err-map-clause-leaves
+returns-in_err-map-clause-leaves g c =
+    let p = err_from_is_err_and c.from_residual-in_err-map.result c.from_residual-in_err-map.ensures.1 in
+    rw (p.1, p.2) (record {
+      cause = causes_after _ (g.S.Source.state c.args.outside.now.source.now) (g.S.Source.state c.open_input.new.self)
+          (g.S.Source.state c.open_input.new.self) (g.D.Site.state c.args.outside.now.site.now) (g.D.Site.state
+          c.open_output.new.site) (g.D.Site.state c.load.new.site) c.in-Ok.ensures.call.kept
+          c.open_input.ensures.call.losses (c.in_ok-open_output.ensures.kept ∙ c.in_ok-domain_map.ensures.kept)
+          (load_causes _ _ _ _ c.in_err-map.ensures.cause);
+      draft = c.load.ensures.site.draft ∙ c.open_output.ensures.draft ∙ c.read_named.ensures.site.draft ∙
+          c.requires.no_draft ∙ sym (load_leaves _ _ _ c.in_err-map.ensures.cause);
+      source = c.open_input.ensures.call.keeps;
+      site = site_keeps_more _ _ _ c.in_ok-domain_map.ensures.site.keeps (site_keeps_more _ _ _
+          c.open_output.ensures.keeps c.load.ensures.site.keeps);
+      clock = record { scheduled = refl; schedule = refl };
+    })
+
+pub returns-clause-leaves : goal.returns-clause-leaves
+returns-clause-leaves g c = record {
+  cause = cause_after _ (g.S.Source.state c.args.outside.now.source.now) (g.S.Source.state c.open_input.new.self)
+      (g.D.Site.state c.args.outside.now.site.now) (g.D.Site.state c.load.new.site) (g.D.Site.state c.run.new.site)
+      c.in-Ok.ensures.call.kept c.open_input.ensures.call.losses (c.in_ok-map.ensures.kept ∙
+      c.in_ok-open_output.ensures.kept ∙ c.in_ok-domain_map.ensures.kept) c.run.ensures.cause;
+  draft = c.run.ensures.draft;
+  source = c.open_input.ensures.call.keeps;
+  site = site_keeps_more _ _ _ c.in_ok-domain_map.ensures.site.keeps (site_keeps_more _ _ _ c.open_output.ensures.keeps
+      (site_keeps_more _ _ _ c.load.ensures.site.keeps c.run.ensures.site));
+  clock = c.run.ensures.clock;
+}

@@ -1,6 +1,5 @@
 use Rattle.std.proofs.Common.{length, refl, ap, sym, subst, arith, rules}
 use Rattle.std.proofs.lemmas.Result.{err_from_is_err_and}
-use Rattle.rescue_console.specs.ConsoleState.{ConsoleState}
 use Rattle.rescue_core.specs.declared.turn.Turn.{Turn}
 use Rattle.rescue_core.specs.RunState.{IsRunning}
 use Rattle.rescue_core.proofs.TurnedLemmas.{Parts, parts_of, parts_after, run_of, begins_of, begins_fits, Does, does_running, does_counted, does_advance, halts_same, holds_same, counted_same, room_same}
@@ -19,18 +18,16 @@ gather-requires g c =
       cluster = omega arith;
       short = fits.short;
       place = fits.place;
-      input = search rules;
-      image = search rules;
+      «open» = c.requires.«open»;
     }
 
 pub returns-in_err-gathered-clause-halted : goal.returns-in_err-gathered-clause-halted
 returns-in_err-gathered-clause-halted g c =
     let p : Parts = parts_of _ g.T.Tiles.statuses c.self.inside in
     let stop = err_from_is_err_and c.from_residual.result c.from_residual.ensures.1 in
-    let halted = λ (console : ConsoleState). c.in_err-gathered.ensures.halted (run_of p) console refl in
     rw (stop.1, stop.2)
-    (λ console. halts_same p c.args.self.now c.args.request _ (g.T.Tiles.statuses c.reserve.new.self) _ c.self.view_is
-    c.reserve.ensures.statuses (halted console))
+    (halts_same p c.args.self.now c.args.request _ (g.T.Tiles.statuses c.reserve.new.self) _ c.self.view_is
+    c.reserve.ensures.statuses (c.in_err-gathered.ensures.halted (run_of p) refl))
 
 pub invariant_of-self : goal.invariant_of-self
 invariant_of-self g c =
@@ -76,14 +73,14 @@ invariant_of-self-2 g c =
       goes = c.go_on_by_kind.ensures;
     } in
     let got = c.in_ok-gathered.ensures.gathered in
-    let running = does_running p c.args.self.now _ c.args.request c.in_ok-gathered.gathered _ _ _ _ _ _ _ _ _ _ _ _ begins
+    let running = does_running p c.args.self.now _ c.args.request c.in_ok-gathered.gathered _ _ _ _ _ _ _ begins
     got does in
     let room = room_same c.self.inside.buf.len c.gather.new.buf _ c.self.inside.buf.items c.deref_mut.ensures.len
     c.deref_mut.ensures.value c.gather.ensures.same in (
       subst (λ n. IsRunning (run_of (parts_after p (g.T.Tiles.statuses c.go_on_by_kind.new.tiles)
           c.go_on_by_kind.new.progress c.go_on_by_kind.new.tally)) n) (sym room) running,
       c.self.invariant.1,
-      does_counted p c.args.self.now _ c.args.request c.in_ok-gathered.gathered _ _ _ _ _ _ _ _ _ _ _ _ begins got does
+      does_counted p c.args.self.now _ c.args.request c.in_ok-gathered.gathered _ _ _ _ _ _ _ begins got does
           c.self.invariant.2,
     )
 
@@ -99,8 +96,13 @@ returns-clause-advanced g c =
       old_is = c.reserve.ensures.statuses;
       goes = c.go_on_by_kind.ensures;
     } in
-    does_advance p c.args.self.now _ c.args.request c.in_ok-gathered.gathered _ _ _ _ _ _ _ _ _ _ _ _ begins
+    does_advance p c.args.self.now _ c.args.request c.in_ok-gathered.gathered _ _ _ _ _ _ _ begins
     c.in_ok-gathered.ensures.gathered does
 
-pub returns-then-is_err-clause-source : goal.returns-then-is_err-clause-source
-returns-then-is_err-clause-source g c = stays_self _
+pub returns-then-is_err-clause-stays : goal.returns-then-is_err-clause-stays
+returns-then-is_err-clause-stays g c = record {
+  source = stays_self _;
+  site = search rules;
+  clock = search rules;
+  console = refl;
+}

@@ -3,7 +3,7 @@ use Rattle.std.proofs.lemmas.Option.{IfSome_then}
 use Rattle.rescue_core.specs.RunState.{setting_with}
 use Rattle.rescue_core.specs.Requesting.{search_by}
 use Rattle.rescue_core.proofs.WantedLemmas.{cut_is, no_request, if_none}
-use Rattle.rescue_core.proofs.request.next_request.Goals as goal
+use Rattle.rescue_core.proofs.request.find_request.Goals as goal
 
 pub returns-clause-some : goal.returns-clause-some
 returns-clause-some g c =

@@ -1,20 +1,22 @@
-use Rattle.std.proofs.Common.{sym, rules}
+use Rattle.std.proofs.Common.{sym, ◌∙◌}
 use Rattle.std.proofs.lemmas.Result.{err_from_is_err_and}
-use Rattle.save_resume.proofs.FillLemmas.{keeps_more}
+use Rattle.mapfile_save.proofs.FillLemmas.{keeps_more}
 use Rattle.rescue_core.proofs.TurnEndLemmas.{says_limited, says_turned, says_unsaved}
-use Rattle.rescue_core.proofs.running.Running.turn.Goals as goal
+use Rattle.rescue_core.proofs.running.Running.take_turn.Goals as goal
 
 pub returns-in_err-turn-clause-halted : goal.returns-in_err-turn-clause-halted
 returns-in_err-turn-clause-halted g c =
     let stop = err_from_is_err_and c.from_residual.result c.from_residual.ensures.1 in
-    rw (stop.1, stop.2) (c.in_err-turn.ensures.halted (g.C.Console.state c.args.console.now))
+    rw (stop.1, stop.2) c.in_err-turn.ensures.halted
 
 pub returns-in-Some-clause-halted : goal.returns-in-Some-clause-halted
 returns-in-Some-clause-halted g c =
     says_limited c.args.request c.in_ok-turn.field-0 c.args.self.now c.advance.new.self c.say_due.new.self _ c.in-Some.limit
     (record {
+      console1 = g.C.Console.state c.advance.new.outside.console.now;
+      silent = c.advance.ensures.stays.console;
       advances = c.in_ok-turn.ensures.advanced;
-      keeps = c.advance.ensures.site.keeps;
+      keeps = c.advance.ensures.stays.site.keeps;
       stands = c.say_due.ensures.stands;
       says = c.say_due.ensures.says;
     }) (sym c.in-Some.ensures)
@@ -22,9 +24,11 @@ returns-in-Some-clause-halted g c =
 pub returns-in-Err-clause-halted : goal.returns-in-Err-clause-halted
 returns-in-Err-clause-halted g c =
     says_unsaved c.args.request c.in_ok-turn.field-0 c.args.self.now c.advance.new.self c.say_due.new.self
-    c.save_due.new.self _ (g.D.Site.state c.advance.new.site) _ (record {
+    c.save_due.new.self _ (g.D.Site.state c.advance.new.outside.site.now) _ (record {
+      console1 = g.C.Console.state c.advance.new.outside.console.now;
+      silent = c.advance.ensures.stays.console;
       advances = c.in_ok-turn.ensures.advanced;
-      keeps = c.advance.ensures.site.keeps;
+      keeps = c.advance.ensures.stays.site.keeps;
       stands = c.say_due.ensures.stands;
       says = c.say_due.ensures.says;
     }) (sym c.in_default.ensures) c.save_due.ensures.stands c.in-Err.ensures.call.named c.in-Err.ensures.call.broke
@@ -32,41 +36,43 @@ returns-in-Err-clause-halted g c =
 pub returns-clause-turned : goal.returns-clause-turned
 returns-clause-turned g c =
     says_turned c.args.request c.in_ok-turn.field-0 c.args.self.now c.advance.new.self c.say_due.new.self
-    c.save_due.new.self _ (g.D.Site.state c.advance.new.site) (record {
+    c.save_due.new.self _ (g.D.Site.state c.advance.new.outside.site.now) (record {
+      console1 = g.C.Console.state c.advance.new.outside.console.now;
+      silent = c.advance.ensures.stays.console;
       advances = c.in_ok-turn.ensures.advanced;
-      keeps = c.advance.ensures.site.keeps;
+      keeps = c.advance.ensures.stays.site.keeps;
       stands = c.say_due.ensures.stands;
       says = c.say_due.ensures.says;
     }) (sym c.in_default.ensures) c.save_due.ensures.stands c.in_default-save_due.ensures.call.made
 
 pub returns-in_err-turn-clause-objects : goal.returns-in_err-turn-clause-objects
 returns-in_err-turn-clause-objects g c = record {
-  source = c.advance.ensures.source;
-  site = c.advance.ensures.site.keeps;
-  image = search rules;
-  clock = c.advance.ensures.clock;
+  source = c.advance.ensures.stays.source;
+  site = c.advance.ensures.stays.site.keeps;
+  image = c.advance.ensures.stays.site.image ∙ c.requires.«open».image;
+  clock = c.advance.ensures.stays.clock;
 }
 
 pub returns-in-Some-clause-objects : goal.returns-in-Some-clause-objects
 returns-in-Some-clause-objects g c = record {
-  source = c.advance.ensures.source;
-  site = c.advance.ensures.site.keeps;
-  image = search rules;
-  clock = c.advance.ensures.clock;
+  source = c.advance.ensures.stays.source;
+  site = c.advance.ensures.stays.site.keeps;
+  image = c.advance.ensures.stays.site.image ∙ c.requires.«open».image;
+  clock = c.advance.ensures.stays.clock;
 }
 
 pub returns-in-Err-clause-objects : goal.returns-in-Err-clause-objects
 returns-in-Err-clause-objects g c = record {
-  source = c.advance.ensures.source;
-  site = keeps_more _ _ _ c.advance.ensures.site.keeps c.save_due.ensures.call.keeps;
-  image = search rules;
-  clock = c.advance.ensures.clock;
+  source = c.advance.ensures.stays.source;
+  site = keeps_more _ _ _ c.advance.ensures.stays.site.keeps c.save_due.ensures.call.keeps;
+  image = c.save_due.ensures.call.image ∙ c.advance.ensures.stays.site.image ∙ c.requires.«open».image;
+  clock = c.advance.ensures.stays.clock;
 }
 
 pub returns-clause-objects : goal.returns-clause-objects
 returns-clause-objects g c = record {
-  source = c.advance.ensures.source;
-  site = keeps_more _ _ _ c.advance.ensures.site.keeps c.save_due.ensures.call.keeps;
-  image = search rules;
-  clock = c.advance.ensures.clock;
+  source = c.advance.ensures.stays.source;
+  site = keeps_more _ _ _ c.advance.ensures.stays.site.keeps c.save_due.ensures.call.keeps;
+  image = c.save_due.ensures.call.image ∙ c.advance.ensures.stays.site.image ∙ c.requires.«open».image;
+  clock = c.advance.ensures.stays.clock;
 }

@@ -1,7 +1,7 @@
 use Rattle.std.proofs.Common.{◌≡◌, ℕ, ◌+◌, true, List, Option, IfSome, subst}
 use Rattle.std.proofs.lemmas.Option.{IfSome_then}
 use Rattle.block_list.specs.declared.block.Range.{Range}
-use Rattle.save_resume.specs.MapNames.{MapNames}
+use Rattle.mapfile_save.specs.MapNames.{MapNames}
 use Rattle.rescue_rules.specs.declared.phase.Phase.{Phase}
 use Rattle.rescue_rules.specs.declared.phase.Phase.TheVariants.{Trimming}
 use Rattle.rescue_rules.specs.Passes.{is_up, numbered}
@@ -10,7 +10,7 @@ use Rattle.run_options.specs.declared.settings.Settings.{Settings}
 use Rattle.rescue_core.specs.RunState.{RunState, run_at, setting_with, setting_in}
 use Rattle.rescue_core.proofs.RequestLemmas.{stands}
 use Rattle.rescue_core.proofs.WantedLemmas.{led_clear}
-use Rattle.rescue_core.proofs.running.Running.next_request.Goals as goal
+use Rattle.rescue_core.proofs.running.Running.pending_request.Goals as goal
 
 up_in : (settings : Settings) (domain : List Range) (names : Option MapNames) (line : List ℕ) (phase : Phase) (pass : ℕ)
     → phase ≡ Trimming → is_up (setting_with settings domain names line) (numbered phase pass) ≡ true
@@ -38,7 +38,7 @@ returns-else-leads_up-clause-some g c =
     let i = c.self.inside in
     let map = g.T.Tiles.statuses i.tiles in
     let r : RunState = run_at i.settings i.domain map i.phase i.progress i.keeper in
-    subst (λ (q : RunState). IfSome c.next_request.result (λ asked. IsRequest (setting_in q) q.machine asked.pos (asked.pos + asked.len)))
+    subst (λ (q : RunState). IfSome c.find_request.result (λ asked. IsRequest (setting_in q) q.machine asked.pos (asked.pos + asked.len)))
     c.self.view_is
-    (IfSome_then c.next_request.result c.next_request.ensures.some (λ asked is. is i.keeper.names i.keeper.heading.line r.machine
+    (IfSome_then c.find_request.result c.find_request.ensures.some (λ asked is. is i.keeper.names i.keeper.heading.line r.machine
     (stands (setting_in r) map i.phase i.progress i.keeper.tally c.self.invariant.0.pass)))
