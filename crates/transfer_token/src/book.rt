@@ -15,7 +15,7 @@ pub fn book<T: Tiles>(tiles: &mut T, landed: Landed)
     ensures marked { T.statuses tiles.new ≡ marked (T.statuses tiles.old) landed.from (size_of landed) Finished }
     ensures spare { T.spare tiles.old ≤ T.spare tiles.new + 2 }
 {
-    let Landed { range } = landed;
+    let range = landed.spend();
     tiles.set(range.from, range.to - range.from, Status::Finished);
 }
 
@@ -27,6 +27,6 @@ pub fn book_missed<T: Tiles>(tiles: &mut T, missed: Missed, status: Status)
     ensures marked { T.statuses tiles.new ≡ marked (T.statuses tiles.old) missed.from (size_of missed) status }
     ensures spare { T.spare tiles.old ≤ T.spare tiles.new + 2 }
 {
-    let Missed { range } = missed;
+    let range = missed.spend();
     tiles.set(range.from, range.to - range.from, status);
 }

@@ -64,21 +64,13 @@ fn cut(request: Request, got: Got, sector: u64) -> Fetched
     }
     let at = stop / sector * sector;
     if stop == to {
-        Fetched::Whole(Loaded {
-            range: Range { from, to },
-        })
+        Fetched::Whole(Loaded::of(Range { from, to }))
     } else if from < at {
-        let loaded = Loaded {
-            range: Range { from, to: at },
-        };
-        let missed = Missed {
-            range: Range { from: at, to },
-        };
+        let loaded = Loaded::of(Range { from, to: at });
+        let missed = Missed::of(Range { from: at, to });
         Fetched::Part(loaded, missed)
     } else {
-        Fetched::Nothing(Missed {
-            range: Range { from, to },
-        })
+        Fetched::Nothing(Missed::of(Range { from, to }))
     }
 }
 
@@ -89,9 +81,7 @@ fn cut_ended(from: u64, end: u64) -> Fetched
 {
     let over = Over { end };
     if from < end {
-        let loaded = Loaded {
-            range: Range { from, to: end },
-        };
+        let loaded = Loaded::of(Range { from, to: end });
         Fetched::Ended(loaded, over)
     } else {
         Fetched::Empty(over)

@@ -23,10 +23,10 @@ pub fn land<D: Site>(
     ensures call { Answers (image_write place (take (size_of loaded) buf.now)) result
         (D.state site.old) (D.state site.new) }
 {
-    let Loaded { range } = loaded;
+    let range = loaded.spend();
     let size = (range.to - range.from) as usize;
     match site.image_write(place, &buf[..size]) {
-        Ok(()) => Ok(Landed { range }),
-        Err(SiteFault) => Err(Unlanded { range }),
+        Ok(()) => Ok(Landed::of(range)),
+        Err(SiteFault) => Err(Unlanded::of(range)),
     }
 }

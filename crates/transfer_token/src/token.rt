@@ -2,7 +2,7 @@
 ghost use Rattle.std.specs.Prelude.{◌≡◌, ◌<◌};
 
 use block_list::block::Range;
-use std::marker::Model;
+use std::marker::{Model, PhantomData};
 
 /// A range of the input that is asked for, in bytes.
 #[derive(Clone, Copy, Debug, PartialEq, Eq)]
@@ -11,23 +11,46 @@ pub struct Request {
     pub len: usize,
 }
 
-/// A range that was read, and whose bytes are at the buffer's front. Only `land` spends it.
-pub struct Loaded {
+/// A range of a request, as a value that can't be let go. `K` says what became of it.
+pub struct Token<K> {
     pub(crate) range: Range,
+    pub(crate) fate: PhantomData<K>,
 }
 
-impl Model for Loaded {
+impl<K> Model for Token<K> {
     ghost use Rattle.std.specs.Prelude.{◌<◌};
     ghost use Rattle.block_list.specs.declared.block.Range.{Range};
 
     ghost Value = { Range };
 
-    ghost view = { λ loaded. loaded.range };
+    ghost view = { λ token. token.range };
 
-    ghost invariant = { λ loaded. loaded.range.from < loaded.range.to };
+    ghost invariant = { λ token. token.range.from < token.range.to };
 }
 
-impl Loaded {
+impl<K> Token<K> {
+    /// The token of a range.
+    #[inline(always)]
+    pub(crate) fn of(range: Range) -> Token<K>
+        requires { range.from < range.to }
+        ensures { result ≡ range }
+    {
+        Token {
+            range,
+            fate: PhantomData,
+        }
+    }
+
+    /// Spends the token for its range.
+    #[inline(always)]
+    pub(crate) fn spend(self) -> Range
+        ensures range { result ≡ self }
+        ensures some { self.from < self.to }
+    {
+        let Token { range, fate: _fate } = self;
+        range
+    }
+
     /// The range.
     pub fn range(&self) -> Range
         ensures range { result ≡ self.now }
@@ -36,102 +59,47 @@ impl Loaded {
         self.range
     }
 }
+
+impl<K: SetsAside> Token<K> {
+    /// Spends the token with no mark in a map.
+    pub fn set_aside(self) -> Range
+        ensures range { result ≡ self }
+        ensures some { self.from < self.to }
+    {
+        self.spend()
+    }
+}
+
+/// What became of a range that may be set aside.
+pub trait SetsAside {}
+
+impl SetsAside for NotWritten {}
+
+impl SetsAside for NotRead {}
+
+/// Marks the token of a range that was read.
+pub struct IsRead;
+
+/// Marks the token of a range that was read and written.
+pub struct IsWritten;
+
+/// Marks the token of a range that was read, and whose write failed.
+pub struct NotWritten;
+
+/// Marks the token of a range of which nothing is kept.
+pub struct NotRead;
+
+/// A range that was read, and whose bytes are at the buffer's front. Only `land` spends it.
+pub type Loaded = Token<IsRead>;
 
 /// A range that was read, and whose bytes were written to the output. Only `book` spends it.
-pub struct Landed {
-    pub(crate) range: Range,
-}
-
-impl Model for Landed {
-    ghost use Rattle.std.specs.Prelude.{◌<◌};
-    ghost use Rattle.block_list.specs.declared.block.Range.{Range};
-
-    ghost Value = { Range };
-
-    ghost view = { λ landed. landed.range };
-
-    ghost invariant = { λ landed. landed.range.from < landed.range.to };
-}
-
-impl Landed {
-    /// The range.
-    pub fn range(&self) -> Range
-        ensures range { result ≡ self.now }
-        ensures some { self.now.from < self.now.to }
-    {
-        self.range
-    }
-}
+pub type Landed = Token<IsWritten>;
 
 /// A range that was read, and whose bytes couldn't be written to the output. Only `set_aside` spends it.
-pub struct Unlanded {
-    pub(crate) range: Range,
-}
-
-impl Model for Unlanded {
-    ghost use Rattle.std.specs.Prelude.{◌<◌};
-    ghost use Rattle.block_list.specs.declared.block.Range.{Range};
-
-    ghost Value = { Range };
-
-    ghost view = { λ unlanded. unlanded.range };
-
-    ghost invariant = { λ unlanded. unlanded.range.from < unlanded.range.to };
-}
-
-impl Unlanded {
-    /// The range.
-    pub fn range(&self) -> Range
-        ensures range { result ≡ self.now }
-        ensures some { self.now.from < self.now.to }
-    {
-        self.range
-    }
-
-    /// Spends the token with no mark in a map.
-    pub fn set_aside(self) -> Range
-        ensures range { result ≡ self }
-        ensures some { self.from < self.to }
-    {
-        let Unlanded { range } = self;
-        range
-    }
-}
+pub type Unlanded = Token<NotWritten>;
 
 /// A range that was asked for, and of which nothing is kept. Only `book_missed` and `set_aside` spend it.
-pub struct Missed {
-    pub(crate) range: Range,
-}
-
-impl Model for Missed {
-    ghost use Rattle.std.specs.Prelude.{◌<◌};
-    ghost use Rattle.block_list.specs.declared.block.Range.{Range};
-
-    ghost Value = { Range };
-
-    ghost view = { λ missed. missed.range };
-
-    ghost invariant = { λ missed. missed.range.from < missed.range.to };
-}
-
-impl Missed {
-    /// The range.
-    pub fn range(&self) -> Range
-        ensures range { result ≡ self.now }
-        ensures some { self.now.from < self.now.to }
-    {
-        self.range
-    }
-
-    /// Spends the token with no mark in a map.
-    pub fn set_aside(self) -> Range
-        ensures range { result ≡ self }
-        ensures some { self.from < self.to }
-    {
-        let Missed { range } = self;
-        range
-    }
-}
+pub type Missed = Token<NotRead>;
 
 /// The input ended here, so that nothing is left to ask for from this position on. Only `end` spends it.
 pub struct Over {
