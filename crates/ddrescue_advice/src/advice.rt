@@ -19,7 +19,7 @@ use rescue_rules::stop::Limit;
 use task_files::checked::PROGRAM;
 use task_files::ending::{Ending, Which};
 
-/// What is told of the arguments.
+/// What a line on a wrong argument says of this program.
 fn manual() -> Manual {
     Manual {
         usage: "ddrescue [options] infile outfile [mapfile]; 'man ddrescue' lists the options and names the version",

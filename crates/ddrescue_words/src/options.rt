@@ -253,7 +253,8 @@ macro_rules! set_by_letter {
             TEST_MODE | DOMAIN_MAPFILE => if is_name($value) { Some($options) } else { None },
             $($char => {
                 let ($($field),+) = $set;
-                Some(Options { $($field,)+ ..$options })
+                $($options.$field = $field;)+
+                Some($options)
             })*
             _ => None,
         }
@@ -262,7 +263,7 @@ macro_rules! set_by_letter {
 
 /// What the option of a letter sets by its value; nothing if that is a bad one, or if no option has the letter.
 pub fn with_letter(
-    options: Options,
+    mut options: Options,
     sector: u64,
     letter: char,
     value: Option<&str>,

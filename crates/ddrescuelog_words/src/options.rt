@@ -40,7 +40,7 @@ pub static ROWS: [Row; 22] = [
     option_row!('c', "create-mapfile", Optional(TwoTypes): "make a map from numbers of blocks"),
     option_row!('C', "complete-mapfile", Optional(OneType): "print the map with its gaps filled"),
     option_row!('d', "delete-if-done", Never: "remove the mapfile if everything examined is finished"),
-    option_row!('D', "done-status", Never: "answer 0 if everything examined is finished"),
+    option_row!('D', "done-status", Never: "exit with status 0 if everything examined is finished"),
     option_row!('f', "force", Never: "let -c replace a file"),
     option_row!('i', "input-position", Always(Size): "begin at this position of the map"),
     option_row!('l', "list-blocks", Always(Types): "print the numbers of the blocks that have one of these types"),
@@ -48,8 +48,8 @@ pub static ROWS: [Row; 22] = [
     option_row!('m', "domain-mapfile", Always(DomainMap): "examine only what is finished in this map"),
     option_row!('n', "invert-mapfile", Never: "print the map with finished and unfinished swapped"),
     option_row!('o', "output-position", Always(Size): "begin at this position of outfile"),
-    option_row!('p', "compare-mapfile", Always(Mapfile): "answer 0 if both maps have the same statuses"),
-    option_row!('P', "compare-as-domain", Always(Mapfile): "answer 0 if the same is finished in both"),
+    option_row!('p', "compare-mapfile", Always(Mapfile): "exit with status 0 if both maps have the same statuses"),
+    option_row!('P', "compare-as-domain", Always(Mapfile): "exit with status 0 if the same is finished in both"),
     option_row!('q', "quiet", Never: "print no message"),
     option_row!('s', "size", Always(Size): "examine at most this many bytes"),
     option_row!('t', "show-status", Never: "print how much has each status"),
@@ -132,8 +132,8 @@ macro_rules! set_by_letter {
             SECTOR_SIZE | VERBOSE => Some($options),
             DOMAIN_MAPFILE => if is_name($value) { Some($options) } else { None },
             $($char => {
-                let $field = $set;
-                Some(LogOptions { $field, ..$options })
+                $options.$field = $set;
+                Some($options)
             })*
             _ => None,
         }
@@ -142,7 +142,7 @@ macro_rules! set_by_letter {
 
 /// What the option of a letter sets by its value; nothing if that is a bad one, or if no option has the letter.
 fn with_letter(
-    options: LogOptions,
+    mut options: LogOptions,
     block: u64,
     letter: char,
     value: Option<&str>,

@@ -137,8 +137,8 @@ macro_rules! set_by_letter {
             SECTOR_SIZE => Some($options),
             DOMAIN_MAPFILE => if is_name($value) { Some($options) } else { None },
             $($char => {
-                let $field = $set;
-                Some(ShowOptions { $field, ..$options })
+                $options.$field = $set;
+                Some($options)
             })*
             _ => None,
         }
@@ -147,7 +147,7 @@ macro_rules! set_by_letter {
 
 /// What the option of a letter sets by its value; nothing if that is a bad one, or if no option has the letter.
 fn with_letter(
-    options: ShowOptions,
+    mut options: ShowOptions,
     sector: u64,
     letter: char,
     value: Option<&str>,

@@ -40,8 +40,8 @@ macro_rules! set_by_letter {
         match $letter {
             SECTOR_SIZE => Some($options),
             $($char => {
-                let $field = $set;
-                Some(VerifyOptions { $field, ..$options })
+                $options.$field = $set;
+                Some($options)
             })*
             _ => None,
         }
@@ -50,7 +50,7 @@ macro_rules! set_by_letter {
 
 /// What the option of a letter sets by its value; nothing if that is a bad one, or if no option has the letter.
 fn with_letter(
-    options: VerifyOptions,
+    mut options: VerifyOptions,
     sector: u64,
     letter: char,
     value: Option<&str>,

@@ -1,18 +1,13 @@
 //! Open files by their descriptors.
+use crate::device_texts::word_after;
 use crate::mounts::read_if_told;
 use std::fs::File;
 use std::io::{self, ErrorKind};
 use std::os::fd::AsRawFd;
 
-/// The value of the line `flags:`, which is in octal.
+/// The flags of an open file, which are in octal, by what the kernel tells of the file.
 fn flags_of(told: &[u8]) -> Option<u64> {
-    for line in told.split(|byte| *byte == b'\n') {
-        if let Some(value) = line.strip_prefix(b"flags:") {
-            let text = str::from_utf8(value.trim_ascii()).ok()?;
-            return u64::from_str_radix(text, 8).ok();
-        }
-    }
-    None
+    u64::from_str_radix(word_after(told, "flags:")?, 8).ok()
 }
 
 /// What the kernel tells of an open file, if that can be read.

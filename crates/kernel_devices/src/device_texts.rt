@@ -1,6 +1,6 @@
 //! What the kernel's texts about devices say, each read from any bytes.
-ghost use Rattle.std.specs.Prelude.{◌≡◌, ◌^◌, ◌<◌, ◌↔◌, IsTrue};
-ghost use Rattle.kernel_devices.specs.Devices.{is_lost_state, major_of, minor_of};
+ghost use Rattle.std.specs.Prelude.{◌≡◌, ◌^◌, ◌<◌, ◌↔◌, IsTrue, IfSome};
+ghost use Rattle.kernel_devices.specs.Devices.{is_given_up_state, is_lost_state, is_offline_state, major_of, minor_of};
 
 /// The first number past the kernel's major numbers.
 const MAJORS: u64 = 1 << 12;
@@ -18,16 +18,19 @@ fn device_number(major: u64, minor: u64) -> u64
     (minor / 256) * MINORS + major * 256 + minor % 256
 }
 
+/// Reads a number that is below an end.
+fn read_below(text: &str, end: u64) -> Option<u64>
+    ensures { IfSome result (λ number. number < end) }
+{
+    let number: u64 = text.parse().ok()?;
+    if number < end { Some(number) } else { None }
+}
+
 /// Reads a device's number as the kernel prints it, as `8:1`.
 pub(crate) fn read_number(text: &[u8]) -> Option<u64> {
     let text = str::from_utf8(text).ok()?;
     let (major, minor) = text.trim_ascii().split_once(":")?;
-    let major: u64 = major.parse().ok()?;
-    let minor: u64 = minor.parse().ok()?;
-    if major >= MAJORS || minor >= MINORS {
-        return None;
-    }
-    Some(device_number(major, minor))
+    Some(device_number(read_below(major, MAJORS)?, read_below(minor, MINORS)?))
 }
 
 /// The major number of a device with this number.
@@ -44,17 +47,25 @@ pub(crate) fn is_anonymous(number: u64) -> bool
     major(number) == 0
 }
 
+/// Whether a disk in this state answers no more, in the words of SCSI.
+fn is_offline(state: &str) -> bool
+    ensures { result ≡ is_offline_state state.now }
+{
+    state == "offline" || state == "transport-offline" || state == "cancel" || state == "deleted"
+}
+
+/// Whether a disk in this state answers no more, in the words of NVMe.
+fn is_given_up(state: &str) -> bool
+    ensures { result ≡ is_given_up_state state.now }
+{
+    state == "dead" || state == "deleting" || state == "deleting (no IO)"
+}
+
 /// Whether a disk in this state answers no more, in the words of SCSI and of NVMe.
 pub(crate) fn is_lost(state: &str) -> bool
     ensures { result ≡ is_lost_state state.now }
 {
-    state == "offline"
-        || state == "transport-offline"
-        || state == "cancel"
-        || state == "deleted"
-        || state == "dead"
-        || state == "deleting"
-        || state == "deleting (no IO)"
+    is_offline(state) || is_given_up(state)
 }
 
 /// The name of swap space as the kernel's table prints it, by its line there.
@@ -68,16 +79,19 @@ pub(crate) fn swap_name(line: &[u8]) -> Option<&str> {
     }
 }
 
+/// The word that follows a mark in what the kernel tells.
+pub(crate) fn word_after<'a>(told: &'a [u8], mark: &str) -> Option<&'a str> {
+    let told = str::from_utf8(told).ok()?;
+    let (_, rest) = told.split_once(mark)?;
+    rest.split_ascii_whitespace().next()
+}
+
 /// The number of the mount through which a file was opened, by what the kernel tells of the open file.
 pub(crate) fn mount_number(told: &[u8]) -> Option<&str> {
-    let told = str::from_utf8(told).ok()?;
-    let (_, rest) = told.split_once("mnt_id:")?;
-    rest.split_ascii_whitespace().next()
+    word_after(told, "mnt_id:")
 }
 
 /// The name of a device's node below `/dev`, by what the kernel tells of the device.
 pub(crate) fn node_name(told: &[u8]) -> Option<&str> {
-    let told = str::from_utf8(told).ok()?;
-    let (_, rest) = told.split_once("DEVNAME=")?;
-    rest.split_ascii_whitespace().next()
+    word_after(told, "DEVNAME=")
 }

@@ -4,10 +4,11 @@ use crate::descriptor::read_told;
 use crate::device_texts::{is_anonymous, is_lost, mount_number, node_name, read_number, swap_name};
 use crate::identity::Identity;
 use crate::mounts::{
-    MountLine, device_text, find_mount, find_mount_by_number, if_told, read_if_told, read_mounts,
+    MountLine, device_text, find_mount, find_mount_by_number, if_told, is_newline, read_if_told,
+    read_mounts,
 };
 use crate::names::{unescaped, without_mark};
-use std::fs::{self, File};
+use std::fs::{self, File, ReadDir};
 use std::io;
 
 /// The folder in which the kernel has an entry for each block device, under its number.
@@ -45,6 +46,11 @@ pub struct DeviceUse {
 pub enum Mounting {
     ReadOnly,
     Writable,
+}
+
+/// The name of what a folder has.
+fn name_in(rt: &HostRuntime, folder: &str, what: &str) -> io::Result<String> {
+    Ok(format!(in rt.alloc(); "{folder}/{what}")?)
 }
 
 /// The name of a file that the kernel has of a device.
@@ -91,6 +97,38 @@ fn add_found(found: &mut Vec<Identity>, one: Option<Identity>) -> io::Result<()>
     }
 }
 
+/// Adds the device with a number, if there is one.
+fn add_device(found: &mut Vec<Identity>, number: Option<u64>) -> io::Result<()> {
+    match number {
+        Some(number) => add(found, Identity::of_device(number)),
+        None => Ok(()),
+    }
+}
+
+/// The number of the device about which the kernel has this folder.
+fn number_of(rt: &HostRuntime, folder: &str) -> io::Result<Option<u64>> {
+    number_in(rt, name_in(rt, folder, "dev")?.as_str())
+}
+
+/// Whether a folder has a file of this name.
+fn has_mark(rt: &HostRuntime, folder: &str, mark: &str) -> io::Result<bool> {
+    let name = name_in(rt, folder, mark)?;
+    Ok(found_as(rt, name.as_str())?.is_some())
+}
+
+/// Adds the device about which the kernel has this folder, if that has a file of this name.
+fn add_marked(
+    rt: &HostRuntime,
+    folder: &str,
+    mark: &str,
+    found: &mut Vec<Identity>,
+) -> io::Result<()> {
+    if !has_mark(rt, folder, mark)? {
+        return Ok(());
+    }
+    add_device(found, number_of(rt, folder)?)
+}
+
 /// Adds the devices that a folder of the kernel's has. Each has an entry there, which has a file of this name.
 fn add_listed(
     rt: &HostRuntime,
@@ -102,20 +140,23 @@ fn add_listed(
         return Ok(());
     };
     for entry in entries {
-        let Some(entry) = if_told(entry)? else {
-            return Ok(());
-        };
-        let entry = entry.path().as_str();
-        let marked = format!(in rt.alloc(); "{entry}/{mark}")?;
-        if found_as(rt, marked.as_str())?.is_none() {
-            continue;
-        }
-        let numbered = format!(in rt.alloc(); "{entry}/dev")?;
-        if let Some(number) = number_in(rt, numbered.as_str())? {
-            add(found, Identity::of_device(number))?;
+        match if_told(entry)? {
+            Some(entry) => add_marked(rt, entry.path().as_str(), mark, found)?,
+            None => return Ok(()),
         }
     }
     Ok(())
+}
+
+/// The same for a folder that the kernel has about a device.
+fn add_listed_of(
+    rt: &HostRuntime,
+    number: u64,
+    what: &str,
+    mark: &str,
+    found: &mut Vec<Identity>,
+) -> io::Result<()> {
+    add_listed(rt, name_of(rt, number, what)?.as_str(), mark, found)
 }
 
 /// The name of a device's node by what the kernel tells of the device.
@@ -126,9 +167,14 @@ fn node_told(rt: &HostRuntime, told: &[u8]) -> io::Result<Option<String>> {
     }
 }
 
+/// What a file of the kernel's tells of a device, if it can be read.
+fn read_of(rt: &HostRuntime, number: u64, what: &str) -> io::Result<Option<Vec<u8>>> {
+    read_if_told(rt, name_of(rt, number, what)?.as_str())
+}
+
 /// The name of a device's node, if the kernel tells it.
 fn told_node(rt: &HostRuntime, number: u64) -> io::Result<Option<String>> {
-    match read_if_told(rt, name_of(rt, number, "uevent")?.as_str())? {
+    match read_of(rt, number, "uevent")? {
         Some(told) => node_told(rt, told.as_slice()),
         None => Ok(None),
     }
@@ -142,9 +188,15 @@ fn node_of(rt: &HostRuntime, number: u64) -> io::Result<String> {
     }
 }
 
+/// Whether a device is a partition.
+fn is_partition(rt: &HostRuntime, number: u64) -> io::Result<bool> {
+    let name = name_of(rt, number, "partition")?;
+    Ok(found_as(rt, name.as_str())?.is_some())
+}
+
 /// The disk of which a device is a partition.
 fn disk_of(rt: &HostRuntime, number: u64) -> io::Result<Option<u64>> {
-    if found_as(rt, name_of(rt, number, "partition")?.as_str())?.is_none() {
+    if !is_partition(rt, number)? {
         return Ok(None);
     }
     number_in(rt, name_of(rt, number, "../dev")?.as_str())
@@ -160,39 +212,65 @@ fn name_held(rt: &HostRuntime, text: &[u8]) -> io::Result<Option<String>> {
 
 /// The name of the file or device of which a loop device is made. The kernel has this folder about the loop device.
 fn backing_name(rt: &HostRuntime, folder: &str) -> io::Result<Option<String>> {
-    let name = format!(in rt.alloc(); "{folder}/loop/backing_file")?;
-    match read_if_told(rt, name.as_str())? {
+    match read_if_told(rt, name_in(rt, folder, "loop/backing_file")?.as_str())? {
         Some(text) => name_held(rt, text.as_slice()),
         None => Ok(None),
+    }
+}
+
+/// The block device that the table of mounts names so.
+fn device_named(rt: &HostRuntime, printed: &str) -> io::Result<Option<Identity>> {
+    if !printed.starts_with("/dev/") {
+        return Ok(None);
+    }
+    match found_as(rt, name_printed(rt, printed)?.as_str())? {
+        Some(named) if named.is_device() => Ok(Some(named)),
+        _ => Ok(None),
     }
 }
 
 /// The device on which a mount's file system lies. Some file systems have a number of their own, and name the device.
 fn device_of_mount(rt: &HostRuntime, mount: MountLine<'_>) -> io::Result<Option<Identity>> {
     match read_number(mount.device.as_bytes()) {
-        Some(number) if !is_anonymous(number) => return Ok(Some(Identity::of_device(number))),
-        _ => {}
+        Some(number) if !is_anonymous(number) => Ok(Some(Identity::of_device(number))),
+        _ => device_named(rt, mount.source),
     }
-    if !mount.source.starts_with("/dev/") {
-        return Ok(None);
+}
+
+/// Adds the device on which a mount's file system lies, if a mount was found.
+fn add_of_mount(
+    rt: &HostRuntime,
+    mount: Option<MountLine<'_>>,
+    found: &mut Vec<Identity>,
+) -> io::Result<()> {
+    match mount {
+        Some(mount) => add_found(found, device_of_mount(rt, mount)?),
+        None => Ok(()),
     }
-    match found_as(rt, name_printed(rt, mount.source)?.as_str())? {
-        Some(source) if source.is_device() => Ok(Some(source)),
-        _ => Ok(None),
+}
+
+/// Adds the device that the table of mounts names for the file system with this number.
+fn add_mounted(rt: &HostRuntime, number: u64, found: &mut Vec<Identity>) -> io::Result<()> {
+    let device = device_text(rt, number)?;
+    match read_mounts(rt)? {
+        Some(table) => add_of_mount(rt, find_mount(table.as_slice(), device.as_str()), found),
+        None => Ok(()),
     }
 }
 
 /// Adds the device on which the file system with this number lies.
 fn add_file_system(rt: &HostRuntime, number: u64, found: &mut Vec<Identity>) -> io::Result<()> {
-    if !is_anonymous(number) {
-        return add(found, Identity::of_device(number));
+    if is_anonymous(number) {
+        add_mounted(rt, number, found)
+    } else {
+        add(found, Identity::of_device(number))
     }
-    let device = device_text(rt, number)?;
-    let Some(table) = read_mounts(rt)? else {
-        return Ok(());
-    };
-    match find_mount(table.as_slice(), device.as_str()) {
-        Some(mount) => add_found(found, device_of_mount(rt, mount)?),
+}
+
+/// Adds the device on which the file system of the mount with this number lies.
+fn add_numbered(rt: &HostRuntime, number: &str, found: &mut Vec<Identity>) -> io::Result<()> {
+    match read_mounts(rt)? {
+        Some(table) => add_of_mount(rt, find_mount_by_number(table.as_slice(), number), found),
         None => Ok(()),
     }
 }
@@ -202,32 +280,42 @@ fn add_mount(rt: &HostRuntime, file: &File, found: &mut Vec<Identity>) -> io::Re
     let Some(told) = read_told(rt, file)? else {
         return Ok(());
     };
-    let Some(number) = mount_number(told.as_slice()) else {
-        return Ok(());
-    };
-    let Some(table) = read_mounts(rt)? else {
-        return Ok(());
-    };
-    match find_mount_by_number(table.as_slice(), number) {
-        Some(mount) => add_found(found, device_of_mount(rt, mount)?),
+    match mount_number(told.as_slice()) {
+        Some(number) => add_numbered(rt, number, found),
         None => Ok(()),
     }
 }
 
+/// Adds the device on which the file with a name lies, if it can be opened.
+fn add_mount_of(rt: &HostRuntime, name: &str, found: &mut Vec<Identity>) -> io::Result<()> {
+    match if_told(File::open(rt, name))? {
+        Some(file) => add_mount(rt, &file, found),
+        None => Ok(()),
+    }
+}
+
+/// Adds the file or device with a name, and the device on which such a file lies.
+fn add_named(rt: &HostRuntime, name: &str, found: &mut Vec<Identity>) -> io::Result<()> {
+    let Some(one) = found_as(rt, name)? else {
+        return Ok(());
+    };
+    add(found, one)?;
+    if one.is_device() {
+        Ok(())
+    } else {
+        add_mount_of(rt, name, found)
+    }
+}
+
+/// The name of the file or device of which a loop device with this number is made.
+fn backing_of(rt: &HostRuntime, number: u64) -> io::Result<Option<String>> {
+    backing_name(rt, name_of(rt, number, "")?.as_str())
+}
+
 /// Adds the file or device of which a loop device is made, and the device on which such a file lies.
 fn add_backing(rt: &HostRuntime, number: u64, found: &mut Vec<Identity>) -> io::Result<()> {
-    let Some(name) = backing_name(rt, name_of(rt, number, "")?.as_str())? else {
-        return Ok(());
-    };
-    let Some(backing) = found_as(rt, name.as_str())? else {
-        return Ok(());
-    };
-    add(found, backing)?;
-    if backing.is_device() {
-        return Ok(());
-    }
-    match if_told(File::open(rt, name.as_str()))? {
-        Some(file) => add_mount(rt, &file, found),
+    match backing_of(rt, number)? {
+        Some(name) => add_named(rt, name.as_str(), found),
         None => Ok(()),
     }
 }
@@ -238,10 +326,8 @@ fn add_under(rt: &HostRuntime, one: Identity, found: &mut Vec<Identity>) -> io::
     if !one.is_device() {
         return add_file_system(rt, number, found);
     }
-    if let Some(disk) = disk_of(rt, number)? {
-        add(found, Identity::of_device(disk))?;
-    }
-    add_listed(rt, name_of(rt, number, "slaves")?.as_str(), "dev", found)?;
+    add_device(found, disk_of(rt, number)?)?;
+    add_listed_of(rt, number, "slaves", "dev", found)?;
     add_backing(rt, number, found)
 }
 
@@ -265,14 +351,21 @@ pub fn find_under(rt: &HostRuntime, one: Identity) -> io::Result<Vec<Identity>> 
     Ok(found)
 }
 
+/// Adds an open file, and the device on which its file system lies.
+fn add_open(rt: &HostRuntime, file: &File, found: &mut Vec<Identity>) -> io::Result<()> {
+    let one = Identity::of(&file.metadata()?);
+    add(found, one)?;
+    if one.is_device() {
+        Ok(())
+    } else {
+        add_mount(rt, file, found)
+    }
+}
+
 /// The same of an open file, whose mount the kernel tells.
 pub fn find_under_open(rt: &HostRuntime, file: &File) -> io::Result<Vec<Identity>> {
     let mut found = Vec::new(rt.alloc());
-    let one = Identity::of(&file.metadata()?);
-    add(&mut found, one)?;
-    if !one.is_device() {
-        add_mount(rt, file, &mut found)?;
-    }
+    add_open(rt, file, &mut found)?;
     add_all_under(rt, &mut found)?;
     Ok(found)
 }
@@ -283,10 +376,8 @@ fn add_above(rt: &HostRuntime, found: &mut Vec<Identity>) -> io::Result<()> {
         let Some(one) = found.as_slice().get(place).copied() else {
             return Ok(());
         };
-        let entry = name_of(rt, one.device(), "")?;
-        add_listed(rt, entry.as_str(), "partition", found)?;
-        let holders = name_of(rt, one.device(), "holders")?;
-        add_listed(rt, holders.as_str(), "dev", found)?;
+        add_listed_of(rt, one.device(), "", "partition", found)?;
+        add_listed_of(rt, one.device(), "holders", "dev", found)?;
     }
     Ok(())
 }
@@ -299,24 +390,45 @@ fn find_above(rt: &HostRuntime, number: u64) -> io::Result<Vec<Identity>> {
     Ok(found)
 }
 
+/// Which one of these devices a mount's file system lies on.
+fn mounted_among(
+    rt: &HostRuntime,
+    mount: MountLine<'_>,
+    devices: &[Identity],
+) -> io::Result<Option<Identity>> {
+    match device_of_mount(rt, mount)? {
+        Some(device) if devices.contains(&device) => Ok(Some(device)),
+        _ => Ok(None),
+    }
+}
+
+/// The use of a device by a mount, if it is one of these devices.
+fn use_by_mount(
+    rt: &HostRuntime,
+    mount: MountLine<'_>,
+    devices: &[Identity],
+) -> io::Result<Option<DeviceUse>> {
+    match mounted_among(rt, mount, devices)? {
+        Some(device) => Ok(Some(DeviceUse {
+            device: node_of(rt, device.device())?,
+            user: User::Mount(name_printed(rt, mount.folder)?),
+        })),
+        None => Ok(None),
+    }
+}
+
 /// The mount of one of these devices that a table tells first.
 fn find_mounted(
     rt: &HostRuntime,
     table: &[u8],
     devices: &[Identity],
 ) -> io::Result<Option<DeviceUse>> {
-    for line in table.split(|byte| *byte == b'\n') {
-        let Some(mount) = MountLine::read(line) else {
-            continue;
-        };
-        let Some(device) = device_of_mount(rt, mount)? else {
-            continue;
-        };
-        if devices.contains(&device) {
-            return Ok(Some(DeviceUse {
-                device: node_of(rt, device.device())?,
-                user: User::Mount(name_printed(rt, mount.folder)?),
-            }));
+    for line in table.split(is_newline) {
+        if let Some(mount) = MountLine::read(line) {
+            let found = use_by_mount(rt, mount, devices)?;
+            if found.is_some() {
+                return Ok(found);
+            }
         }
     }
     Ok(None)
@@ -330,42 +442,63 @@ fn found_as_either(rt: &HostRuntime, name: &str, other: &str) -> io::Result<Opti
     }
 }
 
-/// One of these devices that is swap space. If its name was removed, and made again, the table still calls it removed.
-fn find_swap(rt: &HostRuntime, devices: &[Identity]) -> io::Result<Option<DeviceUse>> {
-    let Some(table) = read_if_told(rt, SWAPS)? else {
+/// The swap space that a line of its table tells. If its name was removed, and made again, the table still calls it
+/// removed.
+fn swap_space(rt: &HostRuntime, line: &[u8]) -> io::Result<Option<Identity>> {
+    let Some(printed) = swap_name(line) else {
         return Ok(None);
     };
-    for line in table.split(|byte| *byte == b'\n') {
-        let Some(printed) = swap_name(line) else {
-            continue;
-        };
-        let name = name_printed(rt, printed)?;
-        let name = name.as_str();
-        let Some(space) = found_as_either(rt, name, without_mark(name))? else {
-            continue;
-        };
-        if devices.contains(&space) {
-            return Ok(Some(DeviceUse {
-                device: node_of(rt, space.device())?,
-                user: User::Swap,
-            }));
+    let name = name_printed(rt, printed)?;
+    found_as_either(rt, name.as_str(), without_mark(name.as_str()))
+}
+
+/// The use of a device as swap space.
+fn use_as_swap(rt: &HostRuntime, space: Identity) -> io::Result<Option<DeviceUse>> {
+    Ok(Some(DeviceUse {
+        device: node_of(rt, space.device())?,
+        user: User::Swap,
+    }))
+}
+
+/// One of these devices that is swap space, by the table of that.
+fn swap_in(rt: &HostRuntime, table: &[u8], devices: &[Identity]) -> io::Result<Option<DeviceUse>> {
+    for line in table.split(is_newline) {
+        match swap_space(rt, line)? {
+            Some(space) if devices.contains(&space) => return use_as_swap(rt, space),
+            _ => {}
         }
     }
     Ok(None)
 }
 
-/// One of these devices of which another one is made, by what the kernel lists as its holders.
+/// One of these devices that is swap space.
+fn find_swap(rt: &HostRuntime, devices: &[Identity]) -> io::Result<Option<DeviceUse>> {
+    match read_if_told(rt, SWAPS)? {
+        Some(table) => swap_in(rt, table.as_slice(), devices),
+        None => Ok(None),
+    }
+}
+
+/// A device that is made of the one with this number, by what the kernel lists as its holders.
+fn holder_of(rt: &HostRuntime, number: u64) -> io::Result<Option<Identity>> {
+    let mut holders = Vec::new(rt.alloc());
+    add_listed_of(rt, number, "holders", "dev", &mut holders)?;
+    Ok(holders.as_slice().first().copied())
+}
+
+/// The use of a device by another one, which is made of it.
+fn use_by_device(rt: &HostRuntime, number: u64, user: u64) -> io::Result<Option<DeviceUse>> {
+    Ok(Some(DeviceUse {
+        device: node_of(rt, number)?,
+        user: User::Device(node_of(rt, user)?),
+    }))
+}
+
+/// One of these devices of which another one is made.
 fn find_holder(rt: &HostRuntime, devices: &[Identity]) -> io::Result<Option<DeviceUse>> {
     for device in devices {
-        let number = device.device();
-        let mut holders = Vec::new(rt.alloc());
-        let folder = name_of(rt, number, "holders")?;
-        add_listed(rt, folder.as_str(), "dev", &mut holders)?;
-        if let Some(holder) = holders.as_slice().first().copied() {
-            return Ok(Some(DeviceUse {
-                device: node_of(rt, number)?,
-                user: User::Device(node_of(rt, holder.device())?),
-            }));
+        if let Some(holder) = holder_of(rt, device.device())? {
+            return use_by_device(rt, device.device(), holder.device());
         }
     }
     Ok(None)
@@ -381,8 +514,7 @@ fn is_among(rt: &HostRuntime, name: &str, devices: &[Identity]) -> io::Result<bo
 
 /// The name of the node of a device about which the kernel has this folder.
 fn node_in(rt: &HostRuntime, folder: &str) -> io::Result<Option<String>> {
-    let numbered = format!(in rt.alloc(); "{folder}/dev")?;
-    match number_in(rt, numbered.as_str())? {
+    match number_of(rt, folder)? {
         Some(number) => Ok(Some(node_of(rt, number)?)),
         None => Ok(None),
     }
@@ -414,11 +546,12 @@ fn looped_in(
     use_in(rt, folder, name)
 }
 
-/// One of these devices of which a loop device is made.
-fn find_looped(rt: &HostRuntime, devices: &[Identity]) -> io::Result<Option<DeviceUse>> {
-    let Some(entries) = if_told(fs::read_dir(rt, DISKS))? else {
-        return Ok(None);
-    };
+/// A loop device that is made of one of these, by the folders that the kernel has.
+fn looped_among(
+    rt: &HostRuntime,
+    entries: ReadDir,
+    devices: &[Identity],
+) -> io::Result<Option<DeviceUse>> {
     for entry in entries {
         let Some(entry) = if_told(entry)? else {
             return Ok(None);
@@ -429,6 +562,14 @@ fn find_looped(rt: &HostRuntime, devices: &[Identity]) -> io::Result<Option<Devi
         }
     }
     Ok(None)
+}
+
+/// One of these devices of which a loop device is made.
+fn find_looped(rt: &HostRuntime, devices: &[Identity]) -> io::Result<Option<DeviceUse>> {
+    match if_told(fs::read_dir(rt, DISKS))? {
+        Some(entries) => looped_among(rt, entries, devices),
+        None => Ok(None),
+    }
 }
 
 /// What is made of one of these devices.
@@ -462,18 +603,35 @@ fn find_use_of(
     }
 }
 
+/// What uses a device, a partition of it, or a device that is made of these.
+fn find_use_above(
+    rt: &HostRuntime,
+    mounts: &Option<Vec<u8>>,
+    number: u64,
+) -> io::Result<Option<DeviceUse>> {
+    let devices = find_above(rt, number)?;
+    find_use_of(rt, mounts, devices.as_slice())
+}
+
+/// What uses the disk of which a device is a partition.
+fn find_use_of_disk(
+    rt: &HostRuntime,
+    mounts: &Option<Vec<u8>>,
+    number: u64,
+) -> io::Result<Option<DeviceUse>> {
+    match disk_of(rt, number)? {
+        Some(disk) => find_use_of(rt, mounts, &[Identity::of_device(disk)]),
+        None => Ok(None),
+    }
+}
+
 /// What keeps a block device from being written, if that is known: what uses it, a partition of it, its disk, or a
 /// device that is made of these.
 pub fn find_use(rt: &HostRuntime, number: u64) -> io::Result<Option<DeviceUse>> {
     let mounts = read_mounts(rt)?;
-    let devices = find_above(rt, number)?;
-    let found = find_use_of(rt, &mounts, devices.as_slice())?;
-    if found.is_some() {
-        return Ok(found);
-    }
-    match disk_of(rt, number)? {
-        Some(disk) => find_use_of(rt, &mounts, &[Identity::of_device(disk)]),
-        None => Ok(None),
+    match find_use_above(rt, &mounts, number)? {
+        Some(found) => Ok(Some(found)),
+        None => find_use_of_disk(rt, &mounts, number),
     }
 }
 
@@ -484,18 +642,14 @@ fn mounting_of(
     devices: &[Identity],
 ) -> io::Result<Option<Mounting>> {
     let mut found = None;
-    for line in table.split(|byte| *byte == b'\n') {
-        let Some(mount) = MountLine::read(line) else {
-            continue;
-        };
-        let Some(device) = device_of_mount(rt, mount)? else {
-            continue;
-        };
-        if devices.contains(&device) {
-            if mount.is_writable() {
-                return Ok(Some(Mounting::Writable));
+    for line in table.split(is_newline) {
+        if let Some(mount) = MountLine::read(line) {
+            if mounted_among(rt, mount, devices)?.is_some() {
+                if mount.is_writable() {
+                    return Ok(Some(Mounting::Writable));
+                }
+                found = Some(Mounting::ReadOnly);
             }
-            found = Some(Mounting::ReadOnly);
         }
     }
     Ok(found)
@@ -512,11 +666,26 @@ pub fn find_mounting(rt: &HostRuntime, number: u64) -> io::Result<Option<Mountin
 
 /// The state of a device's disk, in the kernel's words.
 fn state_of(rt: &HostRuntime, number: u64) -> io::Result<Option<Vec<u8>>> {
-    let name = match disk_of(rt, number)? {
-        Some(_) => name_of(rt, number, "../device/state")?,
-        None => name_of(rt, number, "device/state")?,
-    };
-    read_if_told(rt, name.as_str())
+    match disk_of(rt, number)? {
+        Some(_) => read_of(rt, number, "../device/state"),
+        None => read_of(rt, number, "device/state"),
+    }
+}
+
+/// Whether a disk in the state that the kernel tells answers no more.
+fn is_told_lost(state: &[u8]) -> bool {
+    match str::from_utf8(state) {
+        Ok(state) => is_lost(state.trim_ascii()),
+        Err(_) => false,
+    }
+}
+
+/// Whether the kernel says that the disk of a device answers no more.
+fn has_lost_disk(rt: &HostRuntime, number: u64) -> bool {
+    match state_of(rt, number) {
+        Ok(Some(state)) => is_told_lost(state.as_slice()),
+        _ => false,
+    }
 }
 
 /// Whether a block device is known to be gone: the kernel knows no device with this number any more, or says that its
@@ -526,13 +695,8 @@ pub fn is_gone(rt: &HostRuntime, number: u64) -> bool {
         return false;
     };
     if matches!(fs::exists(rt, entry.as_str()), Ok(false)) {
-        return matches!(fs::exists(rt, DEVICES), Ok(true));
-    }
-    match state_of(rt, number) {
-        Ok(Some(state)) => match str::from_utf8(state.as_slice()) {
-            Ok(state) => is_lost(state.trim_ascii()),
-            Err(_) => false,
-        },
-        _ => false,
+        matches!(fs::exists(rt, DEVICES), Ok(true))
+    } else {
+        has_lost_disk(rt, number)
     }
 }

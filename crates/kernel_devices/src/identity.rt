@@ -21,9 +21,14 @@ impl Identity {
         if found.file_type().is_block_device() {
             return Identity::of_device(found.rdev());
         }
+        Identity::of_file(found.dev(), found.ino())
+    }
+
+    /// The file with this number on the file system with this number.
+    pub fn of_file(device: u64, number: u64) -> Identity {
         Identity {
-            device: found.dev(),
-            number: found.ino(),
+            device,
+            number,
             is_device: false,
         }
     }

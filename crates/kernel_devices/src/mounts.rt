@@ -29,10 +29,8 @@ pub struct MountLine<'a> {
 fn front_fields(front: &str) -> Option<(&str, &str, &str)> {
     let mut fields = front.split_ascii_whitespace();
     let number = fields.next()?;
-    let _parent = fields.next()?;
-    let device = fields.next()?;
-    let _root = fields.next()?;
-    let folder = fields.next()?;
+    let device = fields.nth(1)?;
+    let folder = fields.nth(1)?;
     Some((number, device, folder))
 }
 
@@ -101,9 +99,14 @@ pub fn read_mounts(rt: &HostRuntime) -> io::Result<Option<Vec<u8>>> {
     read_if_told(rt, MOUNTS)
 }
 
+/// Whether a byte ends a line.
+pub(crate) fn is_newline(byte: &u8) -> bool {
+    *byte == b'\n'
+}
+
 /// The line of a table about the mount with this number.
 pub(crate) fn find_mount_by_number<'a>(table: &'a [u8], number: &str) -> Option<MountLine<'a>> {
-    for line in table.split(|byte| *byte == b'\n') {
+    for line in table.split(is_newline) {
         if let Some(mount) = MountLine::read(line) {
             if mount.number == number {
                 return Some(mount);
@@ -115,7 +118,7 @@ pub(crate) fn find_mount_by_number<'a>(table: &'a [u8], number: &str) -> Option<
 
 /// The first line of a table about a device.
 pub fn find_mount<'a>(table: &'a [u8], device: &str) -> Option<MountLine<'a>> {
-    for line in table.split(|byte| *byte == b'\n') {
+    for line in table.split(is_newline) {
         if let Some(mount) = MountLine::read(line) {
             if mount.device == device {
                 return Some(mount);

@@ -6,18 +6,24 @@ use crate::device_texts::major;
 use crate::mounts::device_text;
 use std::fs;
 
-/// A number that the kernel tells of a device's queue. A partition has that of its disk.
+/// What a file of the kernel's about a device tells.
+fn text_of(rt: &HostRuntime, device: &str, folder: &str, what: &str) -> Option<String> {
+    let name = format!(in rt.alloc(); "/sys/dev/block/{device}/{folder}/{what}").ok()?;
+    fs::read_to_string(rt, name.as_str()).ok()
+}
+
+/// What the kernel tells of a device's queue. A partition has that of its disk.
+fn queue_text(rt: &HostRuntime, device: &str, what: &str) -> Option<String> {
+    match text_of(rt, device, "queue", what) {
+        Some(text) => Some(text),
+        None => text_of(rt, device, "../queue", what),
+    }
+}
+
+/// A number that the kernel tells of a device's queue.
 fn queue_number(rt: &HostRuntime, number: u64, what: &str) -> Option<u64> {
     let device = device_text(rt, number).ok()?;
-    let device = device.as_str();
-    let own = format!(in rt.alloc(); "/sys/dev/block/{device}/queue/{what}").ok()?;
-    let text = match fs::read_to_string(rt, own.as_str()) {
-        Ok(text) => text,
-        Err(_) => {
-            let disk = format!(in rt.alloc(); "/sys/dev/block/{device}/../queue/{what}").ok()?;
-            fs::read_to_string(rt, disk.as_str()).ok()?
-        }
-    };
+    let text = queue_text(rt, device.as_str(), what)?;
     text.as_str().trim_ascii().parse().ok()
 }
 

@@ -8,4 +8,5 @@ mod MarkLemmas
 mod NewestLemmas
 mod OldestLemmas
 mod PlaceLemmas
+mod SettledLemmas
 mod StopLemmas

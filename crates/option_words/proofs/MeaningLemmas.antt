@@ -140,7 +140,7 @@ module _ {C : Type 0} (g : Grammar C) (words : List (List ℕ)) where
         quiet_is = (not_quiet rows f o w, never);
       }
 
-  -- a fault of words is their refusal, but for want of memory
+  -- a fault of words is their refusal, except for lack of memory
   pub unread_is : (rows : List Row) (f : WordFault) → AreOptionsOf g rows → (f ≡ NoMemory) ⊎ WordFaultAt rows words f
       → IsErrorBy g words (unread_error f)
   unread_is rows NoMemory o w = tt

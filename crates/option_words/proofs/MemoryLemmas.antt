@@ -1,4 +1,4 @@
--- Want of memory is no fault of words.
+-- Lack of memory is no fault of words.
 use Rattle.std.proofs.Common.{◌≡◌, inl, inr, ℕ, ◌+◌, List, [], ◌∷◌, Option, Some, None, Result, Ok, Err}
 use Rattle.std.specs.Prelude.{drop}
 use Rattle.std.specs.Char.{len_utf8}

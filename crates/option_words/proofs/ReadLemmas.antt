@@ -1,5 +1,5 @@
 -- What a reader has read of the words, one word further.
-use Rattle.std.proofs.Common.{◌≡◌, inr, ℕ, ◌+◌, ◌-◌, ◌<◌, ◌≤◌, List, [], ◌∷◌, ◌++◌, length, drop, get_or, Result, Ok, Err, IsOkAnd, IfOk, OnOk, refl, sym, ◌∙◌, ap, subst, append_assoc, All, drop_of_length-le, arith}
+use Rattle.std.proofs.Common.{◌≡◌, ◌⊎◌, inl, inr, ℕ, ◌+◌, ◌-◌, ◌<◌, ◌≤◌, List, [], ◌∷◌, ◌++◌, length, drop, get_or, Result, Ok, Err, IsOkAnd, IfOk, IfErr, OnOk, refl, sym, ◌∙◌, ap, subst, append_assoc, All, drop_of_length-le, arith}
 use Rattle.std.proofs.lemmas.List.{append-nil, drop_more}
 use Rattle.std.proofs.lemmas.List.Elements.{All-append, All-same}
 use Rattle.std.specs.Str.{IsUtf8}
@@ -10,10 +10,11 @@ use Rattle.option_words.specs.declared.reader.NextWord.{NextWord}
 use Rattle.option_words.specs.declared.reader.NextWord.TheVariants.{Anything}
 use Rattle.option_words.specs.declared.reader.Reader.{Reader}
 use Rattle.option_words.specs.declared.fault.WordFault.{WordFault}
+use Rattle.option_words.specs.declared.fault.WordFault.TheVariants.{NoMemory}
 use Rattle.option_words.specs.Meanings.{Brought, meaning}
-use Rattle.option_words.specs.Reading.{IsServed, Bring, HasFault, IsReading}
+use Rattle.option_words.specs.Reading.{IsServed, IsUnserved, Bring, HasFault, IsReading, WordFaultAt}
 use Rattle.option_words.specs.Spots.{HasSpot}
-use Rattle.option_words.specs.Taken.{Took}
+use Rattle.option_words.specs.Taken.{IsFaultOf, Took}
 use Rattle.option_words.specs.Words.{word}
 use Rattle.option_words.proofs.ResultLemmas.{ok_and_parts}
 use Rattle.option_words.proofs.SpotLemmas.{meaning_spots}
@@ -86,3 +87,22 @@ pub read_spots : (result : Result WordReading WordFault) (rows : List Row) (word
     → Read rows words i reader → IfOk result (λ r. r.items.items ≡ reader.items.items) → IfOk result (λ r. All (HasSpot words) r.items.items)
 read_spots (Ok r) rows words i reader read items_are = All-same (HasSpot words) _ _ items_are read.spots
 read_spots (Err e) rows words i reader read items_are = tt
+
+-- the first word that has a fault gives it to all words
+pub read_breaks : (rows : List Row) (words : List (List ℕ)) (i : ℕ) (reader : Reader) (w : List ℕ) (fault : WordFault)
+    → i < length words → w ≡ word words (i + 1) → Read rows words i reader
+    → IsFaultOf (meaning rows reader.next (i + 1) w) fault → (fault ≡ NoMemory) ⊎ WordFaultAt rows words fault
+read_breaks rows words i reader w fault within is read (inl short) = inl short
+read_breaks rows words i reader w fault within is read (inr meant) =
+    let Here : List (List ℕ) → Type 0 = λ ws. HasFault rows reader.next (i + 1) ws fault in
+    inr (record { breaks = read.breaks fault (subst Here (sym (front words i w within is)) (inl meant)) })
+
+-- an option still wants a value after the last word
+pub read_unserved : (result : Result WordReading WordFault) (rows : List Row) (words : List (List ℕ)) (i : ℕ)
+    (reader : Reader)
+    → length words ≤ i → Read rows words i reader → IfErr result (λ e. IsUnserved reader.next e)
+    → IfErr result (λ e. (e ≡ NoMemory) ⊎ WordFaultAt rows words e)
+read_unserved (Ok r) rows words i reader past read unserved = tt
+read_unserved (Err e) rows words i reader past read unserved =
+    let AtEnd : List (List ℕ) → Type 0 = λ ws. HasFault rows reader.next (i + 1) ws e in
+    inr (record { breaks = read.breaks e (subst AtEnd (sym (drop_of_length-le words past)) unserved) })

@@ -5,14 +5,14 @@ ghost use Rattle.option_words.specs.Rows.{begins_with, chosen_by_name, first_row
 use crate::row::{Row, Takes};
 
 /// A row that was found.
-#[derive(Clone, Copy, Debug, PartialEq, Eq)]
+#[derive(Clone, Copy)]
 pub(crate) struct Chosen {
     pub row: usize,
     pub takes: Takes,
 }
 
 /// The rows that a long name may mean.
-#[derive(Clone, Copy, Debug, PartialEq, Eq)]
+#[derive(Clone, Copy)]
 pub(crate) enum Choice {
     One(Chosen),
     Unknown,

@@ -7,7 +7,7 @@ ghost use Rattle.option_words.specs.declared.form.Form.TheVariants.{Name as IsNa
 use crate::reading::Spot;
 
 /// A long name, and the value after its `=`.
-#[derive(Clone, Copy, Debug)]
+#[derive(Clone, Copy)]
 pub(crate) struct LongName<'a> {
     pub name: &'a [u8],
     pub value: Option<Spot>,

@@ -20,14 +20,14 @@ use crate::words::Words;
 use std::alloc::Global;
 
 /// An option that takes the next word as its value, and the word in which it is.
-#[derive(Clone, Copy, Debug, PartialEq, Eq)]
+#[derive(Clone, Copy)]
 pub(crate) struct WantedValue {
     pub row: usize,
     pub word: usize,
 }
 
 /// How the next word is read.
-#[derive(Clone, Copy, Debug, PartialEq, Eq)]
+#[derive(Clone, Copy)]
 pub(crate) enum NextWord {
     /// By what it looks like.
     Anything,

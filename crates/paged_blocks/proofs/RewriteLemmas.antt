@@ -13,7 +13,7 @@ use Rattle.paged_blocks.specs.declared.marks.touched_pages.Region.{Region}
 use Rattle.paged_blocks.specs.Paging.{blocks_of, flat, before, IsEntry, IsKeptInPages, AreFiled, IsRewritten}
 use Rattle.paged_blocks.specs.Marks.{edited, IsEdit}
 use Rattle.paged_blocks.specs.TouchedPages.{IsRegion, StaysInPage, refilled}
-use Rattle.paged_blocks.specs.Room.{room_for}
+use Rattle.paged_blocks.specs.Room.{HasRoomForMark, room_for}
 use Rattle.paged_blocks.proofs.PagingLemmas.{no_entry}
 use Rattle.paged_blocks.proofs.RefillLemmas.{rewritten, rewritten_flat, kept_long, kept_fits}
 use Rattle.paged_blocks.proofs.TouchedLemmas.{page_edited, page_len, edit_len, region_few}
@@ -119,3 +119,13 @@ region_room pages es free made capacity entries e r k i g q n s =
     ) in
     room_enough made capacity entries (r.past - r.first) (length r.blocks) (length (edited pages es e))
     (omega (arith, g.within, n)) g.some m (region_size pages es free e r k i g q) s
+
+-- how much of the room a mark takes, or an extension, which adds at most n blocks
+pub spare_after : (pages pages' room room' entries entries' blocks blocks' n : ℕ) → pages' ≡ pages → room ≤ room'
+    → entries' ≤ entries + 1 → blocks' ≤ blocks + n → 1 ≤ n
+    → room_for pages room entries blocks ≤ room_for pages' room' entries' blocks' + n
+spare_after pages pages' room room' entries entries' blocks blocks' n same more few gain some = omega arith
+
+-- room for two blocks is room for a mark
+pub room_for_mark : (past end spare : ℕ) → 2 ≤ spare → HasRoomForMark past end spare
+room_for_mark past end spare two = record { one = omega arith; two = λ _. two }

@@ -61,9 +61,9 @@ option_text Timeout = codes "option -T set this limit"
 abbrev pub left_text : (skips loses_neighbors : Bool) → List ℕ
 left_text false false = codes " B weren't read; with -r 3 and without -X the same command tries the bad sectors again"
 left_text false true = codes " B weren't read; ddrescuerun reads past the kernel's cache and can get more of them"
-left_text true false = codes " B weren't read; with -r 3 but not -n or -N the same command tries them again"
+left_text true false = codes " B weren't read; repeat the command without -N, then without -n, then with -r 3"
 left_text true true =
-    codes " B weren't read; with -r 3 but not -n or -N the same command tries them again; ddrescuerun can get more"
+    codes " B weren't read; repeat the command without -N, then without -n, then with -r 3; ddrescuerun can get more"
 
 -- the advice that names nothing
 abbrev pub hint_text : Hint → List ℕ

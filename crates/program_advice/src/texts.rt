@@ -95,9 +95,9 @@ pub(crate) fn left_text(skips: bool, loses_neighbors: bool) -> &'static str
             " B weren't read; ddrescuerun reads past the kernel's cache and can get more of them"
         }
         (true, false) =>
-            " B weren't read; with -r 3 but not -n or -N the same command tries them again",
+            " B weren't read; repeat the command without -N, then without -n, then with -r 3",
         (true, true) => {
-            " B weren't read; with -r 3 but not -n or -N the same command tries them again; ddrescuerun can get more"
+            " B weren't read; repeat the command without -N, then without -n, then with -r 3; ddrescuerun can get more"
         }
     }
 }

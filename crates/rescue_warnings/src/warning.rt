@@ -1,11 +1,13 @@
 //! The lines of warnings, and how they are put.
 ghost use Rattle.std.specs.Prelude.{◌≡◌, ◌+◌, ◌≤◌, ◌++◌, length};
-ghost use Rattle.std.specs.Fmt.{decimal};
+ghost use Rattle.std.specs.List.{concat};
 ghost use Rattle.arrayvec.specs.ArrayVec.{array_vec_len};
 ghost use Rattle.program_advice.specs.Lines.{IsOneLine};
 ghost use Rattle.rescue_console.specs.Speaking.{Speaks};
-ghost use Rattle.rescue_warnings.specs.Warnings.{advice_said, disk_text, file_said, mounting_text, number_said, stop_text, storage_text, warning_pieces, warning_text};
+ghost use Rattle.rescue_warnings.specs.declared.warning.Names.{Names as NamesCode};
+ghost use Rattle.rescue_warnings.specs.Warnings.{advice_texts, mounting_text, part_text, row_text, stop_text, storage_text, warning_pieces, warning_text, width, widths};
 
+use self::Part::{Domain, First, Infile, Mapfile, Outfile, Said, Second, Text};
 use crate::advice::Advice;
 use crate::facts::Storage;
 use itoa::Buffer;
@@ -23,38 +25,58 @@ pub struct Names<'a> {
     pub domain: &'a str,
 }
 
-/// Adds the part of a line on a file.
-fn say_of(line: &mut Line, role: &str, name: &str, says: &str)
-    requires role { array_vec_len line.old + length role.now ≤ 60 }
-    requires says { length says.now ≤ 80 }
-    ensures text { line.new.items ≡ file_said line.old.items role.now name.now says.now }
-    ensures len { array_vec_len line.new ≤ array_vec_len line.old + length role.now + length says.now + 154 }
-{
-    add(line, role);
-    add_quoted(line, name);
-    add(line, says);
+/// A part of a warning's text.
+#[derive(Clone, Copy)]
+enum Part {
+    Text(&'static str),
+    /// A name, which is put in quotes.
+    Infile,
+    Outfile,
+    Mapfile,
+    Domain,
+    /// The first number of the row.
+    First,
+    Second,
+    /// The row's own text.
+    Said,
 }
 
-/// Adds a number, and the text after it.
-fn say_number(line: &mut Line, n: u64, says: &str)
-    requires { array_vec_len line.old + length says.now ≤ 491 }
-    ensures text { line.new.items ≡ number_said line.old.items n says.now }
-    ensures len { array_vec_len line.new ≤ array_vec_len line.old + length says.now + 20 }
-{
-    add(line, Buffer::new().format(n));
-    add(line, says);
+/// The parts of a warning's text, and what fills them.
+#[derive(Clone, Copy)]
+struct Row {
+    parts: &'static [Part],
+    first: u64,
+    second: u64,
+    said: &'static str,
 }
 
-/// Adds what leaves no mapfile before its first save.
-fn say_stop(line: &mut Line, is_told: bool)
-    requires { array_vec_len line.old ≤ 400 }
-    ensures text { line.new.items ≡ line.old.items ++ stop_text is_told }
-    ensures len { array_vec_len line.new ≤ array_vec_len line.old + 22 }
+/// Adds a part of a row.
+fn add_part(line: &mut Line, names: Names<'_>, row: Row, part: Part)
+    requires { array_vec_len line.old + width row part ≤ 500 }
+    ensures text { line.new.items ≡ line.old.items ++ part_text names.entry row part }
+    ensures len { array_vec_len line.new ≤ array_vec_len line.old + width row part }
+{
+    match part {
+        Part::Text(text) => add(line, text),
+        Part::Infile => add_quoted(line, names.infile),
+        Part::Outfile => add_quoted(line, names.outfile),
+        Part::Mapfile => add_quoted(line, names.mapfile),
+        Part::Domain => add_quoted(line, names.domain),
+        Part::First => add(line, Buffer::new().format(row.first)),
+        Part::Second => add(line, Buffer::new().format(row.second)),
+        Part::Said => add(line, row.said),
+    }
+}
+
+/// What leaves no mapfile before its first save.
+fn stop_text(is_told: bool) -> &'static str
+    ensures text { result.now ≡ stop_text is_told }
+    ensures len { length result.now ≤ 22 }
 {
     if is_told {
-        add(line, "a crash or a power cut");
+        "a crash or a power cut"
     } else {
-        add(line, "a stop");
+        "a stop"
     }
 }
 
@@ -64,8 +86,8 @@ fn storage_text(storage: Storage) -> &'static str
     ensures len { length result.now ≤ 80 }
 {
     match storage {
-        Storage::Memory => " lies in memory: a power cut or a boot loses it",
-        Storage::Overlay => " lies on an overlay: on a live system a boot loses it",
+        Storage::Memory => " lies in memory: a power cut or a reboot loses it",
+        Storage::Overlay => " lies on an overlay: on a live system a reboot loses it",
         Storage::NoJournal => " lies on a file system without a journal: a power cut may damage it",
         Storage::Fuse => {
             " lies on a file system that may lack a journal: a power cut may damage it"
@@ -86,162 +108,128 @@ fn mounting_text(mounting: Mounting) -> &'static str
     }
 }
 
-/// What the writes of a rescue do to the infile's disk.
-fn disk_text() -> &'static str
-    ensures text { result.now ≡ disk_text }
-    ensures len { length result.now ≤ 80 }
+/// The row of an advice: its parts, its numbers in their order, and the text that depends on the case.
+#[rattlefmt::skip]
+fn row_of(advice: Advice) -> Row
+    ensures text { (names : NamesCode) → row_text names result ≡ concat (advice_texts names advice) }
+    ensures width { widths result result.parts.now ≤ 460 }
 {
-    " lies on the infile's disk: each write wears it, so use another disk"
+    const OUTFILE_SHORT: &[Part] = &[
+        Text("outfile "), Outfile, Text(" has "), First, Text(" B, but the mapfile calls positions up to "), Second,
+        Text(" finished: what is missing won't be read again; mount the outfile's disk, or see 'man ddrescue'"),
+    ];
+    const MAP_PAST_INFILE: &[Part] = &[
+        Text("infile "), Infile, Text(" has "), First, Text(" B, but the mapfile ends at "), Second,
+        Text(": if it is another disk's, stop now"),
+    ];
+    const EMPTY_INFILE: &[Part] = &[Text("infile "), Infile, Text(" has no bytes")];
+    const BEGINS_PAST_INFILE: &[Part] = &[
+        Text("infile "), Infile, Text(" ends at "), First,
+        Text(", and option -i begins there or past it: there is nothing to read"),
+    ];
+    const NOTHING_ASKED: &[Part] = &[Text("option -s asks for 0 B")];
+    const NOTHING_LISTED: &[Part] = &[Text("option -C takes only what the mapfile lists, and it lists nothing")];
+    const NEW_MAPFILE: &[Part] = &[
+        Text("mapfile "), Mapfile, Text(" doesn't exist yet, but the outfile has "), First,
+        Text(" B: is the mapfile's name right? if not, all is read again"),
+    ];
+    const LINKED_MAPFILE: &[Part] = &[
+        Text("mapfile "), Mapfile, Text(" is a link, and the first save puts a file in its place"),
+    ];
+    const UNSAFE_OUTFILE: &[Part] = &[Text("outfile "), Outfile, Said];
+    const UNSAFE_MAPFILE: &[Part] = &[Text("mapfile "), Mapfile, Said];
+    const NEW_OUTFILE: &[Part] = &[Text("outfile "), Outfile, Text(" doesn't exist: fill mode makes a new one")];
+    const NOTHING_TO_FILL: &[Part] = &[
+        Text("mapfile "), Mapfile, Text(" lists nothing, so fill mode writes nothing"),
+    ];
+    const LONG_PATTERN: &[Part] = &[
+        Text("infile "), Infile, Text(" has "), First, Text(" B, and fill mode repeats only the first "), Second,
+        Text(" B: are infile and outfile swapped?"),
+    ];
+    const OTHER_SECTOR: &[Part] = &[
+        Text("infile "), Infile, Text(" has sectors of "), First, Text(" B, and option -b takes them for "), Second,
+        Text(" B: give option -b "), First,
+    ];
+    const MOUNTED_INFILE: &[Part] = &[Text("infile "), Infile, Said];
+    const OUTFILE_ON_DISK: &[Part] = &[
+        Text("outfile "), Outfile, Text(" lies on the infile's disk: each write wears it, so use another disk"),
+    ];
+    const MAPFILE_ON_DISK: &[Part] = &[
+        Text("mapfile "), Mapfile, Text(" lies on the infile's disk: each write wears it, so use another disk"),
+    ];
+    const LONG_PLAN: &[Part] = &[
+        Text("test mapfile "), Mapfile, Text(" ends at "), First,
+        Text(", and nothing past it can be read: the plan has at least "), Second,
+        Text(" reads; a smaller length or option -n makes fewer"),
+    ];
+    const NOTHING_TO_COMPARE: &[Part] = &[
+        Text("mapfile "), Mapfile, Text(" calls nothing finished that is to be compared"),
+    ];
+    const LATE_MAPFILE: &[Part] = &[
+        Text("mapfile "), Mapfile,
+        Text(" doesn't exist, so a new rescue begins; its map is first saved after 30 s, and "), Said,
+        Text(" before that leaves none"),
+    ];
+    const EMPTY_DOMAIN: &[Part] = &[
+        Text("domain mapfile "), Domain, Text(" calls nothing finished that is to be read"),
+    ];
+    const MAP_BEFORE_INFILE: &[Part] = &[
+        Text("infile "), Infile, Text(" has "), First, Text(" B, but the mapfile ends at "), Second,
+        Text(": if it is another disk's, stop now (-s makes such maps, too)"),
+    ];
+    const NO_LENGTH: &[Part] = &[
+        Text("infile "), Infile, Text(" is a character device: its length may be unknown, and then nothing is read"),
+    ];
+    match advice {
+        Advice::OutfileShort { length, finished } => {
+            Row { parts: OUTFILE_SHORT, first: length, second: finished, said: "" }
+        }
+        Advice::MapPastInfile { end, length } => Row { parts: MAP_PAST_INFILE, first: length, second: end, said: "" },
+        Advice::EmptyInfile => Row { parts: EMPTY_INFILE, first: 0, second: 0, said: "" },
+        Advice::BeginsPastInfile { length } => Row { parts: BEGINS_PAST_INFILE, first: length, second: 0, said: "" },
+        Advice::NothingAsked => Row { parts: NOTHING_ASKED, first: 0, second: 0, said: "" },
+        Advice::NothingListed => Row { parts: NOTHING_LISTED, first: 0, second: 0, said: "" },
+        Advice::NewMapfile { length } => Row { parts: NEW_MAPFILE, first: length, second: 0, said: "" },
+        Advice::LinkedMapfile => Row { parts: LINKED_MAPFILE, first: 0, second: 0, said: "" },
+        Advice::UnsafeOutfile { storage } => {
+            Row { parts: UNSAFE_OUTFILE, first: 0, second: 0, said: storage_text(storage) }
+        }
+        Advice::UnsafeMapfile { storage } => {
+            Row { parts: UNSAFE_MAPFILE, first: 0, second: 0, said: storage_text(storage) }
+        }
+        Advice::NewOutfile => Row { parts: NEW_OUTFILE, first: 0, second: 0, said: "" },
+        Advice::NothingToFill => Row { parts: NOTHING_TO_FILL, first: 0, second: 0, said: "" },
+        Advice::LongPattern { length, cluster } => {
+            Row { parts: LONG_PATTERN, first: length, second: cluster, said: "" }
+        }
+        Advice::OtherSector { own, sector } => Row { parts: OTHER_SECTOR, first: own, second: sector, said: "" },
+        Advice::MountedInfile { mounting } => {
+            Row { parts: MOUNTED_INFILE, first: 0, second: 0, said: mounting_text(mounting) }
+        }
+        Advice::OutfileOnDisk => Row { parts: OUTFILE_ON_DISK, first: 0, second: 0, said: "" },
+        Advice::MapfileOnDisk => Row { parts: MAPFILE_ON_DISK, first: 0, second: 0, said: "" },
+        Advice::LongPlan { end, reads } => Row { parts: LONG_PLAN, first: end, second: reads, said: "" },
+        Advice::NothingToCompare => Row { parts: NOTHING_TO_COMPARE, first: 0, second: 0, said: "" },
+        Advice::LateMapfile { stop_is_told } => {
+            Row { parts: LATE_MAPFILE, first: 0, second: 0, said: stop_text(stop_is_told) }
+        }
+        Advice::EmptyDomain => Row { parts: EMPTY_DOMAIN, first: 0, second: 0, said: "" },
+        Advice::MapBeforeInfile { end, length } => {
+            Row { parts: MAP_BEFORE_INFILE, first: length, second: end, said: "" }
+        }
+        Advice::NoLength => Row { parts: NO_LENGTH, first: 0, second: 0, said: "" },
+    }
 }
 
 /// Adds the text of a warning.
 fn say(line: &mut Line, names: Names<'_>, advice: Advice)
     requires { array_vec_len line.old ≤ 29 }
-    ensures text { line.new.items ≡ advice_said line.old.items names.entry advice }
-    ensures len { array_vec_len line.new ≤ 511 }
+    ensures text { line.new.items ≡ line.old.items ++ concat (advice_texts names.entry advice) }
+    ensures len { array_vec_len line.new ≤ 500 }
 {
-    match advice {
-        Advice::OutfileShort { length, finished } => {
-            say_of(line, "outfile ", names.outfile, " has ");
-            say_number(line, length, " B, but the mapfile calls positions up to ");
-            say_number(
-                line,
-                finished,
-                " finished: what is missing won't be read again; mount the outfile's disk, or see 'man ddrescue'",
-            );
-        }
-        Advice::MapPastInfile { end, length } => {
-            say_of(line, "infile ", names.infile, " has ");
-            say_number(line, length, " B, but the mapfile ends at ");
-            say_number(line, end, ": if it is another disk's, stop now");
-        }
-        Advice::EmptyInfile => say_of(line, "infile ", names.infile, " has no bytes"),
-        Advice::BeginsPastInfile { length } => {
-            say_of(line, "infile ", names.infile, " ends at ");
-            say_number(
-                line,
-                length,
-                ", and option -i begins there or past it: there is nothing to read",
-            );
-        }
-        Advice::NothingAsked => add(line, "option -s asks for 0 B"),
-        Advice::NothingListed => add(
-            line,
-            "option -C takes only what the mapfile lists, and it lists nothing",
-        ),
-        Advice::NewMapfile { length } => {
-            say_of(
-                line,
-                "mapfile ",
-                names.mapfile,
-                " doesn't exist yet, but the outfile has ",
-            );
-            say_number(
-                line,
-                length,
-                " B: is the mapfile's name right? if not, all is read again",
-            );
-        }
-        Advice::LinkedMapfile => say_of(
-            line,
-            "mapfile ",
-            names.mapfile,
-            " is a link, and the first save puts a file in its place",
-        ),
-        Advice::UnsafeOutfile { storage } => say_of(
-            line,
-            "outfile ",
-            names.outfile,
-            storage_text(storage),
-        ),
-        Advice::UnsafeMapfile { storage } => say_of(
-            line,
-            "mapfile ",
-            names.mapfile,
-            storage_text(storage),
-        ),
-        Advice::NewOutfile => say_of(
-            line,
-            "outfile ",
-            names.outfile,
-            " doesn't exist: fill mode makes a new one",
-        ),
-        Advice::NothingToFill => say_of(
-            line,
-            "mapfile ",
-            names.mapfile,
-            " lists nothing, so fill mode writes nothing",
-        ),
-        Advice::LongPattern { length, cluster } => {
-            say_of(line, "infile ", names.infile, " has ");
-            say_number(line, length, " B, and fill mode repeats only the first ");
-            say_number(line, cluster, " B: are infile and outfile swapped?");
-        }
-        Advice::OtherSector { own, sector } => {
-            say_of(line, "infile ", names.infile, " has sectors of ");
-            say_number(line, own, " B, and option -b takes them for ");
-            say_number(line, sector, " B: give option -b ");
-            say_number(line, own, "");
-        }
-        Advice::MountedInfile { mounting } => say_of(
-            line,
-            "infile ",
-            names.infile,
-            mounting_text(mounting),
-        ),
-        Advice::OutfileOnDisk => say_of(line, "outfile ", names.outfile, disk_text()),
-        Advice::MapfileOnDisk => say_of(line, "mapfile ", names.mapfile, disk_text()),
-        Advice::LongPlan { end, reads } => {
-            add(line, "test ");
-            say_of(line, "mapfile ", names.mapfile, " ends at ");
-            say_number(
-                line,
-                end,
-                ", and nothing past it can be read: the plan has at least ",
-            );
-            say_number(
-                line,
-                reads,
-                " reads; a smaller length or option -n makes fewer",
-            );
-        }
-        Advice::NothingToCompare => say_of(
-            line,
-            "mapfile ",
-            names.mapfile,
-            " calls nothing finished that is to be compared",
-        ),
-        Advice::LateMapfile { stop_is_told } => {
-            say_of(
-                line,
-                "mapfile ",
-                names.mapfile,
-                " doesn't exist, so a new rescue begins; its map is first saved after 30 s, and ",
-            );
-            say_stop(line, stop_is_told);
-            add(line, " before that leaves none");
-        }
-        Advice::EmptyDomain => say_of(
-            line,
-            "domain mapfile ",
-            names.domain,
-            " calls nothing finished that is to be read",
-        ),
-        Advice::MapBeforeInfile { end, length } => {
-            say_of(line, "infile ", names.infile, " has ");
-            say_number(line, length, " B, but the mapfile ends at ");
-            say_number(
-                line,
-                end,
-                ": if it is another disk's, stop now (-s makes such maps, too)",
-            );
-        }
-        Advice::NoLength => say_of(
-            line,
-            "infile ",
-            names.infile,
-            " is a character device: its length may be unknown, and then nothing is read",
-        ),
+    let row = row_of(advice);
+    for part in row.parts {
+        add_part(line, names, row, *part);
     }
 }
 

@@ -446,17 +446,18 @@ impl Replay {
         }
     }
 
-    /// The files that are left while the call after the first k is in progress, if there is one.
-    fn cut_off(mut self, log: &CallLog, k: usize) -> Result<MemoryFolder, AllocError>
+    /// Leaves what the call after the first k does, which is in progress, if there is one.
+    fn cut_off(&mut self, log: &CallLog, k: usize) -> Result<(), AllocError>
         requires { k ≤ length log.now.listed.items }
-        ensures { IfOk result (λ left. (d : Disk) (files : List ℕ → Option File) → Replays self d files
-            → (folder_of left).files ≡ left_along self.kind d files (in_progress (drop k (entries_of log.now)))) }
+        ensures { OnOk result ((d : Disk) (files : List ℕ → Option File) → Replays self.old d files
+            → (folder_of self.new.left).files
+            ≡ left_along self.old.kind d files (in_progress (drop k (entries_of log.now)))) }
     {
         if k == log.listed.len() {
-            return Ok(self.left);
+            return Ok(());
         }
         self.leave(&log.listed[k].act)?;
-        Ok(self.left)
+        Ok(())
     }
 }
 
@@ -478,7 +479,8 @@ pub(crate) fn left_at(
     for i in 0..k {
         replay.step(&log.listed[i])?;
     }
-    let mut left = replay.cut_off(log, k)?;
+    replay.cut_off(log, k)?;
+    let mut left = replay.left;
     left.image = None;
     left.draft = None;
     Ok(left)

@@ -1,6 +1,7 @@
 -- Each word goes on from what the words before it have brought.
 use Rattle.std.proofs.Common.{◌<◌, ◌≤◌, length, arith}
-use Rattle.option_words.proofs.ReadLemmas.{read_more, read_all, read_spots}
+use Rattle.std.proofs.lemmas.Result.{err_from_is_err_and}
+use Rattle.option_words.proofs.ReadLemmas.{read_all, read_breaks, read_more, read_spots, read_unserved}
 use Rattle.option_words.proofs.reader.read_by_rows.Goals as goal
 
 pub loop-i-preserved : goal.loop-i-preserved
@@ -17,3 +18,20 @@ returns-clause-reading c =
 
 pub returns-clause-spots : goal.returns-clause-spots
 returns-clause-spots c = read_spots c.finish.result c.args.rows.now c.args.words.now c.loop-i.i c.loop-i.reader c.loop-i.invariant c.finish.ensures.items
+
+pub returns-in_err-take_word : goal.returns-in_err-take_word
+returns-in_err-take_word c =
+    let p = err_from_is_err_and c.from_residual.result c.from_residual.ensures.1 in
+    let within : c.loop-i.i < length c.args.words.now = omega arith in
+    rw (p.1, p.2) record {
+      reading = tt;
+      spots = tt;
+      fault = read_breaks c.args.rows.now c.args.words.now c.loop-i.i c.loop-i.reader c.get.result.now _ within
+          c.get.ensures c.loop-i.invariant c.in_err-take_word.ensures.err;
+    }
+
+pub returns-clause-fault : goal.returns-clause-fault
+returns-clause-fault c =
+    let past : length c.args.words.now ≤ c.loop-i.i = omega arith in
+    read_unserved c.finish.result c.args.rows.now c.args.words.now c.loop-i.i c.loop-i.reader past c.loop-i.invariant
+    c.finish.ensures.err

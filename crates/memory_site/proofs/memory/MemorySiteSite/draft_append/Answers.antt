@@ -1,11 +1,13 @@
-use Rattle.std.proofs.Common.{◌≡◌, List, ℕ, true, is_some, sym, subst, rules, ap}
+use Rattle.std.proofs.Common.{◌∙◌, ◌≡◌, List, ℕ, true, is_some, sym, subst, ap, refl, Err, inr}
 use Rattle.memory_site.specs.declared.memory.memory_folder.MemoryFolder.{MemoryFolder}
 use Rattle.crash_site.specs.Calls.{draft_append}
 use Rattle.crash_site.specs.Folder.{Folder, after}
 use Rattle.memory_site.specs.MemoryFolder.{folder_of}
 use Rattle.memory_site.specs.CallLog.{entries_of}
 use Rattle.memory_site.proofs.FollowLemmas.{follows_lost, follows_settled, follows_step, follows_kept, follows_as, follows_appended}
-use Rattle.memory_site.proofs.FailedLemmas.{failed_by}
+use Rattle.std.proofs.lemmas.Result.{err_from_is_err_and}
+use Rattle.memory_site.proofs.FailedLemmas.{failed_answers}
+use Rattle.memory_site.proofs.SettledLemmas.{appended_draft, appended_image, settled_answers, stays}
 use Rattle.memory_site.proofs.memory.MemorySiteSite.draft_append.Goals as goal
 
 pub invariant_of-self-in-Break-1 : goal.invariant_of-self-in-Break-1
@@ -40,20 +42,34 @@ invariant_of-self-2 c =
 
 pub returns-in_err-enter : goal.returns-in_err-enter
 returns-in_err-enter c =
-    record {
-      keeps = search rules;
-      done = search rules;
-      kept = search rules;
-      lost = search rules;
-      rose = search rules;
-      image = search rules;
-      draft = search rules;
-      schedule = λ _. record {
-        schedule = search rules;
-        fails = search rules;
-        why = failed_by c.from_residual.result c.args.self.now.log c.enter.new.log (draft_append c.in-Ok.copied.items)
-            (draft_append c.args.piece.now) (ap (λ (z : List ℕ). draft_append z) c.in-Ok.ensures.items)
-            c.in_err-enter.ensures.told;
-        fed = search rules;
-      };
-    }
+    let failed = err_from_is_err_and c.from_residual.result c.from_residual.ensures.1 in
+    failed_answers c.from_residual.result failed.0 _ _ (draft_append c.in-Ok.copied.items)
+    (draft_append c.args.piece.now) failed.1
+    (ap (λ (z : List ℕ). draft_append z) c.in-Ok.ensures.items)
+    (record { tells = refl; start = λ _. refl; scheduled = refl; later = c.enter.ensures.cause.later })
+    c.in_err-enter.ensures.lost c.in_err-enter.ensures.cause.failed (ap is_some c.enter.ensures.image)
+    (ap is_some c.enter.ensures.draft) c.enter.ensures.schedule c.in_err-enter.ensures.told
+
+pub returns-in_default : goal.returns-in_default
+returns-in_default c =
+    failed_answers (Err c.miss.result) c.miss.result _ _ _ _ refl refl
+    (record { tells = refl; start = λ _. refl; scheduled = refl; later = c.miss.ensures.later })
+    (inr c.miss.ensures.entries) c.miss.ensures.faults refl refl c.miss.ensures.schedule
+    (inr (c.miss.ensures.starving, c.miss.ensures.entries))
+
+pub returns : goal.returns
+returns c =
+    settled_answers c.settle.result c.enter.result _ _ _ c.enter.new.log (draft_append c.in-Ok.copied.items)
+    (draft_append c.args.piece.now) c.in_ok-enter.was
+    (ap (λ (z : List ℕ). draft_append z) c.in-Ok.ensures.items)
+    refl refl refl c.in_ok-enter.ensures.done c.enter.ensures.cause c.enter.ensures.fed c.enter.ensures.schedule
+    c.enter.ensures.fails c.settle.ensures.kept c.settle.ensures.withdrawn c.settle.ensures.cause
+    c.settle.ensures.schedule c.settle.ensures.why c.settle.ensures.fed
+    (ap is_some (stays (λ (d : Folder). d.image) c.append-outcome.result (folder_of c.enter.new.folder)
+    (folder_of c.append-outcome.new.self) _ c.append-outcome.ensures.appended c.append-outcome.ensures.same
+    (appended_image (folder_of c.enter.new.folder) (folder_of c.enter.new.folder).draft c.args.piece.now)
+    ∙ ap (λ (m : MemoryFolder). (folder_of m).image) c.in_ok-enter.ensures.kept))
+    (ap is_some (stays (λ (d : Folder). d.draft) c.append-outcome.result (folder_of c.enter.new.folder)
+    (folder_of c.append-outcome.new.self) _ c.append-outcome.ensures.appended c.append-outcome.ensures.same
+    (appended_draft (folder_of c.enter.new.folder) (folder_of c.enter.new.folder).draft c.args.piece.now)
+    ∙ ap (λ (m : MemoryFolder). (folder_of m).draft) c.in_ok-enter.ensures.kept))

@@ -1,4 +1,4 @@
-use Rattle.std.proofs.Common.{◌≡◌, None, OnOk, OnErr, refl, sym, ap, subst, ◌∙◌, rules, List, ℕ}
+use Rattle.std.proofs.Common.{◌≡◌, None, OnOk, OnErr, refl, sym, ap, subst, ◌∙◌, List, ℕ, is_some}
 use Rattle.memory_site.specs.declared.memory.memory_folder.MemoryFolder.{MemoryFolder}
 use Rattle.crash_site.specs.Files.{put}
 use Rattle.crash_site.specs.Calls.{draft_publish}
@@ -7,7 +7,9 @@ use Rattle.memory_site.specs.Follows.{Follows}
 use Rattle.memory_site.specs.MemoryFolder.{name_of, folder_of}
 use Rattle.memory_site.specs.CallLog.{entries_of}
 use Rattle.memory_site.proofs.FollowLemmas.{follows_lost, follows_settled, publish_step, publish_kept, follows_no_draft}
-use Rattle.memory_site.proofs.FailedLemmas.{failed_by}
+use Rattle.std.proofs.lemmas.Result.{err_from_is_err_and}
+use Rattle.memory_site.proofs.FailedLemmas.{failed_answers}
+use Rattle.memory_site.proofs.SettledLemmas.{settled_answers}
 use Rattle.memory_site.proofs.memory.MemorySiteSite.draft_publish.Goals as goal
 
 pub invariant_of-self-in-Break-1 : goal.invariant_of-self-in-Break-1
@@ -55,21 +57,25 @@ invariant_of-self-2 c =
 
 pub returns-in_err-enter : goal.returns-in_err-enter
 returns-in_err-enter c =
-    record {
-      keeps = search rules;
-      done = search rules;
-      kept = search rules;
-      lost = search rules;
-      rose = search rules;
-      image = search rules;
-      draft = search rules;
-      schedule = λ _. record {
-        schedule = search rules;
-        fails = search rules;
-        why = failed_by c.from_residual.result c.args.self.now.log c.enter.new.log (draft_publish c.in-Ok.copied.items)
-            (draft_publish c.args.name.now)
-            (ap (λ (z : List ℕ). draft_publish z) (c.in-Ok.ensures.items ∙ c.as_bytes-name.ensures.value))
-            c.in_err-enter.ensures.told;
-        fed = search rules;
-      };
-    }
+    let failed = err_from_is_err_and c.from_residual.result c.from_residual.ensures.1 in
+    failed_answers c.from_residual.result failed.0 _ _ (draft_publish c.in-Ok.copied.items)
+    (draft_publish c.args.name.now) failed.1
+    (ap (λ (z : List ℕ). draft_publish z) (c.in-Ok.ensures.items ∙ c.as_bytes-name.ensures.value))
+    (record { tells = refl; start = λ _. refl; scheduled = refl; later = c.enter.ensures.cause.later })
+    c.in_err-enter.ensures.lost c.in_err-enter.ensures.cause.failed (ap is_some c.enter.ensures.image)
+    (ap is_some (c.enter.ensures.draft ∙ ap name_of c.take.ensures.after)) c.enter.ensures.schedule
+    c.in_err-enter.ensures.told
+
+pub returns : goal.returns
+returns c =
+    settled_answers c.settle.result c.enter.result _ _ _ c.enter.new.log (draft_publish c.in-Ok.copied.items)
+    (draft_publish c.args.name.now) c.in_ok-enter.was
+    (ap (λ (z : List ℕ). draft_publish z) (c.in-Ok.ensures.items ∙ c.as_bytes-name.ensures.value))
+    refl refl refl c.in_ok-enter.ensures.done c.enter.ensures.cause c.enter.ensures.fed c.enter.ensures.schedule
+    c.enter.ensures.fails c.settle.ensures.kept c.settle.ensures.withdrawn c.settle.ensures.cause
+    c.settle.ensures.schedule c.settle.ensures.why c.settle.ensures.fed
+    (ap is_some (c.rename-outcome.ensures.image ∙ ap (λ (m : MemoryFolder). (folder_of m).image)
+    c.in_ok-enter.ensures.kept))
+    (ap is_some (c.rename-outcome.ensures.draft ∙ ap (λ (m : MemoryFolder). (folder_of m).draft)
+    c.in_ok-enter.ensures.kept
+    ∙ ap name_of c.take.ensures.after))

@@ -34,8 +34,8 @@ pub returns-clause-left : goal.returns-clause-left
 returns-clause-left c =
     let e : c.loop-i.i ≡ c.args.k = omega arith in
     left_from c.loop-i.replay.kind c.args.kind (folder_of c.args.start.now) (entries_of c.args.log.now) c.loop-i.i
-    c.args.k (folder_of c.in_ok-left.left).files e c.loop-i.invariant.kind
-    (c.in_ok-left.ensures
+    c.args.k (folder_of c.cut_off.new.self.left).files e c.loop-i.invariant.kind
+    (c.in_ok-cut_off.ensures
     (disk_after (at_rest (folder_of c.args.start.now)) (take c.loop-i.i (entries_of c.args.log.now)))
     (left_along c.args.kind (at_rest (folder_of c.args.start.now)) (folder_of c.args.start.now).files
     (take c.loop-i.i (entries_of c.args.log.now))) c.loop-i.invariant.replays)
