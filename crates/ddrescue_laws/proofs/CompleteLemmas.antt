@@ -1,4 +1,4 @@
--- Nothing else ends a rescue than its end, a limit, a refusal, a failure or want of memory.
+-- Nothing else ends a rescue than its end, a limit, a refusal, a failure or lack of memory.
 use Rattle.std.proofs.Common.{◌≡◌, ◌≢◌, ℕ, List, Option, Some, None, inl, inr, refl, sym, ap, ◌∙◌}
 use Rattle.fault_count.specs.Counts.{raised}
 use Rattle.fault_count.proofs.CountLemmas.{not_risen}
@@ -35,7 +35,7 @@ use Rattle.task_files.specs.Work.{Rescues, RunsOver, answer_of, rescue_faults, r
 use Rattle.ddrescue_cli.specs.Ddrescue.{Ddrescue, TaskDone}
 use Rattle.ddrescue_laws.specs.Laws.{IsDoneOrLimited, NothingFailed, NothingIsRefused, IsDoneUnless}
 
--- no answer of a failure, nor of want of memory
+-- no answer of a failure, nor of lack of memory
 pub record IsNoFault (e : Ending) : Type 0 where
   pub opened : e ≢ SourceFault
   pub kept : e ≢ SourceLost

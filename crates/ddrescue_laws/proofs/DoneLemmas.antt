@@ -16,9 +16,8 @@ use Rattle.crash_site.specs.Folder.{Folder, after}
 use Rattle.crash_site.specs.SiteState.{files_in}
 use Rattle.crash_site.proofs.LawLemmas.{after-append}
 use Rattle.faulty_source.specs.Journal.{Reading}
-use Rattle.save_resume.specs.MapNames.{names_of}
-use Rattle.save_resume.specs.Loading.{BeginsLoad}
-use Rattle.save_resume.specs.Resuming.{barrier_calls}
+use Rattle.mapfile_save.specs.MapNames.{names_of}
+use Rattle.mapfile_save.specs.Loading.{BeginsLoad, barrier_calls}
 use Rattle.rescue_rules.specs.Setting.{Setting, IsSensible}
 use Rattle.rescue_rules.specs.Start.{Stands}
 use Rattle.rescue_rules.specs.Held.{Held}

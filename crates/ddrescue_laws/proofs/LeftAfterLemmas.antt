@@ -8,7 +8,7 @@ use Rattle.crash_site.specs.SiteState.{files_in}
 use Rattle.crash_site.specs.Calls.{Call, Entry, Done as Returned, image_open}
 use Rattle.crash_site.specs.CallsMade.{BrokeAt}
 use Rattle.crash_site.proofs.LawLemmas.{put_other, after-append}
-use Rattle.save_resume.specs.Loading.{BeginsLoad}
+use Rattle.mapfile_save.specs.Loading.{BeginsLoad}
 use Rattle.mapfile_text.specs.declared.read.Mode.{Mode}
 use Rattle.mapfile_text.specs.declared.read.MapError.{MapError}
 use Rattle.rescue_rules.specs.declared.stop.Stop.{Stop}
@@ -18,7 +18,7 @@ use Rattle.rescue_rules.specs.declared.stop.RunEnd.{RunEnd}
 use Rattle.rescue_rules.specs.declared.stop.RunEnd.TheVariants.{Done as Finished, Stopped, SaveFailed}
 use Rattle.ddrescue_words.specs.Command.{Command, Rescue}
 use Rattle.task_files.specs.declared.ending.Ending.{Ending}
-use Rattle.task_files.specs.declared.ending.Ending.TheVariants.{Done, Usage, SameName, NoMap, SourceFault, NotRegular, MapRefused, SourceLost, SiteFault, NoMemory, LimitMet}
+use Rattle.task_files.specs.declared.ending.Ending.TheVariants.{Done, Usage, SourceFault, MapRefused, SourceLost, SiteFault, NoMemory, LimitMet}
 use Rattle.task_files.specs.declared.ending.Which.{Which}
 use Rattle.task_files.specs.declared.ending.Which.TheVariants.{DomainMap, TestMap, RunMap}
 use Rattle.task_files.specs.Maps.{Found, found_in}
@@ -35,7 +35,7 @@ use Rattle.program_promise.proofs.FrontLemmas.{load_reads, reads_stand, broken_s
 use Rattle.program_promise.specs.Work.{Deeds, Look, Read, Works}
 use Rattle.program_promise.specs.Holds.{Holds, after_calls}
 use Rattle.program_promise.proofs.HoldsLemmas.{holds, holds_more}
-use Rattle.save_resume.specs.Saving.{IsNameIn}
+use Rattle.mapfile_save.specs.Saving.{IsNameIn}
 use Rattle.rescue_rules.proofs.SaveStages.{put_own}
 use Rattle.program_promise.proofs.GainLemmas.{broke_named}
 use Rattle.ddrescue_cli.proofs.RowLemmas.{EndsRun, rescue_ends, after_domain, after_mapfile, after_test, open_call, of_barrier}
@@ -113,6 +113,22 @@ stands_left e maps out files files' early other stand = record {
   stand = λ before later fault unopened. stand;
 }
 
+-- a refusal before the output is open
+abbrev is_early : Ending → Bool
+is_early (Usage fault) = false
+is_early (MapRefused RunMap error) = false
+is_early (SiteFault call earlier) = false
+is_early e = true
+
+early_left : (e v : Ending) (maps : Bool) (out : List ℕ) (files files' : List ℕ → Option File) → e ≡ v → is_early v ≡ true
+    → AllStand files files' → IsLeft e maps out files files'
+early_left e v maps out files files' is early stand =
+    let apart : (x : Ending) → e ≡ x → is_early x ≡ true = λ x same. ap is_early (sym same ∙ is) ∙ early in
+    stands_left e maps out files files'
+    (not_after e (λ same. let no : false ≡ true = apart (Usage PlaceTooLarge) same in cc)
+    (λ error same. let no : false ≡ true = apart (MapRefused RunMap error) same in cc))
+    (λ fault. let no : false ≡ true = apart (SiteFault MapRead fault.0) fault.1 in cc) stand
+
 opened_left : (maps : Bool) (out : List ℕ) (files files' : List ℕ → Option File)
     → AllStand files files' ⊎ OutputMade out files files' → IsLeft (SiteFault ImageOpen None) maps out files files'
 opened_left maps out files files' left = record {
@@ -158,15 +174,11 @@ starved_left maps out files files' =
 named_leaves : (which : Which) (mode : Mode) (file : Option File) (c : Command) (e : Ending) (files files' : List ℕ → Option File)
     → (which ≡ RunMap → ⊥) → NamedMapRefused which mode file e → AllStand files files'
     → IsLeft e (names_maps c) c.outfile files files'
+named_leaves RunMap mode file c e files files' apart refused stand = absurd (apart refl)
 named_leaves which mode file c e files files' apart (inl (none, is)) stand =
-    subst (λ (v : Ending). IsLeft v (names_maps c) c.outfile files files') (sym is)
-    (stands_left (NoMap which) (names_maps c) c.outfile files files' (not_after (NoMap which) (λ x. cc) (λ error x. cc))
-    (λ fault. let x = fault.1 in cc) stand)
+    early_left e _ (names_maps c) c.outfile files files' is refl stand
 named_leaves which mode file c e files files' apart (inr (error, why, is)) stand =
-    subst (λ (v : Ending). IsLeft v (names_maps c) c.outfile files files') (sym is)
-    (stands_left (MapRefused which error) (names_maps c) c.outfile files files'
-    (not_after (MapRefused which error) (λ x. cc) (λ other x. apart (let same : which ≡ RunMap = cc in same)))
-    (λ fault. let x = fault.1 in cc) stand)
+    early_left e _ (names_maps c) c.outfile files files' is refl stand
 
 call_leaves : (call : SiteCall) (maps : Bool) (out : List ℕ) (files files' : List ℕ → Option File) → IsRunCall call
     → (earlier : Option Stop) → IsLeft (SiteFault call earlier) maps out files files'
@@ -264,8 +276,8 @@ leaves_steps c here end run ends late =
           (all_stand here.files _ (none_done here d.gain.calls idle.gain.calls))),
       λ test. (
         (λ d opens gain.
-            stands_left SourceFault (names_maps c) c.outfile here.files _ (not_after SourceFault (λ x. cc) (λ error x. cc))
-            (λ fault. let x = fault.1 in cc) (all_stand here.files _ (none_done here d.gain.calls gain.calls))),
+            early_left SourceFault _ (names_maps c) c.outfile here.files _ refl refl
+            (all_stand here.files _ (none_done here d.gain.calls gain.calls))),
         (
           (λ call d broke only.
               let is : call ≡ ImageOpen = open_call call c.outfile [] d.gain.calls broke in
@@ -275,12 +287,9 @@ leaves_steps c here end run ends late =
               (subst (λ (v : SiteCall). BrokeAt v (image_open c.outfile true ∷ []) [] d.gain.calls) is broke)))),
           (
             (λ e d r idle.
-                let is = r.2 in
-                subst (λ (v : Ending). Q v d) (sym is)
-                (stands_left NotRegular (names_maps c) c.outfile here.files _
-                (not_after NotRegular (λ x. cc) (λ error x. cc)) (λ fault. let x = fault.1 in cc)
+                early_left e _ (names_maps c) c.outfile here.files _ r.2 refl
                 (all_stand here.files _
-                (none_done now d.gain.calls idle.gain.calls ∙ other_stands here c.outfile (here.files c.outfile) r.1)))),
+                (none_done now d.gain.calls idle.gain.calls ∙ other_stands here c.outfile (here.files c.outfile) r.1))),
             λ output. (
               (λ call d broke only. barrier_leaves c call here.files _ (broke_named call (barrier_of c.mapfile) [] d.gain.calls broke)),
               holds_more rescue_faults (Read c.mapfile found.mapfile ∷ after_mapfile c found end) run Q
@@ -310,11 +319,8 @@ leaves_steps c here end run ends late =
       (λ d idle. starved_left (names_maps c) c.outfile here.files _),
       (
         (λ e d r idle.
-            let is = r.3 in
-            subst (λ (v : Ending). P v d) (sym is)
-            (stands_left (SameName r.0 r.1) (names_maps c) c.outfile here.files _
-            (not_after (SameName r.0 r.1) (λ x. cc) (λ error x. cc)) (λ fault. let x = fault.1 in cc)
-            (all_stand here.files _ (none_done here d.gain.calls idle.gain.calls)))),
+            early_left e _ (names_maps c) c.outfile here.files _ r.3 refl
+            (all_stand here.files _ (none_done here d.gain.calls idle.gain.calls))),
         λ apart. (
           (λ no. ((λ d idle. starved_left (names_maps c) c.outfile here.files _), λ absent. maps)),
           λ n is. (

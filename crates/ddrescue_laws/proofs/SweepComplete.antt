@@ -1,4 +1,4 @@
--- Nothing else ends a filling or a generating than its end, a refusal, a failure or want of memory.
+-- Nothing else ends a filling or a generating than its end, a refusal, a failure or lack of memory.
 use Rattle.std.proofs.Common.{◌≡◌, ◌≢◌, ℕ, true, List, Option, Some, None, inl, inr, ap, ◌∙◌}
 use Rattle.block_list.specs.declared.types.TypeSet.{TypeSet}
 use Rattle.crash_site.specs.Files.{File}

@@ -17,7 +17,7 @@ use Rattle.rescue_rules.specs.Work.{Gain, is_map_read, AreMapReads}
 use Rattle.rescue_rules.proofs.CutLemmas.{IsOf, Cut}
 use Rattle.rescue_rules.proofs.MapfileLemmas.{opening_by}
 use Rattle.rescue_rules.proofs.SaveStages.{put_own}
-use Rattle.save_resume.specs.Resuming.{barrier_calls}
+use Rattle.mapfile_save.specs.Loading.{barrier_calls}
 use Rattle.sweep_rules.specs.Sweep.{Sweeper, Swept, filler, generator}
 use Rattle.program_promise.proofs.FrontLemmas.{reads_stand}
 use Rattle.ddrescue_words.specs.Command.{Command, Fill, Generate}

@@ -1,13 +1,12 @@
 -- A filling and a generating have one verdict at most.
-use Rattle.std.proofs.Common.{◌≡◌, ◌≢◌, ℕ, Bool, true, false, List, Option, sym, ◌∙◌, inl, inr}
-use Rattle.mapfile_text.specs.declared.read.Mode.{Mode}
+use Rattle.std.proofs.Common.{◌≡◌, ◌≢◌, ℕ, true, List, Option, sym, ◌∙◌, inl, inr}
 use Rattle.crash_site.specs.Files.{File}
-use Rattle.save_resume.specs.Named.{map_mode}
+use Rattle.mapfile_resume.specs.Named.{map_mode}
 use Rattle.rescue_rules.specs.declared.stop.RunEnd.{RunEnd}
 use Rattle.rescue_rules.specs.Setting.{Setting}
 use Rattle.sweep_rules.specs.Sweep.{Sweeper, Swept, filler, generator}
 use Rattle.program_promise.specs.Work.{Deeds, Works}
-use Rattle.program_promise.specs.Verdicts.{IsOnce, RefuseOnce, AreVerdicts}
+use Rattle.program_promise.specs.Verdicts.{RefuseOnce, AreVerdicts}
 use Rattle.program_promise.proofs.VerdictLemmas.{one_verdict}
 use Rattle.program_promise.proofs.PartLemmas.{works_as}
 use Rattle.ddrescue_words.specs.Options.{cluster_of}
@@ -16,41 +15,29 @@ use Rattle.task_files.specs.declared.ending.Ending.{Ending}
 use Rattle.task_files.specs.declared.ending.Ending.TheVariants.{Done, PatternUnread}
 use Rattle.task_files.specs.declared.ending.Which.TheVariants.{DomainMap}
 use Rattle.task_files.specs.Maps.{Found}
-use Rattle.task_files.specs.Refusals.{NamedMapRefused, OutputMissing, PatternEmpty}
-use Rattle.task_files.specs.Work.{IfNamed, rescue_faults, files_rows}
+use Rattle.task_files.specs.Work.{rescue_faults, files_rows}
 use Rattle.task_sweeps.specs.Pattern.{ThenPattern, IsLost, IsShort, IsRead}
 use Rattle.task_sweeps.specs.Modes.{MaySweep, ThenSweep, fill_rows, generate_rows}
 use Rattle.ddrescue_laws.specs.Laws.{IsVerdict}
 use Rattle.ddrescue_laws.specs.ModeLaws.{FillHasOneVerdict, GenerateHasOneVerdict}
-use Rattle.ddrescue_laws.proofs.VerdictLemmas.{done_only, one_names, one_named, one_output, one_mapfile, one_places, one_if, verdicts}
+use Rattle.ddrescue_laws.proofs.VerdictLemmas.{done_only, files_once, one_names, one_option, verdicts}
 
 -- ---- the refusals
 
-one_missing : (output : Option File) → IsOnce (OutputMissing output)
-one_missing output e e' a b = a.1 ∙ sym b.1
-
-one_empty : (end : ℕ) → IsOnce (PatternEmpty end)
-one_empty end e e' a b = a.1 ∙ sym b.1
-
-one_domain : (c : Command) (found : Found)
-    → IsOnce (IfNamed c.domain_map (NamedMapRefused DomainMap (map_mode c.options.loose) found.domain))
-one_domain c found =
-    let mode : Mode = map_mode c.options.loose in
-    one_if c.domain_map (NamedMapRefused DomainMap mode found.domain) (one_named DomainMap mode found.domain)
-
-files_once : (makes : Bool) (c : Command) (found : Found) (limit : ℕ) → RefuseOnce (files_rows makes c found limit)
-files_once true c found limit =
-    (one_output c.options.forced found.output, (one_mapfile found.mapfile, (one_places c.options limit, tt)))
-files_once false c found limit = (
-  one_missing found.output,
-  (one_output c.options.forced found.output, (one_mapfile found.mapfile, (one_places c.options limit, tt))),
+fill_once : (c : Command) (found : Found) (input_end : ℕ) → RefuseOnce (fill_rows c found input_end)
+fill_once c found input_end = (
+  one_names c,
+  (one_option DomainMap (map_mode c.options.loose) c.domain_map found.domain, ((λ e e' a b. a.1 ∙ sym b.1), tt)),
 )
 
-fill_once : (c : Command) (found : Found) (input_end : ℕ) → RefuseOnce (fill_rows c found input_end)
-fill_once c found input_end = (one_names c, (one_domain c found, (one_empty input_end, tt)))
-
 generate_once : (c : Command) (found : Found) (input_end : ℕ) → RefuseOnce (generate_rows c found input_end)
-generate_once c found input_end = (one_names c, (one_domain c found, files_once false c found input_end))
+generate_once c found input_end = (
+  one_names c,
+  (
+    one_option DomainMap (map_mode c.options.loose) c.domain_map found.domain,
+    ((λ e e' a b. a.1 ∙ sym b.1), files_once c found input_end),
+  ),
+)
 
 -- ---- the sweep
 
@@ -113,7 +100,7 @@ reads_once c found input_end top e e' d d' h h' v v' =
     let w = read_whole c found input_end top e d h v in
     let w' = read_whole c found input_end top e' d' h' v' in
     one_verdict Ending rescue_faults IsPlainVerdict plain_verdicts (files_rows true c found top) SweepsSome
-    (files_once true c found top) sweeps_once e e' w.0 w'.0 w.1 w'.1 v v'
+    (files_once c found top) sweeps_once e e' w.0 w'.0 w.1 w'.1 v v'
 
 -- some pattern and sweep, for what they are
 some_sweep : (s : Setting) (w : Sweeper) (mapfile : Option File) (pieces : List Swept) (end : RunEnd)

@@ -1,12 +1,12 @@
 -- A command and the files that were found have one verdict.
-use Rattle.std.proofs.Common.{◌≡◌, ℕ, Bool, List, Option, Some, None, refl, sym, ap, ◌∙◌, inl, inr}
+use Rattle.std.proofs.Common.{◌≡◌, ℕ, true, List, Option, Some, None, refl, sym, ap, ◌∙◌, inl, inr}
 use Rattle.block_list.specs.declared.status.Status.{Status}
 use Rattle.mapfile_text.specs.declared.state.MapState.{MapState}
 use Rattle.mapfile_text.specs.declared.read.Mode.{Mode}
 use Rattle.mapfile_text.specs.declared.read.Mode.TheVariants.{Tight}
 use Rattle.crash_site.specs.Files.{File}
-use Rattle.save_resume.specs.Named.{map_mode}
-use Rattle.save_resume.proofs.AnswerLemmas.{refused_for_one}
+use Rattle.mapfile_resume.specs.Named.{map_mode}
+use Rattle.mapfile_resume.proofs.AnswerLemmas.{refused_for_one}
 use Rattle.rescue_rules.specs.Setting.{Setting}
 use Rattle.rescue_rules.specs.declared.stop.Stop.TheVariants.{SourceLost as InputLost, Site, LimitMet as Limited, NoMemory as NoRoom}
 use Rattle.rescue_rules.specs.declared.stop.RunEnd.{RunEnd}
@@ -16,16 +16,15 @@ use Rattle.program_promise.specs.Work.{Deeds, WorkStep}
 use Rattle.program_promise.specs.Verdicts.{IsOnce, RefuseOnce, AreVerdicts}
 use Rattle.program_promise.proofs.PartLemmas.{works_as}
 use Rattle.program_promise.proofs.VerdictLemmas.{one_verdict}
-use Rattle.ddrescue_words.specs.declared.options.Options.{Options}
 use Rattle.ddrescue_words.specs.Command.{Command}
 use Rattle.program_promise.specs.declared.operand.Operand.{Operand}
 use Rattle.task_files.specs.declared.ending.Ending.{Ending}
 use Rattle.task_files.specs.declared.ending.Ending.TheVariants.{Done, SameName, MapRefused}
 use Rattle.task_files.specs.declared.ending.Which.{Which}
 use Rattle.task_files.specs.declared.ending.Which.TheVariants.{DomainMap, TestMap, RunMap}
-use Rattle.task_files.specs.Refusals.{NamesRefused, NamedMapRefused, OutputRefused, MapfileRefused, PlacesRefused}
+use Rattle.task_files.specs.Refusals.{NamesRefused, NamedMapRefused, MapfileRefused}
 use Rattle.task_files.specs.Maps.{Found}
-use Rattle.task_files.specs.Work.{IfNamed, Rescues, RunsOver, answer_of, rescue_faults, rescue_rows}
+use Rattle.task_files.specs.Work.{IfNamed, Rescues, RunsOver, answer_of, rescue_faults, files_rows, rescue_rows}
 use Rattle.ddrescue_laws.specs.Laws.{IsVerdict, HasOneVerdict}
 
 -- a run that was done
@@ -59,33 +58,33 @@ one_names c e e' a b =
     let pair : (a.0, a.1) ≡ (b.0, b.1) = cc in
     a.3 ∙ ap (λ (p : Operand × Operand). SameName p.0 p.1) pair ∙ sym b.3
 
-pub one_named : (which : Which) (mode : Mode) (file : Option File) → IsOnce (NamedMapRefused which mode file)
+one_named : (which : Which) (mode : Mode) (file : Option File) → IsOnce (NamedMapRefused which mode file)
 one_named which mode file e e' (inl a) (inl b) = a.1 ∙ sym b.1
 one_named which mode file e e' (inl a) (inr b) = let none : None ≡ Some b.1.there = sym a.0 ∙ b.1.is in absurd (cc)
 one_named which mode file e e' (inr a) (inl b) = let none : None ≡ Some a.1.there = sym b.0 ∙ a.1.is in absurd (cc)
 one_named which mode file e e' (inr a) (inr b) =
     a.2 ∙ ap (MapRefused which) (refused_for_one file mode a.0 b.0 a.1 b.1) ∙ sym b.2
 
-pub one_output : (forced : Bool) (output : Option File) → IsOnce (OutputRefused forced output)
-one_output forced output e e' a b = a.2 ∙ sym b.2
+pub one_option : (which : Which) (mode : Mode) (name : Option (List ℕ)) (file : Option File)
+    → IsOnce (IfNamed name (NamedMapRefused which mode file))
+one_option which mode name file e e' a b = one_named which mode file e e' a.1 b.1
 
-pub one_mapfile : (mapfile : Option File) → IsOnce (MapfileRefused mapfile)
+one_mapfile : (mapfile : Option File) → IsOnce (MapfileRefused mapfile)
 one_mapfile mapfile e e' a b = a.3 ∙ ap (MapRefused RunMap) (refused_for_one mapfile Tight a.0 b.0 a.1 b.1) ∙ sym b.3
 
-pub one_places : (o : Options) (end : ℕ) → IsOnce (PlacesRefused o end)
-one_places o end e e' a b = a.1 ∙ sym b.1
-
-pub one_if : (name : Option (List ℕ)) (refuses : Ending → Type 0) → IsOnce refuses → IsOnce (IfNamed name refuses)
-one_if name refuses once e e' a b = once e e' a.1 b.1
+pub files_once : (c : Command) (found : Found) (limit : ℕ) → RefuseOnce (files_rows true c found limit)
+files_once c found limit =
+    ((λ e e' a b. a.2 ∙ sym b.2), (one_mapfile found.mapfile, ((λ e e' a b. a.1 ∙ sym b.1), tt)))
 
 rows_once : (c : Command) (found : Found) (end : ℕ) → RefuseOnce (rescue_rows c found end)
 rows_once c found end =
-    let mode : Mode = map_mode c.options.loose in
-    let domain : IsOnce (IfNamed c.domain_map (NamedMapRefused DomainMap mode found.domain)) =
-    one_if c.domain_map (NamedMapRefused DomainMap mode found.domain) (one_named DomainMap mode found.domain) in
-    let test : IsOnce (IfNamed c.test_map (NamedMapRefused TestMap mode found.test)) =
-    one_if c.test_map (NamedMapRefused TestMap mode found.test) (one_named TestMap mode found.test) in
-    (one_names c, (domain, (test, (one_output c.options.forced found.output, (one_mapfile found.mapfile, (one_places c.options end, tt))))))
+    let mode : Mode = map_mode c.options.loose in (
+      one_names c,
+      (
+        one_option DomainMap mode c.domain_map found.domain,
+        (one_option TestMap mode c.test_map found.test, files_once c found end),
+      ),
+    )
 
 -- no fault of a rescue is a verdict
 pub verdicts : AreVerdicts rescue_faults IsVerdict

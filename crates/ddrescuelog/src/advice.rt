@@ -16,7 +16,7 @@ use std::io;
 const USAGE: &str =
     "ddrescuelog [options] mapfile, with one mode; 'man ddrescuelog' lists the options and names the version";
 
-/// What is told of the arguments.
+/// What a line on a wrong argument says of this program.
 fn manual() -> Manual {
     Manual {
         usage: USAGE,

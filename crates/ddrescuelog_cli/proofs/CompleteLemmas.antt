@@ -1,4 +1,4 @@
--- Nothing else is answered than what a mode finds, a refusal, a failure or want of memory.
+-- Nothing else is answered than what a mode finds, a refusal, a failure or lack of memory.
 use Rattle.std.proofs.Common.{◌≡◌, ℕ, Bool, true, false, List, [], ◌∷◌, Option, refl, sym, inl, inr, subst}
 use Rattle.block_list.specs.declared.status.Status.{Status}
 use Rattle.crash_site.specs.Files.{File}

@@ -12,7 +12,7 @@ use Rattle.program_promise.specs.Program.{line_by}
 use Rattle.program_promise.specs.Promise.{DoneFor}
 use Rattle.ddrescuelog_words.specs.Modes.{creates, removes_map}
 use Rattle.ddrescuelog_words.specs.Command.{Command}
-use Rattle.save_resume.proofs.FillLemmas.{keeps_self}
+use Rattle.mapfile_save.proofs.FillLemmas.{keeps_self}
 use Rattle.ddrescuelog_cli.specs.declared.load.LoadedMaps.{LoadedMaps}
 use Rattle.ddrescuelog_cli.specs.declared.ending.LogEnding.{LogEnding}
 use Rattle.ddrescuelog_cli.specs.declared.ending.LogEnding.TheVariants.{NoMemory}
@@ -41,7 +41,7 @@ use Rattle.ddrescuelog_cli.proofs.FitLemmas.{answers_fit}
 use Rattle.ddrescuelog_cli.proofs.AfterLemmas.{causes_by, feed_keeps, feed_untaken, no_pieces_put, over_plain, plain_after, puts_nothing, read_pieces, read_puts}
 use Rattle.ddrescuelog_cli.proofs.FindLemmas.{heading_of}
 
--- ---- nothing was done, for want of memory
+-- ---- nothing was done, for lack of memory
 
 starved_works : (new : Bool) (c : Command) (line list : List ℕ) (found : Found) (m : Maps)
     → WorksAs new c line list found m NoMemory (only_calls [])

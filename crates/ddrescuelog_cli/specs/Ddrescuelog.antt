@@ -4,8 +4,8 @@ use Rattle.crash_site.specs.SiteState.{SiteState, files_in}
 use Rattle.crash_site.specs.SiteChanges.{Keeps as SiteKeeps}
 use Rattle.rescue_console.specs.FeedState.{FeedState, Keeps as FeedKeeps}
 use Rattle.rescue_console.specs.ConsoleState.{ConsoleState}
-use Rattle.save_resume.specs.MapNames.{names_of}
-use Rattle.save_resume.specs.SaveStops.{IsEmptyDraft}
+use Rattle.mapfile_save.specs.MapNames.{names_of}
+use Rattle.mapfile_save.specs.SaveStops.{IsEmptyDraft}
 use Rattle.program_promise.specs.Work.{Deeds}
 use Rattle.program_promise.specs.World.{WorldState, no_clock, no_source, Told}
 use Rattle.program_promise.specs.Kinds.{AtCall, Failed}
@@ -55,8 +55,8 @@ pub record LeavesAs (c : Command) (line : List ℕ) (o : Outside) (e : LogEnding
       ⊎ (((row_of e).kind ≡ Failed AtCall) × IsChanging c.mode
       × IsEmptyDraft old.site (names_of c.mapfile).draft name (files_in new.site name))
 
--- What stays of files and feed, also whether an image is open. A draft is left begun exactly if an append to it failed,
--- or its sync.
+-- What stays of files and feed, also whether an image is open. A draft is left begun if and only if an append to it
+-- failed, or its sync.
 pub record LogKeeps (e : LogEnding) (old new : WorldState) : Type 0 where
   pub site : SiteKeeps old.site new.site
   pub feed_ : FeedKeeps old.feed_ new.feed_

@@ -1,4 +1,4 @@
--- Nothing else is answered than what the records bring, a refusal, a failure or want of memory; and a disk brings one
+-- Nothing else is answered than what the records bring, a refusal, a failure or lack of memory; and a disk brings one
 -- verdict at most.
 use Rattle.std.proofs.Common.{◌≡◌, ℕ, List, [], Option, Some, None, refl, sym, ap, ◌∙◌, inl, inr, subst}
 use Rattle.program_promise.specs.Work.{Deeds}

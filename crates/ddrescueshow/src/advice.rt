@@ -13,7 +13,7 @@ use program_advice::site::{SiteFiles, fault_cause};
 use program_advice::usage::{Manual, line_on_words};
 use std::io;
 
-/// What is told of the arguments.
+/// What a line on a wrong argument says of this program.
 fn manual() -> Manual {
     Manual {
         usage: "ddrescueshow [options] mapfile; 'man ddrescueshow' lists the options and names the version",

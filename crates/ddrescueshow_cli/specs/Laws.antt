@@ -9,7 +9,7 @@ use Rattle.crash_site.specs.SiteState.{SiteState, files_in}
 use Rattle.map_counts.specs.At.{status_at}
 use Rattle.map_algebra.specs.Compare.{IsDoneIn}
 use Rattle.map_counts.specs.Summary.{summary_of}
-use Rattle.save_resume.specs.SaveStops.{CouldBefore}
+use Rattle.mapfile_save.specs.SaveStops.{CouldBefore}
 use Rattle.program_promise.specs.World.{Told}
 use Rattle.program_promise.specs.Kinds.{IsVerdictKind}
 use Rattle.program_promise.specs.Laws.{KeepsPromises}
@@ -80,8 +80,8 @@ pub record HasAsBad (domain : ℕ → Bool) (statuses : List Status) (from to : 
   pub inside : domain position ≡ true
   pub bad : badness s ≤ badness (status_at statuses position)
 
--- A cell hides nothing: what it shows is as bad as a status or worse exactly if some position of its range and of the
--- domain is.
+-- A cell hides nothing: what it shows is as bad as a status or worse if and only if some position of its range and of
+-- the domain is.
 abbrev pub MarksHideNothing : Type 0
 MarksHideNothing = (f : Frame) (domain : ℕ → Bool) (statuses : List Status) (k : ℕ) (s : Status)
     → (badness s ≤ badness_of (mark f domain statuses k))
@@ -112,7 +112,7 @@ SvgIsShort = (o : ShowOptions) (domain : ℕ → Bool) (statuses : List Status) 
 
 -- ---- the figures
 
--- The share is 100.00 % exactly if each position of the domain is finished.
+-- The share is 100.00 % if and only if each position of the domain is finished.
 abbrev pub AllIsFinishedAt100 : Type 0
 AllIsFinishedAt100 = (domain : ℕ → Bool) (statuses : List Status)
     → ((x : ℕ) → domain x ≡ true → x < length statuses)

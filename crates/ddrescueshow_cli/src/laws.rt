@@ -33,7 +33,7 @@ pub fn svg_is_short()
     ensures { SvgIsShort }
 {}
 
-/// The picture says 100.00 % exactly if all is finished.
+/// The picture says 100.00 % if and only if all is finished.
 pub fn all_is_finished_at_100()
     ensures { AllIsFinishedAt100 }
 {}

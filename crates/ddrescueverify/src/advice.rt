@@ -21,7 +21,7 @@ use std::io;
 const USAGE: &str =
     "ddrescueverify [options] infile outfile mapfile; 'man ddrescueverify' lists the options and names the version";
 
-/// What is told of the arguments.
+/// What a line on a wrong argument says of this program.
 fn manual() -> Manual {
     Manual {
         usage: USAGE,

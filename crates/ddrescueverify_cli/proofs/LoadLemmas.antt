@@ -8,9 +8,10 @@ use Rattle.mapfile_text.specs.declared.read.MapError.TheVariants.{NoStatusLine}
 use Rattle.crash_site.specs.declared.site.SiteCall.{SiteCall}
 use Rattle.crash_site.specs.Files.{File}
 use Rattle.crash_site.specs.SiteState.{SiteState, files_in}
-use Rattle.save_resume.specs.MapNames.{MapNames}
-use Rattle.save_resume.specs.Resuming.{barrier_calls, LoadEnded, StarvedInLoad, BrokeAsResumed, IsReadAs, IsRefusedFor, IsLikeNone, IsResumeCall, IsOfFile}
-use Rattle.save_resume.proofs.AnswerLemmas.{read_is_not_refused, none_is_not_read}
+use Rattle.mapfile_save.specs.MapNames.{MapNames}
+use Rattle.mapfile_resume.specs.Resuming.{LoadEnded, StarvedInLoad, BrokeAsResumed, IsReadAs, IsRefusedFor, IsLikeNone, IsResumeCall, IsOfFile}
+use Rattle.mapfile_save.specs.Loading.{barrier_calls}
+use Rattle.mapfile_resume.proofs.AnswerLemmas.{read_is_not_refused, none_is_not_read}
 use Rattle.program_promise.proofs.LoadedLemmas.{LoadPart, resumes, Resumed, read_stands, went_through, refused, starved, starved_after, resume_refused, resume_broke}
 use Rattle.ddrescueverify_cli.specs.declared.ending.VerifyEnding.{VerifyEnding}
 use Rattle.ddrescueverify_cli.specs.declared.ending.VerifyEnding.TheVariants.{NoMap, MapRefused, SiteFault, NoMemory}

@@ -14,9 +14,9 @@ use Rattle.crash_site.specs.Calls.{Call, Entry, Done as Returned, image_open}
 use Rattle.crash_site.specs.SiteState.{SiteState, files_in, image_in}
 use Rattle.crash_site.specs.SiteChanges.{Keeps, Stays as SiteStays}
 use Rattle.crash_site.proofs.LawLemmas.{after-append}
-use Rattle.save_resume.specs.MapNames.{MapNames, names_of}
-use Rattle.save_resume.specs.Saving.{save_calls}
-use Rattle.save_resume.specs.Resuming.{barrier_calls}
+use Rattle.mapfile_save.specs.MapNames.{MapNames, names_of}
+use Rattle.mapfile_save.specs.Saving.{save_calls}
+use Rattle.mapfile_save.specs.Loading.{barrier_calls}
 use Rattle.rescue_rules.specs.Start.{Stands}
 use Rattle.rescue_rules.specs.Work.{AreMapReads}
 use Rattle.program_promise.specs.Work.{Opened as IsOpened, Unopened, Deeds, WorkStep, Take, Look as LookAt, Make, Works}

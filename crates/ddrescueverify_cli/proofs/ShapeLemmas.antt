@@ -13,10 +13,9 @@ use Rattle.crash_site.specs.CallsMade.{BrokeAt}
 use Rattle.crash_site.specs.Folder.{opened}
 use Rattle.crash_site.specs.Along.{GoesAlong}
 use Rattle.crash_site.specs.Disk.{only}
-use Rattle.save_resume.specs.MapNames.{names_of}
-use Rattle.save_resume.specs.Loading.{IsLoad}
-use Rattle.save_resume.specs.Saving.{save_calls}
-use Rattle.save_resume.specs.Resuming.{barrier_calls}
+use Rattle.mapfile_save.specs.MapNames.{names_of}
+use Rattle.mapfile_save.specs.Loading.{IsLoad, barrier_calls}
+use Rattle.mapfile_save.specs.Saving.{save_calls}
 use Rattle.rescue_rules.specs.Start.{Stands as StandsFor}
 use Rattle.rescue_rules.specs.Stops.{is_sync}
 use Rattle.rescue_rules.specs.Work.{AreMapReads}

@@ -5,7 +5,7 @@ use Rattle.faulty_source.specs.SourceChanges.{Keeps as SourceKeeps}
 use Rattle.crash_site.specs.SiteState.{SiteState, files_in}
 use Rattle.crash_site.specs.SiteChanges.{Keeps as SiteKeeps}
 use Rattle.rescue_console.specs.ConsoleState.{ConsoleState}
-use Rattle.save_resume.specs.MapNames.{names_of}
+use Rattle.mapfile_save.specs.MapNames.{names_of}
 use Rattle.program_promise.specs.Work.{Deeds}
 use Rattle.rescue_verify.specs.Across.{across}
 use Rattle.rescue_verify.specs.Comparing.{tally_of}
@@ -47,7 +47,7 @@ pub record LeavesAs (c : Command) (line : List ℕ) (o : Outside) (e : VerifyEnd
   pub others : IsTrue old.site.tells → (name : List ℕ) → name ≢ c.mapfile → name ≢ (names_of c.mapfile).draft
       → files_in new.site name ≡ files_in old.site name
 
--- What was told before stays, and a draft is left begun exactly if an append to it failed, or its sync.
+-- What was told before stays, and a draft is left begun if and only if an append to it failed, or its sync.
 pub record KeepsAs (e : VerifyEnding) (old new : WorldState) : Type 0 where
   pub draft : new.site.is_drafting ≡ drafting_left e
   pub source : SourceKeeps old.source new.source

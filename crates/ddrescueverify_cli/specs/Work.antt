@@ -6,9 +6,9 @@ use Rattle.mapfile_text.specs.declared.state.MapState.{MapState}
 use Rattle.crash_site.specs.declared.site.SiteCall.TheVariants.{ImageRead}
 use Rattle.crash_site.specs.Files.{File}
 use Rattle.crash_site.specs.Calls.{Done as Returned, image_open}
-use Rattle.save_resume.specs.MapNames.{names_of}
-use Rattle.save_resume.specs.Saving.{save_calls}
-use Rattle.save_resume.specs.Resuming.{barrier_calls}
+use Rattle.mapfile_save.specs.MapNames.{names_of}
+use Rattle.mapfile_save.specs.Saving.{save_calls}
+use Rattle.mapfile_save.specs.Loading.{barrier_calls}
 use Rattle.rescue_rules.specs.Start.{Stands}
 use Rattle.program_promise.specs.Work.{Deeds, IsIdle, Faults, WorkStep, Take, Look as LookAt, Open, Make, Read, Works}
 use Rattle.rescue_verify.specs.declared.halt.Halt.{Halt}

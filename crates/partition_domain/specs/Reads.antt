@@ -109,7 +109,7 @@ abbrev pub StoppedBy : SearchStop → (k : ℕ) → (records : List (List ℕ)) 
 StoppedBy SourceLost k records = is_some (next records k) ≡ true
 StoppedBy (Refused refusal) k records = RefusedBy refusal k records
 
--- the count of losses after a search that stopped: it rose by one exactly if the input was lost
+-- the count of losses after a search that stopped: it rose by one if and only if the input was lost
 abbrev pub losses_after : SearchStop → (losses : ℕ) → ℕ
 losses_after SourceLost losses = raised losses
 losses_after (Refused refusal) losses = losses

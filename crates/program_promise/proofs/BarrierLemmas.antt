@@ -5,9 +5,10 @@ use Rattle.crash_site.specs.declared.site.SiteCall.TheVariants.{ImageSync, MapSe
 use Rattle.crash_site.specs.Files.{File}
 use Rattle.crash_site.specs.Calls.{Entry}
 use Rattle.crash_site.specs.CallsMade.{BrokeAt}
-use Rattle.save_resume.specs.MapNames.{MapNames}
-use Rattle.save_resume.specs.Saving.{IsNameIn}
-use Rattle.save_resume.specs.Resuming.{barrier_calls, BrokeInLoad, BrokeAsResumed}
+use Rattle.mapfile_save.specs.MapNames.{MapNames}
+use Rattle.mapfile_save.specs.Saving.{IsNameIn}
+use Rattle.mapfile_resume.specs.Resuming.{BrokeInLoad, BrokeAsResumed}
+use Rattle.mapfile_save.specs.Loading.{barrier_calls}
 use Rattle.program_promise.proofs.GainLemmas.{broke_named}
 
 -- no call of the barrier reads a map

@@ -15,13 +15,14 @@ use Rattle.crash_site.specs.Files.{File}
 use Rattle.crash_site.specs.Calls.{Call, Entry, Done as Returned}
 use Rattle.crash_site.specs.CallsMade.{BrokeAt}
 use Rattle.crash_site.specs.SiteState.{SiteState, files_in}
-use Rattle.save_resume.specs.declared.named.NamedFault.{NamedFault}
-use Rattle.save_resume.specs.declared.named.NamedFault.TheVariants.{ReadFailed, Absent, Refused, NoMemory}
-use Rattle.save_resume.specs.MapNames.{MapNames}
-use Rattle.save_resume.specs.Named.{IsMapOf, LoadsNamed, IsNamedAs}
-use Rattle.save_resume.specs.Saving.{IsNameIn}
-use Rattle.save_resume.specs.Resuming.{barrier_calls, IsOfFile, IsReadAs, IsRefusedFor, IsResumeCall, LoadEnded, StarvedInLoad, BrokeInLoad, BrokeAsResumed}
-use Rattle.save_resume.proofs.AnswerLemmas.{read_is_not_refused}
+use Rattle.mapfile_resume.specs.declared.named.NamedFault.{NamedFault}
+use Rattle.mapfile_resume.specs.declared.named.NamedFault.TheVariants.{ReadFailed, Absent, Refused, NoMemory}
+use Rattle.mapfile_save.specs.MapNames.{MapNames}
+use Rattle.mapfile_resume.specs.Named.{IsMapOf, LoadsNamed, IsNamedAs}
+use Rattle.mapfile_save.specs.Saving.{IsNameIn}
+use Rattle.mapfile_resume.specs.Resuming.{IsOfFile, IsReadAs, IsRefusedFor, IsResumeCall, LoadEnded, StarvedInLoad, BrokeInLoad, BrokeAsResumed}
+use Rattle.mapfile_save.specs.Loading.{barrier_calls}
+use Rattle.mapfile_resume.proofs.AnswerLemmas.{read_is_not_refused}
 use Rattle.rescue_rules.specs.Start.{StandsFor, AsMap, Stands}
 use Rattle.program_promise.specs.Work.{Faults, WorkStep, Look, Make, Read}
 use Rattle.program_promise.specs.Parts.{Did, DidPart}

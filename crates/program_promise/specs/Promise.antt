@@ -18,8 +18,8 @@ module _ {C E O : Type 0} (p : Program C E O) where
     pub asks : AskFor p.grammar words command
     pub fits : p.Fits command e
 
-  -- What an answer says of the words, by its kind: they are refused exactly if the grammar refuses them, except that
-  -- memory may run out first.
+  -- What an answer says of the words, by its kind: they are refused if and only if the grammar refuses them, except
+  -- that memory may run out first.
   abbrev pub SaysOfWords : Kind → E → (words : List (List ℕ)) → Type 0
   SaysOfWords Asked e words = AreAccepted words e
   SaysOfWords Brought e words = AreAccepted words e
@@ -75,7 +75,7 @@ module _ {C E O : Type 0} (p : Program C E O) where
         → (IsTrue between.console.is_scheduled → t.after.console.schedule ≡ with_call between.console.schedule)
         → Says t between
 
-  -- What a program promises of a call, by all that is told of it:
+  -- What a program promises of a call, in terms of all that the objects tell:
   pub record Promise (t : Told E) : Type 0 where
     -- Words that ask for nothing are refused, whatever the objects tell. Only memory may run out before.
     pub words : SaysOfWords (kind_of p t.answer) t.answer t.words

@@ -18,7 +18,7 @@ pub record Keeps (old new : FeedState) : Type 0 where
   pub scheduled : new.is_scheduled ≡ old.is_scheduled
   pub later : old.faults ≤ new.faults
 
--- by its schedule a take fails exactly if its number is one of those that fail; else it takes as many bytes as there
+-- by its schedule a take fails if and only if its number is one of those that fail; else it takes as many bytes as there
 -- are and as the buffer holds
 pub record TakesBySchedule {E : Type 0} (room : ℕ) (result : Result ℕ E) (old new : FeedState) : Type 0 where
   pub schedule : new.schedule ≡ with_call old.schedule

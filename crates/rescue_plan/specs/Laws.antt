@@ -20,7 +20,7 @@ use Rattle.ddrescueplan_words.specs.Command.{Command, ArePlain}
 use Rattle.rescue_plan.specs.declared.run.PlanEnd.{PlanEnd}
 use Rattle.rescue_plan.specs.Running.{PutsPlan}
 use Rattle.plan_source.specs.Lines.{PlannedRead, planned, lines_of}
-use Rattle.save_resume.specs.MapNames.{names_in}
+use Rattle.mapfile_save.specs.MapNames.{names_in}
 use Rattle.rescue_plan.specs.Plan.{untried_map, plan_setting, BeginsPlan, IsPlan}
 
 -- reads begin with others
@@ -54,7 +54,8 @@ PlanExists = (o : Options) (length : ℕ) (test : List Status) → AreRescueLimi
 abbrev pub plan_part : Setting → Setting
 plan_part s = record (nameless s) { has_mapfile = false; names = names_in None; line = []; output_position = 0 }
 
--- Reads are a plan for a setting, or the first ones of a plan, exactly if they are so for what a plan needs of it.
+-- Reads are a plan for a setting, or the first ones of a plan, if and only if they are so for what a plan needs
+-- of it.
 pub record ArePlannedAlike (s : Setting) (length : ℕ) (test : List Status) (reads : List PlannedRead) : Type 0 where
   pub begin : BeginsPlan (plan_part s) length test reads ↔ BeginsPlan s length test reads
   pub are : IsPlan (plan_part s) length test reads ↔ IsPlan s length test reads

@@ -46,7 +46,7 @@ prepared_spares try_again retrim =
       makes_none = λ status is. first.makes_none status (second.makes_none (if_asked try_again tried_again status) is);
     }
 
--- a position is finished after it exactly if it was
+-- a position is finished after it if and only if it was
 alike_from : (domain : ℕ → Bool) (change : Status → Status) → SparesFinished change → (at : ℕ) (map : List Status)
     (x : ℕ) → Has map Finished x ↔ Has (changed_from domain change at map) Finished x
 alike_from domain change h at [] x = (λ has. has, λ has. has)

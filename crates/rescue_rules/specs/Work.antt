@@ -8,8 +8,7 @@ use Rattle.crash_site.specs.declared.site.SiteCall.TheVariants.{MapRead}
 use Rattle.crash_site.specs.Files.{File}
 use Rattle.crash_site.specs.Calls.{Call, Entry, Done, image_open, map_read}
 use Rattle.crash_site.specs.CallsMade.{Lost, BrokeAt}
-use Rattle.save_resume.specs.Resuming.{barrier_calls}
-use Rattle.save_resume.specs.Loading.{BeginsLoad, IsLoad}
+use Rattle.mapfile_save.specs.Loading.{barrier_calls, BeginsLoad, IsLoad}
 use Rattle.rescue_rules.specs.declared.stop.Stop.{Stop}
 use Rattle.rescue_rules.specs.declared.stop.Stop.TheVariants.{SourceLost, Site, LimitMet, NoMemory}
 use Rattle.rescue_rules.specs.declared.stop.RunEnd.{RunEnd}

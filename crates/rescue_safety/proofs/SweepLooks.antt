@@ -7,9 +7,9 @@ use Rattle.mapfile_text.specs.Pieces.{pieces_of}
 use Rattle.crash_site.specs.declared.site.SiteCall.{SiteCall}
 use Rattle.crash_site.specs.Calls.{Call, image_open, image_read, image_write, image_sync, map_read, draft_begin, draft_append, draft_sync, draft_publish, map_settle, map_remove, Entry, Done, Failed}
 use Rattle.crash_site.specs.CallsMade.{Lost, BrokeAt}
-use Rattle.save_resume.specs.MapNames.{MapNames}
-use Rattle.save_resume.specs.Resuming.{barrier_calls}
-use Rattle.save_resume.specs.Saving.{fill_calls, save_calls}
+use Rattle.mapfile_save.specs.MapNames.{MapNames}
+use Rattle.mapfile_save.specs.Loading.{barrier_calls}
+use Rattle.mapfile_save.specs.Saving.{fill_calls, save_calls}
 use Rattle.rescue_rules.specs.declared.stop.RunEnd.{RunEnd}
 use Rattle.rescue_rules.specs.Setting.{Setting, place}
 use Rattle.rescue_rules.specs.Snapshots.{Snapshot, text_of}

@@ -1,4 +1,4 @@
--- A sample: an input that is computed, with bad sectors that are drawn.
+-- A sample: a generated input, with bad sectors that are drawn.
 use Rattle.std.specs.Prelude.{◌≡◌, ℕ, zero, suc, ◌+◌, ◌*◌, ◌/◌, ◌%◌, ◌^◌, ◌<◌, ◌≤◌, Bool, true, false, not, ◌||◌, nat_eq, List, length, map, slice_range, All, count_by}
 use Rattle.std.specs.List.{list_any, range_with_len}
 use Rattle.faulty_source.specs.declared.journal.ReadEntry.{ReadEntry}

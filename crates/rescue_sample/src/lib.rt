@@ -1,5 +1,5 @@
-//! What a rescue is handed that writes no files: a sample, which is an input that is computed, with its line, a clock that
-//! stands still, and a site and a console that keep nothing.
+//! What a rescue is handed that writes no files: a sample, which is a generated input, with its line, a clock that reads
+//! 0, and a site and a console that keep nothing.
 #![tactic(auto)]
 
 pub mod blank;

@@ -1,6 +1,5 @@
 //! The lines of a transcript, and what is written below them.
 use crate::scene::Scene;
-use block_list::tiles::NoMemory;
 use scene_text::command::{Command, read_command};
 use scene_text::refusal::Refusal;
 use std::alloc::Global;

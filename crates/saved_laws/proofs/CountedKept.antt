@@ -102,8 +102,8 @@ module _ (s : Setting) (ok : IsSensible s) (x : ℕ) where
       i p at few)
       (λ (none : given s.sector (reads_of old) x ≡ None).
       one_of (FinishesIt x) (snapshots s m (e ∷ es)) i p
-      (all_finish s ok x m e es last order run
-      (own_finishes s ok x m e es last order run byte
+      (all_finish s ok x m e es order run
+      (own_finishes s ok x m e es order run byte
       (sym (ap (λ (o : Option ℕ). last_of_both o (own s.sector x e.reading)) none) ∙ gave))) at)
       (some_or_none (given s.sector (reads_of old) x))
 
@@ -117,7 +117,7 @@ module _ (s : Setting) (ok : IsSensible s) (x : ℕ) where
       ⊎_elim
       (λ (v : Vain s ok x e.reading).
       one_of (TriedIn s ok x) (snapshots s m (e ∷ es)) i p
-      (all_tried s ok x m e es last order run (vain_tried s ok x m e es order run v)) at)
+      (all_tried s ok x m e es order run (vain_tried s ok x m e es order run v)) at)
       (λ (f' : FailedOf s.sector (reads_of old) x).
       from_rest m e old more (TriedIn s ok x)
       (λ j q there less. counted_tried (move_of s m e).after old more last (run_steps s ok m e es order run).order

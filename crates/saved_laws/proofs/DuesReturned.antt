@@ -1,23 +1,23 @@
 -- Before each read every save that came due has returned.
-use Rattle.std.proofs.Common.{◌≡◌, inl, inr, ⊎_elim, ℕ, suc, ◌+◌, ◌<◌, ◌≤◌, Bool, true, false, if◌then◌else◌, nat_eq, List, [], ◌∷◌, ◌++◌, take, map, Option, refl, sym, ap, ◌∙◌, subst, arith, append_assoc, append-nil}
+use Rattle.std.proofs.Common.{◌≡◌, inl, inr, ⊎_elim, ℕ, suc, ◌+◌, ◌<◌, ◌≤◌, Bool, true, false, if◌then◌else◌, List, [], ◌∷◌, ◌++◌, map, Option, refl, sym, ap, ◌∙◌, subst, arith, append_assoc, append-nil}
 use Rattle.std.proofs.lemmas.Bool.{cases_Bool}
 use Rattle.std.proofs.lemmas.List.{append_cancel_left, map-append}
-use Rattle.faulty_source.specs.Journal.{Reading, kept}
+use Rattle.faulty_source.specs.Journal.{Reading}
 use Rattle.crash_site.specs.declared.site.SiteCall.{SiteCall}
 use Rattle.crash_site.specs.Files.{File}
 use Rattle.crash_site.specs.Calls.{Call, Entry, Done, Failed, image_open}
 use Rattle.crash_site.specs.CallsMade.{BrokeAt}
-use Rattle.save_resume.specs.MapNames.{MapNames}
-use Rattle.save_resume.specs.Resuming.{barrier_calls}
-use Rattle.save_resume.specs.Saving.{save_calls}
+use Rattle.mapfile_save.specs.MapNames.{MapNames}
+use Rattle.mapfile_save.specs.Loading.{barrier_calls}
+use Rattle.mapfile_save.specs.Saving.{save_calls}
 use Rattle.rescue_rules.specs.declared.stop.RunEnd.{RunEnd}
 use Rattle.rescue_rules.specs.declared.tally.Tally.{Tally}
-use Rattle.rescue_rules.specs.Setting.{Setting, IsSensible, place}
+use Rattle.rescue_rules.specs.Setting.{Setting, IsSensible}
 use Rattle.rescue_rules.specs.Machine.{Machine}
 use Rattle.rescue_rules.specs.Step.{Event, is_timely}
 use Rattle.rescue_rules.specs.Moves.{ready, move_of, state_after, IsRun}
 use Rattle.rescue_rules.specs.Events.{began_at, events_of}
-use Rattle.rescue_rules.specs.RunCalls.{write_calls, due_calls, move_calls, run_calls, end_calls}
+use Rattle.rescue_rules.specs.RunCalls.{due_calls, move_calls, run_calls, end_calls}
 use Rattle.rescue_rules.specs.Snapshots.{text_of, snapshot_of, is_due}
 use Rattle.rescue_rules.specs.Stops.{files_before, is_settle, returned}
 use Rattle.rescue_rules.specs.Work.{Gain, begins, events_in, opening_calls, Ends, IsSaved, IsUnsaved, IsBroken, GoesOn, InOpening, InLoad, InRun, Goes, InMaps, AfterMaps}
@@ -29,7 +29,7 @@ use Rattle.rescue_safety.proofs.SettleLemmas.{settled, save_settled}
 use Rattle.saved_laws.specs.Dues.{dues_by}
 use Rattle.saved_laws.specs.Laws.{DueSavesReturn}
 use Rattle.saved_laws.proofs.LossLemmas.{due_before}
-use Rattle.saved_laws.proofs.NothingLost.{write_unsettled}
+use Rattle.saved_laws.proofs.SavedWalk.{read_settles}
 
 -- ---- what is due by the clock, a move at a time
 
@@ -92,19 +92,7 @@ module _ (s : Setting) (ok : IsSensible s) (on : s.has_mapfile ≡ true) where
   settles_by : (m : Machine) (e : Event) (es : List Event)
       → settled (map Done (run_calls s m (e ∷ es)))
       ≡ settled (map Done (due_calls s (move_of s m e))) + settled (map Done (run_calls s (move_of s m e).after es))
-  settles_by m e es =
-      let write : List Call = write_calls s e.reading in
-      let due : List Call = due_calls s (move_of s m e) in
-      let later : List Call = run_calls s (move_of s m e).after es in
-      omega (
-        arith,
-        ap settled (map-append Done (write ++ due) later),
-        count_both is_settle (map Done (write ++ due)) (map Done later),
-        ap settled (map-append Done write due),
-        count_both is_settle (map Done write) (map Done due),
-        write_unsettled s ok 0 (nat_eq (kept s.sector e.reading) 0) (place s e.reading.pos)
-            (take (kept s.sector e.reading) e.reading.given),
-      )
+  settles_by m e es = read_settles s e.reading (due_calls s (move_of s m e)) (run_calls s (move_of s m e).after es)
 
   -- the moves before a read settle as often as saves came due
   dues_settled : (m : Machine) (first back more : List Event) (next : Event) → IsRun s m (first ++ next ∷ more)

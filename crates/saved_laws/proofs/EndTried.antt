@@ -1,22 +1,22 @@
 -- What a rescue asked for in vain is tried at each stop after its end.
-use Rattle.std.proofs.Common.{◌≡◌, ⊎_elim, ℕ, zero, suc, ◌+◌, ◌≤◌, Bool, true, false, if◌then◌else◌, nat_eq, List, [], ◌∷◌, ◌++◌, length, take, map, Option, Some, refl, sym, ap, subst, arith}
+use Rattle.std.proofs.Common.{◌≡◌, ⊎_elim, ℕ, zero, suc, ◌+◌, ◌≤◌, Bool, true, false, if◌then◌else◌, List, [], ◌∷◌, ◌++◌, length, take, map, Option, Some, refl, sym, ap, subst, arith}
 use Rattle.std.specs.List.{slice_get}
 use Rattle.std.proofs.Math.Seq.{take-length}
 use Rattle.std.proofs.lemmas.List.{map-append}
 use Rattle.std.proofs.lemmas.Option.{none-some}
 use Rattle.block_list.specs.declared.status.Status.{Status}
-use Rattle.faulty_source.specs.Journal.{Reading, kept}
+use Rattle.faulty_source.specs.Journal.{Reading}
 use Rattle.crash_site.specs.Files.{File}
 use Rattle.crash_site.specs.Calls.{Call, Entry, Done}
-use Rattle.save_resume.specs.Saving.{save_calls}
-use Rattle.rescue_rules.specs.Setting.{Setting, IsSensible, place}
+use Rattle.mapfile_save.specs.Saving.{save_calls}
+use Rattle.rescue_rules.specs.Setting.{Setting, IsSensible}
 use Rattle.rescue_rules.specs.Start.{Stands}
 use Rattle.rescue_rules.specs.Machine.{Machine}
 use Rattle.rescue_rules.specs.MachineLaws.{IsInOrder}
 use Rattle.rescue_rules.specs.Step.{Event}
 use Rattle.rescue_rules.specs.Moves.{move_of, state_after, IsRun}
 use Rattle.rescue_rules.specs.Events.{began_at, reads_of}
-use Rattle.rescue_rules.specs.RunCalls.{write_calls, due_calls, run_calls, end_calls}
+use Rattle.rescue_rules.specs.RunCalls.{due_calls, run_calls, end_calls}
 use Rattle.rescue_rules.specs.Snapshots.{Snapshot, text_of, snapshot_of, is_due, last_snapshot, snapshots}
 use Rattle.rescue_rules.specs.Stops.{files_before, is_settle, LeftBy}
 use Rattle.rescue_rules.specs.StopsBy.{IsSave, saves_of}
@@ -37,7 +37,7 @@ use Rattle.saved_laws.specs.Failed.{MarksTried, FailedOf}
 use Rattle.saved_laws.specs.Laws.{TriedAtEnd}
 use Rattle.saved_laws.proofs.EndedLemmas.{EndedWork}
 use Rattle.saved_laws.proofs.EndFinished.{ended_of, ended_barrier}
-use Rattle.saved_laws.proofs.NothingLost.{write_unsettled}
+use Rattle.saved_laws.proofs.SavedWalk.{read_settles}
 use Rattle.saved_laws.proofs.TriedKept.{Tried, TriedIn, Vain, marks_tried, vain_tried, all_tried, head_failed}
 
 module _ (s : Setting) (ok : IsSensible s) (x : ℕ) where
@@ -47,19 +47,7 @@ module _ (s : Setting) (ok : IsSensible s) (x : ℕ) where
 
   dues_more : (m : Machine) (e : Event) (es : List Event)
       → dues m (e ∷ es) ≡ settled (map Done (due_calls s (move_of s m e))) + dues (move_of s m e).after es
-  dues_more m e es =
-      let write : List Call = write_calls s e.reading in
-      let due : List Call = due_calls s (move_of s m e) in
-      let later : List Call = run_calls s (move_of s m e).after es in
-      omega (
-        arith,
-        ap settled (map-append Done (write ++ due) later),
-        count_both is_settle (map Done (write ++ due)) (map Done later),
-        ap settled (map-append Done write due),
-        count_both is_settle (map Done write) (map Done due),
-        write_unsettled s ok x (nat_eq (kept s.sector e.reading) 0) (place s e.reading.pos)
-            (take (kept s.sector e.reading) e.reading.given),
-      )
+  dues_more m e es = read_settles s e.reading (due_calls s (move_of s m e)) (run_calls s (move_of s m e).after es)
 
   -- a save with at least this number is the last one
   abbrev Ends : Machine → List Event → Type 0
@@ -89,7 +77,7 @@ module _ (s : Setting) (ok : IsSensible s) (x : ℕ) where
       ⊎_elim
       (λ (v : Vain s ok x e.reading).
       one_of (TriedIn s ok x) (snapshots s m (e ∷ es)) i p
-      (all_tried s ok x m e es last order run (vain_tried s ok x m e es order run v)) at)
+      (all_tried s ok x m e es order run (vain_tried s ok x m e es order run v)) at)
       (λ (f' : FailedOf s.sector (reads_of es) x).
       last_by m e es
       (λ j q g there less. last_tried (move_of s m e).after es last (run_steps s ok m e es order run).order

@@ -1,3 +1,4 @@
+mod SavedWalk
 mod NothingLost
 mod SavedLemmas
 mod EndedLemmas

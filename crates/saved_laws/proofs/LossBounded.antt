@@ -1,4 +1,4 @@
--- A stop costs at most the reads of half a minute, and by due saves less.
+-- A stop costs at most the reads of 30 seconds, and by due saves less.
 use Rattle.std.proofs.Common.{◌≡◌, ⊎_elim, ℕ, suc, ◌+◌, ◌<◌, ◌≤◌, Bool, true, false, if◌then◌else◌, nat_le, List, [], ◌∷◌, ◌++◌, length, take, drop, map, All, Option, Some, IsTrue, refl, sym, ap, ◌∙◌, subst, arith, append_assoc}
 use Rattle.std.proofs.lemmas.Bool.{cases_Bool, le-leb}
 use Rattle.std.proofs.lemmas.List.{append_cancel_left}
@@ -146,7 +146,7 @@ loss_by_dues r reads k files times old between more later x seen tells readings 
     subst (λ (m : List ℕ). Keeps r.command.options.sector old (files m) x) (map_is r)
     (loss_by_dues_in (b r) (s r) (g r) (went r) k files old between more later x le' left' at fewer')
 
--- ---- by half a minute
+-- ---- by 30 seconds
 
 -- what is due by the first of some events
 due_first : (due : Bool) (last : ℕ) (e : Event) (es : List Event) → nat_le (last + save_interval) e.after ≡ due

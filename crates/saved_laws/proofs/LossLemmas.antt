@@ -18,13 +18,13 @@ use Rattle.rescue_rules.specs.Deeds.{deed_calls, save_of}
 use Rattle.rescue_rules.specs.RunDeeds.{run_deeds}
 use Rattle.rescue_rules.specs.RunCalls.{write_calls}
 use Rattle.rescue_rules.specs.Snapshots.{Snapshot, text_of, snapshot_of, is_due}
-use Rattle.rescue_rules.specs.Stops.{is_settle, is_write}
+use Rattle.rescue_rules.specs.Stops.{is_write}
 use Rattle.rescue_rules.proofs.CutLemmas.{Cut, IsOf, add}
 use Rattle.rescue_rules.proofs.DeedStages.{last_calls, all_calls}
 use Rattle.rescue_rules.proofs.MoveLemmas.{run_first, run_rest}
 use Rattle.rescue_safety.specs.Safe.{reads_until}
-use Rattle.rescue_safety.proofs.BegunLemmas.{writes_in, Past, cut_split, count_both, count_step, is_kept, write_counted, save_unwritten}
-use Rattle.saved_laws.proofs.NothingLost.{save_dry, write_unsettled}
+use Rattle.rescue_safety.proofs.BegunLemmas.{writes_in, Past, cut_split, count_step, is_kept, write_counted, save_unwritten}
+use Rattle.saved_laws.proofs.SavedWalk.{read_settles, save_dry}
 use Rattle.rescue_safety.proofs.SettleLemmas.{settled, save_settled}
 use Rattle.rescue_safety.proofs.ThenLemmas.{IsDry}
 
@@ -157,19 +157,7 @@ module _ (s : Setting) (ok : IsSensible s) (on : s.has_mapfile ≡ true) (x : �
 
   pub settles_more : (m : Machine) (e : Event) (es : List Event)
       → due_settles m (e ∷ es) ≡ settled (map Done (save_after m e)) + due_settles (move_of s m e).after es
-  settles_more m e es =
-      let write : List Call = write_calls s e.reading in
-      let save : List Call = save_after m e in
-      let later : List Call = moved (move_of s m e).after es in
-      omega (
-        arith,
-        ap settled (map-append Done (write ++ save) later),
-        count_both is_settle (map Done (write ++ save)) (map Done later),
-        ap settled (map-append Done write save),
-        count_both is_settle (map Done write) (map Done save),
-        write_unsettled s ok x (nat_eq (kept s.sector e.reading) 0) (place s e.reading.pos)
-            (take (kept s.sector e.reading) e.reading.given),
-      )
+  settles_more m e es = read_settles s e.reading (save_after m e) (moved (move_of s m e).after es)
 
   pub save_settles : (due : Bool) (p : Snapshot) → due ≡ true
       → 1 ≤ settled (map Done (save_of s (if due then Some p else None)))

@@ -30,7 +30,7 @@ use Rattle.rescue_safety.proofs.SettleLemmas.{settled}
 use Rattle.rescue_safety.proofs.ThenLemmas.{load as loaded, front, all_dry, parts, past_writes}
 use Rattle.saved_laws.specs.GoesLaws.{GoesSafely}
 use Rattle.saved_laws.proofs.LossLemmas.{dry_cut, until_zero, moved, due_settles, Returned, moves_returned}
-use Rattle.saved_laws.proofs.NothingLost.{first_settled}
+use Rattle.saved_laws.proofs.SavedWalk.{first_settled}
 use Rattle.saved_laws.proofs.SavedLemmas.{unread_or_stands, synced}
 
 -- ---- events and reads
@@ -184,7 +184,7 @@ module _ (b : Before) (s : Setting) (g : Gain) (q : GoesSafely b s g) (k : ℕ) 
           ap settled passed.here,
           count_both is_settle (map Done head ++ gone) passed.rest,
           count_both is_settle (map Done head) gone,
-          first_settled s began was g made q.sensible order ran.run x,
+          first_settled s began was g made,
         )
 
   pub began_or : StandsAt (files_before b s.names.map) s.end

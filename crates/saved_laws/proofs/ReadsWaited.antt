@@ -10,7 +10,7 @@ use Rattle.crash_site.specs.declared.site.SiteCall.TheVariants.{MapRead}
 use Rattle.crash_site.specs.Files.{File}
 use Rattle.crash_site.specs.Calls.{Call, Entry, Done, Failed, image_write, image_sync}
 use Rattle.crash_site.specs.CallsMade.{BrokeAt}
-use Rattle.save_resume.specs.Saving.{save_calls}
+use Rattle.mapfile_save.specs.Saving.{save_calls}
 use Rattle.rescue_rules.specs.declared.stop.RunEnd.{RunEnd}
 use Rattle.rescue_rules.specs.Setting.{Setting, place}
 use Rattle.rescue_rules.specs.Machine.{Machine}
@@ -29,7 +29,7 @@ use Rattle.rescue_safety.proofs.SafeLemmas.{s, g, b, goes, calls_are, seen_alone
 use Rattle.rescue_safety.proofs.ThenLemmas.{IsDry, dry_count}
 use Rattle.saved_laws.specs.Laws.{ReadsWait}
 use Rattle.saved_laws.proofs.LossLemmas.{failed_alike}
-use Rattle.saved_laws.proofs.NothingLost.{save_dry}
+use Rattle.saved_laws.proofs.SavedWalk.{save_dry}
 
 -- ---- reads of which something is kept
 

@@ -1,6 +1,6 @@
 -- What was asked for in vain before a save that returned is tried in each map that may be found from then on.
-use Rattle.std.proofs.Common.{◌≡◌, ◌≢◌, ◌⊎◌, inl, inr, ⊎_elim, ℕ, zero, suc, ◌+◌, ◌-◌, ◌<◌, ◌≤◌, Bool, true, false, not, if◌then◌else◌, nat_eq, nat_le, nat_lt, List, [], ◌∷◌, ◌++◌, length, take, map, All, Option, Some, None, refl, sym, ap, ◌∙◌, subst, arith, append_assoc}
-use Rattle.std.specs.List.{flat_map, slice_get}
+use Rattle.std.proofs.Common.{◌≡◌, ◌≢◌, ◌⊎◌, inl, inr, ⊎_elim, ℕ, zero, suc, ◌+◌, ◌-◌, ◌<◌, ◌≤◌, Bool, true, false, not, if◌then◌else◌, nat_eq, nat_le, nat_lt, List, [], ◌∷◌, ◌++◌, length, take, map, All, Option, Some, refl, sym, ap, ◌∙◌, subst, arith}
+use Rattle.std.specs.List.{slice_get}
 use Rattle.std.proofs.lemmas.Bool.{cases_lt, cond_both, le-leb, lt-ltb, and_from, true≢false}
 use Rattle.std.proofs.lemmas.Option.{none-some, same_Some, slice_get_within}
 use Rattle.std.proofs.lemmas.List.Elements.{All-nil, All-cons, All-append}
@@ -10,29 +10,23 @@ use Rattle.block_list.specs.Map.{Has}
 use Rattle.mapfile_text.specs.declared.state.MapState.{MapState}
 use Rattle.faulty_source.specs.Journal.{Reading, is_failed, kept, covers}
 use Rattle.crash_site.specs.Files.{File}
-use Rattle.crash_site.specs.Calls.{Call, image_sync, map_settle, Entry, Done}
-use Rattle.save_resume.specs.Saving.{save_calls}
-use Rattle.rescue_rules.specs.Setting.{Setting, IsSensible, place}
+use Rattle.crash_site.specs.Calls.{image_sync, map_settle, Entry, Done}
+use Rattle.rescue_rules.specs.Setting.{Setting, IsSensible}
 use Rattle.rescue_rules.specs.Machine.{Machine}
 use Rattle.rescue_rules.specs.MachineLaws.{AsksFor, IsInOrder, StepsBy}
 use Rattle.rescue_rules.specs.Step.{Event, is_copying, rest_status}
-use Rattle.rescue_rules.specs.Moves.{ready, move_of, has_ended, state_after, IsMove, IsRun}
+use Rattle.rescue_rules.specs.Moves.{ready, move_of, has_ended, IsMove, IsRun}
 use Rattle.rescue_rules.specs.Events.{began_at, reads_of}
-use Rattle.rescue_rules.specs.Deeds.{deed_calls, save_of}
-use Rattle.rescue_rules.specs.RunDeeds.{run_deeds}
-use Rattle.rescue_rules.specs.RunCalls.{write_calls}
-use Rattle.rescue_rules.specs.Snapshots.{Snapshot, text_of, snapshot_of, finished_snapshot, is_due, last_snapshot, snapshots}
+use Rattle.rescue_rules.specs.Snapshots.{Snapshot, snapshot_of, finished_snapshot, is_due, last_snapshot, snapshots}
 use Rattle.rescue_rules.specs.Start.{Stands}
-use Rattle.rescue_rules.specs.Stops.{files_before, has_barrier, is_settle, LeftBy}
+use Rattle.rescue_rules.specs.Stops.{files_before, has_barrier, LeftBy}
 use Rattle.rescue_rules.specs.StopsBy.{IsSave, saves_of}
 use Rattle.rescue_rules.specs.Work.{begins, events_in}
-use Rattle.rescue_rules.proofs.CutLemmas.{Cut, add, cut_all}
-use Rattle.rescue_rules.proofs.DeedStages.{last_calls, all_calls}
+use Rattle.rescue_rules.proofs.CutLemmas.{add}
 use Rattle.rescue_rules.proofs.FinishLemmas.{run_steps}
 use Rattle.rescue_rules.proofs.MoveLemmas.{run_first, run_rest}
 use Rattle.rescue_rules.proofs.MoveStages.{due_first}
 use Rattle.rescue_rules.proofs.ReadyLemmas.{order_ready, order_over, stays_ready}
-use Rattle.rescue_rules.proofs.SnapshotLemmas.{one_of}
 use Rattle.rescue_rules.proofs.StatusLemmas.{rest_is, non_tried_stood}
 use Rattle.rescue_rules.proofs.StepLemmas.{Taking, read_takes, rest_marked}
 use Rattle.rescue_safety.specs.Safe.{reads_until, by_then}
@@ -40,16 +34,15 @@ use Rattle.saved_laws.specs.Failed.{MarksTried, FailedOf, FailedAt}
 use Rattle.rescue_safety.specs.Rescue.{Rescue, run_of}
 use Rattle.rescue_safety.specs.AskedFor.{AreSeen}
 use Rattle.saved_laws.specs.Laws.{FailedIsKept}
-use Rattle.rescue_safety.proofs.BegunLemmas.{writes_in, Past, cut_split, count_both, count_step, write_counted, save_unwritten}
+use Rattle.rescue_safety.proofs.BegunLemmas.{writes_in}
 use Rattle.rescue_safety.proofs.ClaimLemmas.{Ran, goes_ran}
 use Rattle.saved_laws.proofs.FailedLemmas.{calls_by}
 use Rattle.rescue_safety.proofs.FinishedLemmas.{StandsAt, At}
-use Rattle.saved_laws.proofs.NothingLost.{Within, Beyond, split_point, dry_front, save_dry, no_sync, write_unsettled, first_settled, front_writes}
+use Rattle.saved_laws.proofs.SavedWalk.{number_told}
 use Rattle.rescue_safety.proofs.SafeLemmas.{s, g, b, on, ok, goes, over, calls_are, map_is, seen_alone}
-use Rattle.rescue_safety.proofs.SaveLemmas.{Made, calls_of_run, goes_made}
+use Rattle.rescue_safety.proofs.SaveLemmas.{Made, goes_made}
 use Rattle.saved_laws.proofs.SavedLemmas.{then_writes, synced, unread_or_stands}
-use Rattle.rescue_safety.proofs.SettleLemmas.{settled, save_settled}
-use Rattle.rescue_safety.proofs.ThenLemmas.{IsDry, front, run_calls, all_dry, parts}
+use Rattle.rescue_safety.proofs.SettleLemmas.{settled}
 
 -- a position of a map was tried
 pub record Tried (map : List Status) (x : ℕ) : Type 0 where
@@ -149,9 +142,6 @@ module _ (s : Setting) (ok : IsSensible s) (x : ℕ) where
   never [] f = none-some f.read f.is
   never (r ∷ rs) f = none-some f.read f.is
 
-  none_failed : (n : ℕ) (rs : List Reading) → n ≡ 0 → FailedBy n rs → ⊥
-  none_failed n rs none f = never rs (subst (λ (k : ℕ). FailedBy k rs) none f)
-
   head_at : (r : Reading) (rs : List Reading) (number : ℕ) (read : Reading) → slice_get (r ∷ rs) number ≡ Some read
       → AsksFor read x → is_failed read ≡ true → covers s.sector read x ≡ false → Vain r ⊎ FailedOf s.sector rs x
   head_at r rs zero read is asks failed lost =
@@ -172,123 +162,26 @@ module _ (s : Setting) (ok : IsSensible s) (x : ℕ) where
       head_failed r (reads_until s.sector w rs)
       (subst (λ (c : Bool). FailedOf s.sector (r ∷ reads_until s.sector (if c then suc w else w) rs) x) is f)
 
-  module _ (m : Machine) (e : Event) (es : List Event) (last : Snapshot) (order : IsInOrder s m) (run : IsRun s m (e ∷ es))
-    where
-      abbrev n : Machine
-      n = (move_of s m e).after
+  module _ (m : Machine) (e : Event) (es : List Event) (order : IsInOrder s m) (run : IsRun s m (e ∷ es)) where
+    abbrev n : Machine
+    n = (move_of s m e).after
 
-      abbrev r : Reading
-      r = e.reading
+    pub all_tried : Tried n.map x → All TriedIn (snapshots s m (e ∷ es))
+    all_tried h =
+        subst (λ (l : List Snapshot). All TriedIn l) (sym (due_first s m e es (is_due s (move_of s m e)) refl))
+        (All-append TriedIn (if is_due s (move_of s m e) then snapshot_of n ∷ [] else []) (snapshots s n es)
+        (if_tried (is_due s (move_of s m e)) (snapshot_of n) h)
+        (saves_tried n es (run_steps s ok m e es order run).order (run_rest s m e es run) h))
 
-      abbrev rs : List Reading
-      rs = reads_of es
+    failed_by : (w : ℕ) → FailedBy (add (not (nat_eq (kept s.sector e.reading) 0)) w) (e.reading ∷ reads_of es)
+        → All TriedIn (snapshots s m (e ∷ es)) ⊎ FailedBy w (reads_of es)
+    failed_by w f =
+        ⊎_elim (λ (v : Vain e.reading). inl (all_tried (vain_tried m e es order run v)))
+        (λ (f' : FailedBy w (reads_of es)). inr f')
+        (split_by (nat_eq (kept s.sector e.reading) 0) w e.reading (reads_of es) refl f)
 
-      abbrev later : List Call
-      later = all_calls s (run_deeds s n es) last
-
-      abbrev Later : Type 0
-      Later = (part before more : List Entry) (i : ℕ) (p : Snapshot) → Cut later part
-          → part ≡ before ++ Done image_sync ∷ more → slice_get (snapshots s n es) i ≡ Some p → settled before ≤ i
-          → FailedBy (writes_in before) rs → TriedIn p
-
-      steps : StepsBy s (ready s m) e
-      steps = run_steps s ok m e es order run
-
-      pub all_tried : Tried n.map x → All TriedIn (snapshots s m (e ∷ es))
-      all_tried h =
-          subst (λ (l : List Snapshot). All TriedIn l) (sym (due_first s m e es (is_due s (move_of s m e)) refl))
-          (All-append TriedIn (if is_due s (move_of s m e) then snapshot_of n ∷ [] else []) (snapshots s n es)
-          (if_tried (is_due s (move_of s m e)) (snapshot_of n) h)
-          (saves_tried n es steps.order (run_rest s m e es run) h))
-
-      -- past a save
-      past_save : Later → (i : ℕ) (p : Snapshot) (part before more : List Entry) → Cut later part
-          → part ≡ before ++ Done image_sync ∷ more → slice_get (snapshot_of n ∷ snapshots s n es) i ≡ Some p
-          → 1 + settled before ≤ i → FailedBy (writes_in before) rs → TriedIn p
-      past_save ih zero p part before more cut is at few f = absurd (let no : ⊥ = omega (arith, few) in no)
-      past_save ih (suc i) p part before more cut is at few f = ih part before more i p cut is at (omega (arith, few)) f
-
-      -- a later read failed
-      after_write : Later → (due : Bool) (part before more : List Entry) (i : ℕ) (p : Snapshot)
-          → Cut (save_of s (if due then Some (snapshot_of n) else None) ++ later) part
-          → part ≡ before ++ Done image_sync ∷ more
-          → slice_get ((if due then snapshot_of n ∷ [] else []) ++ snapshots s n es) i ≡ Some p → settled before ≤ i
-          → FailedBy (writes_in before) rs → TriedIn p
-      after_write ih false part before more i p cut is at few f = ih part before more i p cut is at few f
-      after_write ih true part before more i p cut is at few f =
-          let text : List ℕ = text_of s.line (snapshot_of n) in
-          let save : List Call = save_calls s.names text in
-          let dry : All IsDry save = save_dry s.names text in
-          ⊎_elim
-          (λ (c : Cut save part).
-          absurd (none_failed (writes_in before) rs
-          (dry_front save before image_sync more dry (subst (λ (l : List Entry). Cut save l) is c)) f))
-          (λ (c : Past save later part).
-          ⊎_elim
-          (λ (w : Within (map Done save) before (Done image_sync)).
-          absurd (none_failed (writes_in before) rs
-          (dry_front save before image_sync w.rest dry (subst (λ (l : List Entry). Cut save l) w.is (cut_all save))) f))
-          (λ (w : Beyond (map Done save) c.rest before (Done image_sync) more).
-          past_save ih i p c.rest w.front more c.cut w.is at
-          (omega (
-            arith,
-            few,
-            ap settled w.before ∙ count_both is_settle (map Done save) w.front,
-            save_settled s.names text,
-          ))
-          (subst (λ (k : ℕ). FailedBy k rs) (ap writes_in w.before ∙ save_unwritten s ok x s.names text w.front) f))
-          (split_point (map Done save) c.rest before (Done image_sync) more (sym c.is ∙ is)))
-          (cut_split save later part cut)
-
-      saved_more : Later → (part before more : List Entry) (i : ℕ) (p : Snapshot)
-          → Cut (all_calls s (run_deeds s m (e ∷ es)) last) part → part ≡ before ++ Done image_sync ∷ more
-          → slice_get (snapshots s m (e ∷ es)) i ≡ Some p → settled before ≤ i
-          → FailedBy (writes_in before) (r ∷ rs) → TriedIn p
-      saved_more ih part before more i p cut is at few f =
-          let write : List Call = write_calls s r in
-          let due : Bool = is_due s (move_of s m e) in
-          let save : List Call = save_of s (if due then Some (snapshot_of n) else None) in
-          let deeds : List Call = flat_map (deed_calls s) (run_deeds s n es) in
-          let here : Cut (write ++ (save ++ later)) part
-          = subst (λ (l : List Call). Cut l part)
-          (append_assoc (write ++ save) deeds (last_calls s last) ∙ append_assoc write save later) cut in
-          let none : Bool = nat_eq (kept s.sector r) 0 in
-          let piece : List ℕ = take (kept s.sector r) r.given in
-          ⊎_elim
-          (λ (c : Cut write part).
-          absurd (no_sync none (place s r.pos) piece before more (subst (λ (l : List Entry). Cut write l) is c)))
-          (λ (c : Past write (save ++ later) part).
-          ⊎_elim
-          (λ (w : Within (map Done write) before (Done image_sync)).
-          absurd (no_sync none (place s r.pos) piece before w.rest (subst (λ (l : List Entry). Cut write l) w.is (cut_all write))))
-          (λ (w : Beyond (map Done write) c.rest before (Done image_sync) more).
-          let count : writes_in before ≡ add (not none) (writes_in w.front)
-          = ap writes_in w.before ∙ write_counted s ok x none (place s r.pos) piece w.front in
-          ⊎_elim
-          (λ (v : Vain r). one_of TriedIn (snapshots s m (e ∷ es)) i p (all_tried (vain_tried m e es order run v)) at)
-          (λ (f' : FailedBy (writes_in w.front) rs).
-          after_write ih due c.rest w.front more i p c.cut w.is
-          (subst (λ (l : List Snapshot). slice_get l i ≡ Some p) (due_first s m e es due refl) at)
-          (omega (
-            arith,
-            few,
-            ap settled w.before ∙ count_both is_settle (map Done write) w.front,
-            write_unsettled s ok x none (place s r.pos) piece,
-          )) f')
-          (split_by none (writes_in w.front) r rs refl (subst (λ (k : ℕ). FailedBy k (r ∷ rs)) count f)))
-          (split_point (map Done write) c.rest before (Done image_sync) more (sym c.is ∙ is)))
-          (cut_split write (save ++ later) part here)
-
-  pub saved_tried : (m : Machine) (es : List Event) (last : Snapshot) (part before more : List Entry) (i : ℕ) (p : Snapshot)
-      → IsInOrder s m → IsRun s m es → Cut (all_calls s (run_deeds s m es) last) part
-      → part ≡ before ++ Done image_sync ∷ more → slice_get (snapshots s m es) i ≡ Some p → settled before ≤ i
-      → FailedOf s.sector (reads_until s.sector (writes_in before) (reads_of es)) x → Tried p.map x
-  saved_tried m [] last part before more i p order run cut is at few f = absurd (none-some f.read f.is)
-  saved_tried m (e ∷ es) last part before more i p order run cut is at few f =
-      saved_more m e es last order run
-      (λ rest front tail j q c same there low g. saved_tried (move_of s m e).after es last rest front tail j q
-      (run_steps s ok m e es order run).order (run_rest s m e es run) c same there low g)
-      part before more i p cut is at few f
+  unread : (w : ℕ) → FailedBy w [] → ⊥
+  unread w f = none-some f.read f.is
 
 -- ---- a rescue
 
@@ -307,58 +200,19 @@ module _ (r : Rescue) (k : ℕ) (files : List ℕ → Option File) (before savin
     abbrev m : Machine
     m = begins (s r) began was (g r)
 
-    abbrev first : List Call
-    first = front (s r) began was (g r) made
-
     order : IsInOrder (s r) m
     order = order_over (s r) began was (began_at (g r).times)
 
     failed : FailedOf (s r).sector (reads_until (s r).sector (writes_in before) (reads_of (events_in (g r)))) x
     failed = subst (λ (rs : List Reading). FailedOf (s r).sector (reads_until (s r).sector (writes_in before) rs) x) (sym ran.reads) f
 
-    past : (number : ℕ) (old found : Option File) (statuses : List Status) (part front_part : List Entry)
-        → IsSave old began (s r).line (saves_of (s r) began was (g r)) number found statuses
-        → Cut (calls_of_run (s r) began was (g r)) part → part ≡ front_part ++ Done image_sync ∷ more
-        → 1 + settled front_part ≤ number → writes_in before ≡ writes_in front_part → Tried statuses x
-    past zero old found statuses part front_part save cut same few count =
-        absurd (let no : ⊥ = omega (arith, few) in no)
-    past (suc i) old found statuses part front_part save cut same few count =
-        subst (λ (l : List Status). Tried l x) (sym save.2)
-        (saved_tried (s r) (ok r) x m (events_in (g r)) (last_snapshot (s r) (state_after (s r) m (events_in (g r)))) part front_part
-        more i save.0 order ran.run cut same save.1 (omega (arith, few))
-        (subst (λ (w : ℕ). FailedOf (s r).sector (reads_until (s r).sector w (reads_of (events_in (g r)))) x) count failed))
-
     number_tried : (number : ℕ) (old found : Option File) (statuses : List Status)
         → settled (take k (g r).calls) ≤ 1 + number
         → IsSave old began (s r).line (saves_of (s r) began was (g r)) number found statuses → Tried statuses x
     number_tried number old found statuses few save =
-        let part : List Entry = take k (g r).calls in
-        ⊎_elim
-        (λ (c : Cut first part).
-        absurd (none_failed (s r) (ok r) x (writes_in before) (reads_of (events_in (g r)))
-        (dry_front first before image_sync more (all_dry (s r) began was (g r) made) (subst (λ (l : List Entry). Cut first l) is c))
-        failed))
-        (λ (c : Past first (run_calls (s r) began was (g r) made) part).
-        ⊎_elim
-        (λ (w : Within (map Done first) before (Done image_sync)).
-        absurd (none_failed (s r) (ok r) x (writes_in before) (reads_of (events_in (g r)))
-        (dry_front first before image_sync w.rest (all_dry (s r) began was (g r) made)
-        (subst (λ (l : List Entry). Cut first l) w.is (cut_all first))) failed))
-        (λ (w : Beyond (map Done first) c.rest before (Done image_sync) more).
-        past number old found statuses c.rest w.front save c.cut w.is
-        (omega (
-          arith,
-          few,
-          first_settled (s r) began was (g r) made (ok r) order ran.run x,
-          ap settled is ∙ count_both is_settle before (Done image_sync ∷ more),
-          count_step is_settle (Done image_sync) more,
-          count_both is_settle saving (Done (map_settle name) ∷ after),
-          count_step is_settle (Done (map_settle name)) after,
-          ap settled w.before ∙ count_both is_settle (map Done first) w.front,
-        ))
-        (front_writes (s r) began was (g r) made (ok r) order ran.run x w.front before w.before))
-        (split_point (map Done first) c.rest before (Done image_sync) more (sym c.is ∙ is)))
-        (parts (s r) began was (g r) made k)
+        number_told (s r) (ok r) (FailedBy (s r) (ok r) x) (λ map. Tried map x) (never (s r) (ok r) x) (unread (s r) (ok r) x)
+        (failed_by (s r) (ok r) x) began was (g r) made order ran.run k number old found statuses before saving after name is
+        few save failed
 
   found_tried : StandsAt (files_before (b r) (s r).names.map) (s r).end → TriedNow
   found_tried (At began was there) =

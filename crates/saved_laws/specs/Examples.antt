@@ -6,8 +6,8 @@ use Rattle.block_list.specs.Map.{Has}
 use Rattle.crash_site.specs.declared.site.MapRead.TheVariants.{Absent}
 use Rattle.crash_site.specs.Files.{File}
 use Rattle.crash_site.specs.Calls.{Call, Entry, Done, image_write, image_sync, map_settle}
-use Rattle.save_resume.specs.Loading.{load_reads}
-use Rattle.save_resume.specs.MapNames.{names_of}
+use Rattle.mapfile_save.specs.Loading.{load_reads}
+use Rattle.mapfile_save.specs.MapNames.{names_of}
 use Rattle.rescue_rules.specs.Setting.{Setting}
 use Rattle.rescue_rules.specs.Machine.{Machine}
 use Rattle.rescue_rules.specs.Beginning.{machine_over}
@@ -25,7 +25,7 @@ use Rattle.rescue_safety.specs.Runs.{resting}
 use Rattle.saved_laws.specs.Failed.{Marks}
 use Rattle.saved_laws.specs.GoesLaws.{GoesSafely, AreOld}
 
--- an input of ten bytes by sectors of two
+-- an input of ten bytes in sectors of two
 abbrev pub five : Setting
 five = record (small 10 2 0) { names = names_of (109 ∷ []) }
 
@@ -101,7 +101,7 @@ pub record StopFindsWhatIsOld : Type 0 where
   pub goes : Goes five (λ name. None) five_gain
   -- All reads count: the old ones, the late one, and two later.
   pub begun : events_of (by_then five_run third).reads five_gain.times ≡ old_reads ++ ([] ++ late_read ∷ last_reads)
-  -- The late one ended half a minute or more after the start and after each old one.
+  -- The late one ended 30 seconds or more after the start and after each old one.
   pub late : All (λ t. t + save_interval ≤ late_read.after) (began_at five_gain.times ∷ map (λ e. e.after) old_reads)
   -- A save has returned, which began after two writes. So a read that failed before the second of them counts, and one
   -- after it doesn't.

@@ -20,7 +20,7 @@ pub record GoesSafely (b : Before) (s : Setting) (g : Gain) : Type 0 where
   pub stops : RescueStopsBy b s g
 
 -- When the first k calls have ended and the next is in progress, a late read after the old ones has begun to be
--- written, and a later one. By the clock's readings, which may go back, the late read ended half a minute or more after
+-- written, and a later one. By the clock's readings, which may go back, the late read ended 30 seconds or more after
 -- the run's first one, and after the end of each old one.
 pub record AreOld (s : Setting) (g : Gain) (k : ℕ) (old : List Event) : Type 0 where
   pub between : List Event

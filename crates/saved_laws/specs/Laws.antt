@@ -58,8 +58,8 @@ TriedAtEnd = (r : Rescue) (reads : List Reading) (files : List ℕ → Option Fi
     → FailedAt (run_of r reads) x → MarksTried (files r.mapfile) x
 
 -- Once a late read has ended and a later one has begun to be written, every stop finds finished what the old reads
--- gave, and tried what they asked for in vain. By the clock's readings, which may go back, the late read ended half a
--- minute or more after the run's first one, and after the end of each old one.
+-- gave, and tried what they asked for in vain. By the clock's readings, which may go back, the late read ended 30
+-- seconds or more after the run's first one, and after the end of each old one.
 abbrev pub LossIsBounded : Type 0
 LossIsBounded = (r : Rescue) (reads : List Reading) (k : ℕ) (files : List ℕ → Option File) (times : List ℕ)
     (old between more : List Event) (late later : Event) (x : ℕ) → AreSeen r reads → IsTrue r.did.call.told.after.clock.tells
@@ -180,7 +180,7 @@ DueSavesHaveReturned = (r : Rescue) (reads : List Reading) (k : ℕ) (times : Li
     → dues_by (began_at times) first ≤ returned (take k r.did.call.calls)
 
 -- Once a save came due after the old reads and a later read has begun to be written, every stop finds finished what the
--- old ones gave, and tried what they asked for in vain. The half minute of `LossIsBounded` is one case of it.
+-- old ones gave, and tried what they asked for in vain. The 30 seconds of `LossIsBounded` are one case of it.
 abbrev pub LossIsBoundedByDues : Type 0
 LossIsBoundedByDues = (r : Rescue) (reads : List Reading) (k : ℕ) (files : List ℕ → Option File) (times : List ℕ)
     (old between more : List Event) (later : Event) (x : ℕ)
