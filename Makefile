@@ -1,10 +1,11 @@
 # SPDX-License-Identifier: Apache-2.0
 # The usual ways into the repository. `make` proves and builds the programs, and `make bin/ddrescue` one of them, with a
 # proof on each processor (`make -j2` takes two). An interrupted build resumes where it was. `make scenes` builds the
-# player of scenes, and `make check` runs the gate. `make install` puts the programs that are in bin/, their manual pages,
-# completions of bash and zsh, and the documents for users in place, and `make uninstall` takes them away. Neither proves
-# or builds anything. `make dist` and `make deb` pack what `make install` installs, as a tarball and as a package for
-# Debian, and prove and build it first. With `BUILT=FOLDER` all take the programs from that folder as they are.
+# player of scenes, and `make check` runs the gate. `make install` puts the programs that are in bin/ (or, if that has
+# none, where the gate left them), their manual pages, completions of bash and zsh, and the documents for users in
+# place, and `make uninstall` takes them away. Neither proves or builds anything. `make dist` and `make deb` pack what
+# `make install` installs, as a tarball and as a package for Debian, and prove and build it first. With `BUILT=FOLDER`
+# all take the programs from that folder as they are.
 PREFIX ?= /usr/local
 PROGRAMS := ddrescue ddrescuelog ddrescuepart ddrescueverify ddrescueplan ddrescueshow
 # A script, which is installed as it is.
