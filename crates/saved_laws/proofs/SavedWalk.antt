@@ -157,8 +157,8 @@ read_settles s r save later =
       write_unsettled (nat_eq (kept s.sector r) 0) (place s r.pos) (take (kept s.sector r) r.given),
     )
 
--- What is told of so many written reads comes of no read alone. A read that it comes of leaves each later map so, and
--- else it is told of those after it.
+-- `Told w reads` says that something comes of one of these reads, w of which are written. It comes of none if w is 0 or
+-- no read is left. If it comes of the first read, each later map is marked so. If not, it comes of a read after that.
 module _ (s : Setting) (ok : IsSensible s) (Told : ℕ → List Reading → Type 0) (Marks : List Status → Type 0)
     (never : (rs : List Reading) → Told 0 rs → ⊥) (unread : (w : ℕ) → Told w [] → ⊥)
     (comes : (m : Machine) (e : Event) (es : List Event) → IsInOrder s m → IsRun s m (e ∷ es) → (w : ℕ)
