@@ -9,18 +9,14 @@ use Rattle.block_list.specs.declared.status.Status.TheVariants.{NonTried, NonTri
 use Rattle.block_list.specs.declared.block.Block.{Block}
 use Rattle.block_list.specs.Status.{symbol, same}
 use Rattle.block_list.specs.Stretches.{covered, joined, stretches_from, stretches, IsStretch, AreStretches}
-use Rattle.block_list.specs.declared.plain_tiles.PlainTiles.TheInside.{Inside}
-use Rattle.block_list.specs.Tiling.{AreTiles, IsTiling}
+use Rattle.block_list.specs.Tiling.{AreTiles}
 use Rattle.block_list.proofs.Places.{slice_get-append_left, slice_get-append_right, slice_get-replicate}
 use Rattle.block_list.proofs.TileLemmas.{covered-append, length_first, tiles_split}
 use Rattle.block_list.proofs.ApartLemmas.{IsOther, AreApart, apart_from_merged, apart_left, apart_right}
 
 pub same_self : (s : Status) → same s s ≡ true
 same_self NonTried = refl
-same_self NonTrimmed = refl
-same_self NonScraped = refl
-same_self BadSector = refl
-same_self Finished = refl
+same_self _ = refl
 
 status_with : ℕ → Status
 status_with n =
@@ -29,10 +25,7 @@ status_with n =
 status_with-symbol : (s : Status) → status_with (symbol s) ≡ s
 unfolding status_with
 status_with-symbol NonTried = refl
-status_with-symbol NonTrimmed = refl
-status_with-symbol NonScraped = refl
-status_with-symbol BadSector = refl
-status_with-symbol Finished = refl
+status_with-symbol _ = refl
 
 pub equal_from_same : (s t : Status) → same s t ≡ true → s ≡ t
 equal_from_same s t h =
@@ -71,10 +64,6 @@ stretches_of_tiles low [] end t a = refl
 stretches_of_tiles low (b ∷ bs) end t a =
     let B : ℕ → List Block = λ p. record { pos = p; size = b.size; status = b.status } ∷ bs in
     first_stretch low b.size b.status (flat_map covered bs) bs a.0 t.1 (stretches_of_tiles (low + b.size) bs end t.2 a.1) ∙ ap B (sym t.0)
-
--- the same of a map that is kept as blocks
-pub stretches_of_tiling : (t : Inside) → IsTiling t → stretches (flat_map covered t.blocks.items) ≡ t.blocks.items
-stretches_of_tiling t h = stretches_of_tiles 0 t.blocks.items t.end h.tiled (apart_from_merged t.blocks.items h.merged)
 
 joined_tiles : (pos : ℕ) (s : Status) (bs : List Block) (end : ℕ) → AreTiles (pos + 1) bs end
     → AreTiles pos (joined pos s bs) end

@@ -6,8 +6,7 @@ use Rattle.std.proofs.lemmas.Bool.{cases_lt}
 use Rattle.std.proofs.lemmas.Grind.{flat_map-append}
 use Rattle.block_list.specs.declared.block.Block.{Block}
 use Rattle.block_list.specs.Stretches.{covered}
-use Rattle.block_list.specs.declared.plain_tiles.PlainTiles.TheInside.{Inside}
-use Rattle.block_list.specs.Tiling.{AreTiles, IsTiling}
+use Rattle.block_list.specs.Tiling.{AreTiles}
 use Rattle.block_list.specs.Edits.{IsTiled, start_of}
 
 pub covered-append : (xs ys : List Block) → flat_map covered (xs ++ ys) ≡ flat_map covered xs ++ flat_map covered ys
@@ -111,13 +110,6 @@ back_statuses bs i n h =
     let e : flat_map covered bs ≡ flat_map covered (take i bs) ++ flat_map covered (drop i bs) =
     ap (λ r. flat_map covered r) (sym (take-append-drop i bs)) ∙ covered-append (take i bs) (drop i bs) in
     sym (ap (λ z. drop n z) e ∙ drop_at (flat_map covered (take i bs)) (flat_map covered (drop i bs)) n h)
-
--- what the invariant of a map says of its blocks
-pub tiled_from_tiling : (t : Inside) → IsTiling t → IsTiled t.blocks.items
-tiled_from_tiling t h = tiled_from_tiles t.blocks.items t.end h.tiled h.short
-
-pub tiling_end : (t : Inside) → IsTiling t → t.end ≡ length (flat_map covered t.blocks.items)
-tiling_end t h = omega (arith, tiles_end 0 t.blocks.items t.end h.tiled)
 
 pub tiles_up_to : (bs : List Block) (end : ℕ) → IsTiled bs → length (flat_map covered bs) ≡ end → AreTiles 0 bs end
 tiles_up_to bs end t e = rw e at t.tiled

@@ -12,10 +12,7 @@ use Rattle.block_list.specs.Types.{is_types, has_symbol, has_type, AreTypes, Typ
 
 pub symbol_is_read : (s : Status) → status_of_symbol (symbol s) ≡ Some s
 symbol_is_read NonTried = refl
-symbol_is_read NonTrimmed = refl
-symbol_is_read NonScraped = refl
-symbol_is_read BadSector = refl
-symbol_is_read Finished = refl
+symbol_is_read _ = refl
 
 abbrev IsSymbol : ℕ → Type 0
 IsSymbol c = (s : Status) × (c ≡ symbol s)
@@ -70,10 +67,7 @@ set_of text = record {
 
 has_listed : (text : List ℕ) (s : Status) → has_type (set_of text) s ≡ has_symbol text s
 has_listed text NonTried = refl
-has_listed text NonTrimmed = refl
-has_listed text NonScraped = refl
-has_listed text BadSector = refl
-has_listed text Finished = refl
+has_listed text _ = refl
 
 pub types_are_characters : TypesAreCharacters
 types_are_characters text =

@@ -3,9 +3,7 @@ pub mod Types
 pub mod Areas
 pub mod Map
 pub mod Stretches
-pub mod Row
 pub mod Tiled
 pub mod Tiling
 pub mod Edits
 pub mod Places
-pub mod Push

@@ -8,8 +8,8 @@ use Rattle.block_list.specs.declared.block.Block.{Block}
 use Rattle.block_list.specs.Status.{same}
 use Rattle.block_list.specs.Stretches.{covered}
 use Rattle.block_list.proofs.TileLemmas.{covered-append}
-use Rattle.block_list.proofs.LookupLemmas.{counted, counted_yes, counted_no, counted_all}
-use Rattle.block_list.proofs.EditLemmas.{no_block}
+use Rattle.plain_blocks.proofs.LookupLemmas.{counted, counted_yes, counted_no, counted_all}
+use Rattle.plain_blocks.proofs.EditLemmas.{no_block}
 use Rattle.block_pages.specs.Search.{HasNoneOf}
 
 -- how many positions of some blocks have a status

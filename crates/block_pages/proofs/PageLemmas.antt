@@ -8,7 +8,7 @@ use Rattle.std.proofs.Math.ListN.{get_or-map}
 use Rattle.block_list.specs.declared.block.Block.{Block}
 use Rattle.block_list.specs.declared.status.Status.{Status}
 use Rattle.block_list.specs.Tiling.{AreTiles}
-use Rattle.block_list.proofs.EditLemmas.{no_block}
+use Rattle.plain_blocks.proofs.EditLemmas.{no_block}
 use Rattle.block_pages.specs.declared.page.Page.TheInside.{Inside}
 use Rattle.block_pages.specs.declared.page.KeptStatus.{KeptStatus}
 use Rattle.block_pages.specs.Rows.{first_or, rows, statuses_of, rows_of, IsPage, AreRow}

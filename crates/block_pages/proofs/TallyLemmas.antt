@@ -8,7 +8,7 @@ use Rattle.block_list.specs.declared.block.Block.{Block}
 use Rattle.block_list.specs.Status.{same}
 use Rattle.block_list.specs.Stretches.{covered}
 use Rattle.block_list.proofs.StretchLemmas.{same_self, equal_from_same}
-use Rattle.block_list.proofs.LookupLemmas.{counted_yes, counted_no, counted_end}
+use Rattle.plain_blocks.proofs.LookupLemmas.{counted_yes, counted_no, counted_end}
 use Rattle.block_list.proofs.Places.{slice_get-append_right}
 use Rattle.block_pages.specs.declared.status_counts.StatusCounts.{StatusCounts}
 use Rattle.block_pages.specs.Tally.{tallied}

@@ -3,8 +3,8 @@ ghost use Rattle.std.specs.Prelude.{◌≡◌, ◌+◌, ◌<◌, ◌≤◌, ◌^
 ghost use Rattle.block_list.specs.Stretches.{stretches};
 
 use crate::page::Page;
-use block_list::plain_tiles::PlainTiles;
 use block_list::tiles::Tiles;
+use plain_blocks::plain_tiles::PlainTiles;
 
 /// How many blocks the next page takes if some are left: as many as it holds, but the last two share what
 /// is left for them evenly.

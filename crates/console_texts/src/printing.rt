@@ -6,8 +6,8 @@ ghost use Rattle.mapfile_text.specs.Printed.{printed};
 
 use arrayvec::ArrayVec;
 use block_list::tiles::Tiles;
-use mapfile_printer::printer::MapPrinter;
 use mapfile_text::heading::Heading;
+use mapfile_text::printer::MapPrinter;
 use mapfile_text::state::MapState;
 use rescue_console::console::{Channel, Console, ConsoleFault};
 

@@ -9,7 +9,7 @@ use crate::expected_reads::ExpectedReads;
 use crate::opening::{Input, open_to_read};
 use fault_count::FaultCount;
 use faulty_source::source::{Got, Source, SourceFault, SourceLost};
-use kernel_devices::identity::{Identity, OpenInput};
+use file_identity::identity::{Identity, OpenInput};
 use real_files::direct::DirectFile;
 use real_files::file_cursor::{FileCursor, Filled, fill};
 use real_files::launcher::Launcher;

@@ -1,9 +1,9 @@
 //! How an input that is a real file or device is opened.
 ghost use Rattle.std.specs.Prelude.{◌<◌, ◌^◌, IfOk};
 
+use file_identity::identity::Identity;
 use kernel_devices::descriptor::{is_direct, open_again};
 use kernel_devices::devices::is_gone;
-use kernel_devices::identity::Identity;
 use kernel_devices::release::caches_by_page;
 use kernel_devices::sectors::{is_optical, logical_sector, physical_sector};
 use real_files::direct::DirectFile;

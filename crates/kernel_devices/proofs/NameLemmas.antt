@@ -46,10 +46,8 @@ decided a b false is = inr is
 
 -- What isn't a backslash stands for itself.
 no_mark : (byte : ℕ) (rest : List ℕ) → nat_eq byte 92 ≡ false → escaped_byte (byte ∷ rest) ≡ None
-no_mark byte [] isnt = refl
-no_mark byte (b ∷ []) isnt = refl
-no_mark byte (b ∷ c ∷ []) isnt = refl
 no_mark byte (b ∷ c ∷ d ∷ rest) isnt = rw isnt refl
+no_mark byte _ isnt = refl
 
 stays : (byte : ℕ) (rest name : List ℕ) → nat_eq byte 92 ≡ false → unescaped rest ≡ name
     → unescaped (byte ∷ rest) ≡ byte ∷ name

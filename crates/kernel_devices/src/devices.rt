@@ -2,12 +2,12 @@
 //! isn't known.
 use crate::descriptor::read_told;
 use crate::device_texts::{is_anonymous, is_lost, mount_number, node_name, read_number, swap_name};
-use crate::identity::Identity;
 use crate::mounts::{
     MountLine, device_text, find_mount, find_mount_by_number, if_told, is_newline, read_if_told,
     read_mounts,
 };
 use crate::names::{unescaped, without_mark};
+use file_identity::identity::Identity;
 use std::fs::{self, File, ReadDir};
 use std::io;
 
@@ -342,15 +342,6 @@ fn add_all_under(rt: &HostRuntime, found: &mut Vec<Identity>) -> io::Result<()> 
     Ok(())
 }
 
-/// A file or a block device, and what it lies on, down to disks: a partition's disk, the devices of which another one
-/// is made, the file of a loop device, and the device of a file's file system.
-pub fn find_under(rt: &HostRuntime, one: Identity) -> io::Result<Vec<Identity>> {
-    let mut found = Vec::new(rt.alloc());
-    add(&mut found, one)?;
-    add_all_under(rt, &mut found)?;
-    Ok(found)
-}
-
 /// Adds an open file, and the device on which its file system lies.
 fn add_open(rt: &HostRuntime, file: &File, found: &mut Vec<Identity>) -> io::Result<()> {
     let one = Identity::of(&file.metadata()?);
@@ -360,6 +351,15 @@ fn add_open(rt: &HostRuntime, file: &File, found: &mut Vec<Identity>) -> io::Res
     } else {
         add_mount(rt, file, found)
     }
+}
+
+/// A file or a block device, and what it lies on, down to disks: a partition's disk, the devices of which another one
+/// is made, the file of a loop device, and the device of a file's file system.
+pub fn find_under(rt: &HostRuntime, one: Identity) -> io::Result<Vec<Identity>> {
+    let mut found = Vec::new(rt.alloc());
+    add(&mut found, one)?;
+    add_all_under(rt, &mut found)?;
+    Ok(found)
 }
 
 /// The same of an open file, whose mount the kernel tells.

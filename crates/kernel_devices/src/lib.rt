@@ -1,12 +1,11 @@
-//! What Linux says of files and devices: which file a name reaches, how it is open, what a device lies on, what uses it,
-//! whether it is gone, and how it is cached.
+//! What Linux says of files and devices: how a file is open, what a device lies on, what uses it, whether it is gone, and
+//! how it is cached.
 #![tactic(auto)]
 
 pub mod descriptor;
 mod device_texts;
 pub mod devices;
-pub mod identity;
 pub mod mounts;
-pub mod names;
+mod names;
 pub mod release;
 pub mod sectors;

@@ -1,20 +1,8 @@
-//! Names of files: the folder that holds one, and how the kernel's tables print one.
+//! How the kernel's tables print the names of files.
 ghost use Rattle.std.specs.Prelude.{◌≡◌, List, ℕ, IfOk};
 ghost use Rattle.kernel_devices.specs.Names.{escaped, escaped_byte, octal_byte, unescaped};
 
 use std::alloc::{AllocError, Global};
-use std::path::Path;
-
-/// The name of the folder that holds a name.
-pub fn folder_of(name: &str) -> &str {
-    match Path::new(name).parent() {
-        None => "/",
-        Some(parent) => {
-            let text = parent.as_str();
-            if text.is_empty() { "." } else { text }
-        }
-    }
-}
 
 /// The byte for which a backslash and three octal digits stand, if these are such ones.
 fn octal_byte(mark: u8, high: u8, middle: u8, low: u8) -> Option<u8>

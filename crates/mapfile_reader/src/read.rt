@@ -11,11 +11,11 @@ use crate::check::{check_map, check_place};
 use crate::entries::read_block;
 use crate::lines::{FilledLine, FilledLines};
 use block_list::block::Block;
-use block_list::plain_tiles::PlainTiles;
 use block_list::status::Status;
 use block_list::tiles::Tiles;
 use mapfile_text::read::{MapError, Mode};
 use mapfile_text::state::MapState;
+use plain_blocks::plain_tiles::PlainTiles;
 use std::alloc::Global;
 
 /// The most bytes that a mapfile may have.

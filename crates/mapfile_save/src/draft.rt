@@ -8,8 +8,8 @@ use crate::names::Names;
 use arrayvec::ArrayVec;
 use block_list::tiles::Tiles;
 use crash_site::site::{Site, SiteCall};
-use mapfile_printer::printer::MapPrinter;
 use mapfile_text::heading::Heading;
+use mapfile_text::printer::MapPrinter;
 use mapfile_text::state::MapState;
 
 /// A call of a save failed. It spends the draft.

@@ -9,3 +9,8 @@ pub mod ReadPrinted
 mod PrintedBytes
 mod ReadNumbers
 mod ReadLines
+mod Appended
+mod DigitLemmas
+mod LastDigits
+mod PartLemmas
+mod TakenOff

@@ -61,7 +61,7 @@ pub lines_within : (mode : Mode) (ls : List Line) (state : MapState) (first : �
 lines_within mode [] state first listed statuses m = absurd m
 lines_within mode (l ∷ ls) state first listed statuses m = (m.0.pos, state_above l.fields state m.0.spells)
 
--- an error that names a line is none of want of a status line
+-- an error that names a line is another one than "no status line"
 state_said : (l : Line) (e : MapError) → StateFault l e → e ≢ NoStatusLine
 state_said l e f is =
     elim f [

@@ -5,3 +5,4 @@ pub mod Lines
 pub mod Fields
 pub mod MapText
 pub mod Laws
+pub mod LeftOf

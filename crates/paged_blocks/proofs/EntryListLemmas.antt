@@ -1,6 +1,6 @@
 -- A list of entries with a gap.
 use Rattle.std.proofs.Common.{◌≡◌, ℕ, zero, suc, ◌+◌, ◌-◌, ◌<◌, ◌≤◌, List, [], ◌∷◌, ◌++◌, length, take, drop, get_or, set, reverse, refl, arith, ap, sym, ◌∙◌, append_assoc, length-append, length-drop}
-use Rattle.std.proofs.lemmas.List.{set-append_left, set-append_right, length-reverse, reverse-append, reverse-reverse, take-append-drop, take-append-le, drop-append-le, take_at, drop_at, drop_more}
+use Rattle.std.proofs.lemmas.List.{set-append_left, set-append_right, length-reverse, reverse-append, take-append-drop, take_at, drop_at, drop_more}
 
 set_reverse : {X : Type 0} (ys : List X) (i j : ℕ) (y : X) → i + j + 1 ≡ length ys → set (reverse ys) i y ≡ reverse (set ys j y)
 set_reverse [] i j y e = absurd (omega arith)
@@ -27,16 +27,6 @@ passed_more from to old new i x h e o n =
     let d : drop i from ≡ x ∷ drop (i + 1) from = rw (← e) at (drop_more from i x h) in
     n ∙ ap (λ r. r ++ x ∷ []) o ∙ append_assoc to (reverse (drop (i + 1) from)) (x ∷ [])
     ∙ ap (λ r. to ++ r) (sym (reverse-append (x ∷ []) (drop (i + 1) from)) ∙ ap reverse (sym d))
-
--- the gap was moved towards the front
-pub parted_front : {X : Type 0} (xs ys : List X) (k : ℕ) → k ≤ length xs → take k xs ≡ take k (xs ++ reverse ys)
-parted_front xs ys k h = sym (take-append-le k xs (reverse ys) h)
-
-pub parted_back : {X : Type 0} (xs ys zs : List X) (k : ℕ) → k ≤ length xs → zs ≡ ys ++ reverse (drop k xs)
-    → reverse zs ≡ drop k (xs ++ reverse ys)
-parted_back xs ys zs k h e =
-    ap reverse e ∙ reverse-append ys (reverse (drop k xs)) ∙ ap (λ r. r ++ reverse ys) (reverse-reverse (drop k xs))
-    ∙ sym (drop-append-le k xs (reverse ys) h)
 
 -- the gap was moved towards the back
 parts : {X : Type 0} (xs ys : List X) (m : ℕ) → xs ++ reverse ys ≡ (xs ++ reverse (drop m ys)) ++ reverse (take m ys)

@@ -11,8 +11,8 @@ use Rattle.block_list.specs.Places.{IsFirst, IsLast, IsRangeUp, IsRangeDown}
 use Rattle.block_list.specs.Stretches.{covered}
 use Rattle.block_list.specs.Edits.{start_of}
 use Rattle.block_list.proofs.TileLemmas.{tile_at, tile_read, start_mono}
-use Rattle.block_list.proofs.EditLemmas.{no_block, read_there}
-use Rattle.block_list.proofs.LookupLemmas.{stretch_held, clear_after, clear_before, clear_up, found_first, found_range_up, found_last, found_range_down}
+use Rattle.plain_blocks.proofs.EditLemmas.{no_block, read_there}
+use Rattle.plain_blocks.proofs.LookupLemmas.{stretch_held, clear_after, clear_before, clear_up, found_first, found_range_up, found_last, found_range_down}
 use Rattle.block_pages.specs.declared.page_entry.PageEntry.{PageEntry}
 use Rattle.block_pages.specs.Tally.{tallied}
 use Rattle.block_pages.specs.Search.{AreNonempty, HasNoneOf, HasAt, IsFirstBlock, IsLastBlock}

@@ -48,22 +48,6 @@ pub record IsFilling (pages : List (List Block)) (es : List PageEntry) (bs : Lis
   pub some : length es ≡ 0 → made ≡ 0
   pub rest : 64 < length bs → 0 < made → made < length bs → made + 32 ≤ length bs
 
-pub filling_none : (bs : List Block) → IsFilling [] [] bs 0
-filling_none bs = record {
-  within = omega arith;
-  same = refl;
-  each = λ i d l. absurd (omega arith);
-  once = λ n. omega arith;
-  fresh = λ n h. refl;
-  number = refl;
-  half = λ h. refl;
-  few = λ h l. absurd (omega arith);
-  one = λ h. omega arith;
-  none = λ h. refl;
-  some = λ h. refl;
-  rest = λ h l. absurd (omega arith);
-}
-
 entry_kept : (pages : List (List Block)) (page : List Block) (e : PageEntry) → IsEntry pages e → IsEntry (pages ++ page ∷ []) e
 entry_kept pages page e h =
     let q = blocks_kept pages page e h.page in

@@ -11,8 +11,8 @@ use Rattle.block_list.specs.declared.block.Block.{Block}
 use Rattle.block_list.specs.Stretches.{covered, IsStretchAt}
 use Rattle.block_list.specs.Edits.{IsPlace, start_of}
 use Rattle.block_list.proofs.TileLemmas.{tile_at, start_mono, start_all}
-use Rattle.block_list.proofs.EditLemmas.{no_block, rising}
-use Rattle.block_list.proofs.LookupLemmas.{stretch_held, place_held}
+use Rattle.plain_blocks.proofs.EditLemmas.{no_block, rising}
+use Rattle.plain_blocks.proofs.LookupLemmas.{stretch_held, place_held}
 use Rattle.block_pages.specs.declared.page_entry.PageEntry.{PageEntry}
 use Rattle.block_pages.specs.Search.{IsSearched}
 use Rattle.block_pages.specs.PageEntries.{IsEntryOf}

@@ -13,8 +13,8 @@ use Rattle.block_list.specs.Stretches.{covered, stretches}
 use Rattle.block_list.specs.Tiling.{IsMerged}
 use Rattle.block_list.specs.Edits.{IsTiled, IsPlace, start_of}
 use Rattle.block_list.proofs.TileLemmas.{covered-append, tile_at, tile_read, start_all, start_mono}
-use Rattle.block_list.proofs.EditLemmas.{no_block, rising}
-use Rattle.block_list.proofs.LookupLemmas.{IsClear, clear_after, clear_before, found_first, found_range_up, found_last, found_range_down}
+use Rattle.plain_blocks.proofs.EditLemmas.{no_block, rising}
+use Rattle.plain_blocks.proofs.LookupLemmas.{IsClear, clear_after, clear_before, found_first, found_range_up, found_last, found_range_down}
 use Rattle.block_list.proofs.ApartLemmas.{merged_from_apart}
 use Rattle.block_list.proofs.StretchLemmas.{stretches_covered, stretches_apart}
 use Rattle.block_pages.specs.Search.{IsSearched}
@@ -211,10 +211,6 @@ few_begun map from i s p z = record { clear = λ x l u k. omega (arith, p.before
 pub few_reached : (map : List Status) (from i j : ℕ) → IsPlace (stretches map) (from + 1) i → i ≤ j + 1
     → from < start_of (stretches map) (j + 1)
 few_reached map from i j p h = omega (arith, p.reaches, start_mono (stretches map) i (j + 1) h)
-
-pub few_ended : (map : List Status) (to i : ℕ) (s : Status) → IsPlace (stretches map) to i
-    → IsClear map s (start_of (stretches map) i) to
-few_ended map to i s p = record { clear = λ x l u k. omega (arith, p.reaches) }
 
 pub few_below : (map : List Status) (to i j : ℕ) → IsPlace (stretches map) to i → j < i → start_of (stretches map) j < to
 few_below map to i j p h = omega (arith, p.before (omega arith), start_mono (stretches map) j (i - 1) (omega arith))

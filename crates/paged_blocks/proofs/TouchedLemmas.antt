@@ -5,11 +5,10 @@ use Rattle.std.proofs.lemmas.Bool.{cases_lt}
 use Rattle.std.proofs.lemmas.List.{take-append-drop, take_at, drop_at, take_more, drop_more, length-take-le}
 use Rattle.std.proofs.lemmas.Grind.{flat_map-append}
 use Rattle.block_list.specs.declared.block.Block.{Block}
-use Rattle.block_list.specs.Stretches.{covered}
 use Rattle.block_pages.specs.declared.page_entry.PageEntry.{PageEntry}
 use Rattle.block_pages.specs.Splice.{spliced}
 use Rattle.block_pages.specs.Rows.{AreRow}
-use Rattle.block_pages.proofs.RangeLemmas.{range_whole, middle_short}
+use Rattle.block_pages.proofs.RangeLemmas.{range_whole}
 use Rattle.block_pages.proofs.RowLemmas.{row_middle}
 use Rattle.paged_blocks.specs.Paging.{blocks_of, flat, before, IsPaging}
 use Rattle.paged_blocks.specs.Marks.{edited, edit_from, edit_to, IsEdit}
@@ -128,19 +127,6 @@ page_some pages es e page i s q =
       i.to no_entry,
       ap (λ k. length (blocks_of pages (get_or es k no_entry))) s,
     )
-
--- a page has no more positions than all
-pub page_short : (pages : List (List Block)) (es : List PageEntry) (k : ℕ) (d : PageEntry) → k < length es
-    → length (flat_map covered (blocks_of pages (get_or es k d))) ≤ length (flat_map covered (flat pages es))
-page_short pages es k d h =
-    let front : List Block = flat pages (take k es) in
-    let page : List Block = blocks_of pages (get_or es k d) in
-    let back : List Block = flat pages (drop (k + 1) es) in
-    let e : flat pages es ≡ front ++ page ++ back =
-    ap (λ r. flat pages r) (sym (take-append-drop k es) ∙ ap (λ r. take k es ++ r) (drop_more es k d h))
-    ∙ flat_map-append (blocks_of pages) (take k es) (get_or es k d ∷ drop (k + 1) es)
-    ∙ sym (append_assoc front page back) in
-    omega (arith, middle_short front page back, ap (λ r. length (flat_map covered r)) e)
 
 -- the blocks of a region are at most two more than its pages hold
 pub region_few : (pages : List (List Block)) (es : List PageEntry) (r : Region) → IsPaging pages es → IsRegion es r

@@ -9,10 +9,10 @@ ghost use Rattle.paged_blocks.specs.Walks.{IsBare};
 
 use crate::search::by_status::{range_down, range_up};
 use block_list::block::Range;
-use block_list::plain_tiles::PlainTiles;
 use block_list::status::Status;
 use block_list::tiles::{NoMemory, Tiles};
 use block_pages::steps::Steps;
+use plain_blocks::plain_tiles::PlainTiles;
 use std::alloc::Global;
 use std::sync::ledger::Ledger;
 

@@ -9,7 +9,7 @@ use Rattle.partition_domain.specs.declared.table.TableEntry.{TableEntry}
 use Rattle.partition_domain.specs.declared.table.Partition.{Partition}
 use Rattle.partition_domain.specs.declared.stop.SearchStop.{SearchStop}
 use Rattle.partition_domain.specs.declared.stop.SearchStop.TheVariants.{Refused}
-use Rattle.partition_domain.specs.declared.stop.Refusal.TheVariants.{Protective, NoPartition}
+use Rattle.partition_domain.specs.declared.stop.Refusal.TheVariants.{NoPartition}
 use Rattle.partition_domain.specs.Table.{table_entries, table_entry, extended_entry, is_extended, is_protected, is_protective, is_record, is_used}
 use Rattle.partition_domain.specs.Part.{are_records, is_primary, logical, primary}
 use Rattle.partition_domain.specs.Reads.{AreNext, Unextended, Unused, records_of}
@@ -24,11 +24,8 @@ abbrev no_entry : TableEntry
 no_entry = record { kind = 0; first = 0; count = 0 }
 
 entry_there : (main : List ℕ) (n : ℕ) → n < 4 → slice_index_or (table_entries main) n no_entry ≡ table_entry main n
-entry_there main zero few = refl
-entry_there main (suc zero) few = refl
-entry_there main (suc (suc zero)) few = refl
-entry_there main (suc (suc (suc zero))) few = refl
 entry_there main (suc (suc (suc (suc n)))) few = absurd (omega (arith, few))
+entry_there main _ few = refl
 
 -- the partition of an entry, if it is used
 abbrev part_by : TableEntry → Option Partition
@@ -66,14 +63,6 @@ module _ (k : ℕ) (table : List TableEntry) (s t : SourceState) (r : ReadsTable
     next = next_first;
     to = subst (λ (rs : List (List ℕ)). SearchFinds k rs result) (sym after) comes;
   }
-
-  pub first_protected : list_any is_protective table ≡ true → Searches k (Err (Refused Protective)) s t
-  first_protected protected = decided (Err (Refused Protective)) (record {
-    main = main;
-    are = refl;
-    readable = r.as_.2;
-    protected = ap (λ (es : List TableEntry). list_any is_protective es) (sym r.as_.3) ∙ protected;
-  })
 
   module _ (unprotected : list_any is_protective table ≡ false) where
     unprotected_is : is_protected main ≡ false

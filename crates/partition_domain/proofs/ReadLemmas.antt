@@ -10,7 +10,7 @@ use Rattle.faulty_source.specs.SourceState.{SourceState}
 use Rattle.faulty_source.specs.SourceChanges.{AnswersRead}
 use Rattle.partition_domain.specs.declared.table.TableEntry.{TableEntry}
 use Rattle.partition_domain.specs.declared.stop.SearchStop.{SearchStop}
-use Rattle.partition_domain.specs.declared.stop.SearchStop.TheVariants.{SourceLost, Refused}
+use Rattle.partition_domain.specs.declared.stop.SearchStop.TheVariants.{Refused}
 use Rattle.partition_domain.specs.declared.stop.Refusal.TheVariants.{Unread, NoSignature}
 use Rattle.partition_domain.specs.Table.{table_entries, has_signature, is_whole_sector}
 use Rattle.partition_domain.specs.Part.{next}
@@ -166,9 +166,3 @@ module _ {E : Type 0} (sector : ℕ) (got : Got) (buf : List ℕ) (old new : Sou
       is,
     );
   }
-
--- it was lost
-pub reads_lost : {E : Type 0} (sector : ℕ) (buf : List ℕ) (e : E) (old new : SourceState)
-    → AnswersRead (sector * 512) 512 buf (Err e) old new → ReadsTable sector (Err SourceLost) old new
-reads_lost sector buf e old new a =
-    record { reads = []; gained = gained_none old new (λ tells. a.lost.untold tells); as_ = Lost refl refl }

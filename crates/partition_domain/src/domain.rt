@@ -6,12 +6,12 @@ ghost use Rattle.mapfile_text.specs.Printed.{printed};
 ghost use Rattle.partition_domain.specs.DomainMap.{domain_map, shown_state};
 
 use crate::table::{Partition, SECTOR};
-use block_list::plain_tiles::PlainTiles;
 use block_list::status::Status;
 use block_list::tiles::{NoMemory, Tiles};
 use console_texts::printing::put_map;
 use mapfile_text::heading::Heading;
 use mapfile_text::state::{Current, MapState};
+use plain_blocks::plain_tiles::PlainTiles;
 use rescue_console::console::{Console, ConsoleFault};
 use std::alloc::Global;
 

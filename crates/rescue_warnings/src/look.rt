@@ -1,10 +1,10 @@
 //! What is read of files before a run, without changing anything. No contract says what a file holds: what couldn't be
 //! read, or isn't understood, isn't known.
 use crate::facts::{Found, Place, Storage};
+use file_identity::identity::Identity;
+use file_identity::names::folder_of;
 use kernel_devices::devices::{Mounting, find_mounting, find_under, find_under_open};
-use kernel_devices::identity::Identity;
 use kernel_devices::mounts::{device_text, find_mount, read_mounts};
-use kernel_devices::names::folder_of;
 use kernel_devices::sectors::logical_sector;
 use real_files::outcome::if_there;
 use std::fs::{self, File};

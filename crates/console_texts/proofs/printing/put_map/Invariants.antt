@@ -1,6 +1,6 @@
 -- What was put and what the printer has left are the text.
 use Rattle.std.proofs.Common.{length}
-use Rattle.mapfile_printer.specs.LeftOf.{left_of}
+use Rattle.mapfile_text.specs.LeftOf.{left_of}
 use Rattle.mapfile_text.specs.Printed.{printed}
 use Rattle.rescue_console.proofs.PutLemmas.{PartlyPut}
 use Rattle.console_texts.proofs.printing.put_map.Given as goal

@@ -1,7 +1,7 @@
 use Rattle.std.proofs.Common.{◌≤◌, length, arith, ap}
 use Rattle.std.specs.List.{flat_map}
 use Rattle.block_list.specs.Stretches.{covered, stretches}
-use Rattle.block_list.proofs.EditLemmas.{rising}
+use Rattle.plain_blocks.proofs.EditLemmas.{rising}
 use Rattle.block_list.proofs.StretchLemmas.{stretches_covered}
 use Rattle.block_pages.proofs.HalvingLemmas.{narrowed_found, narrowed_up, narrowed_down, halved_first, halved_more, halved_cost}
 use Rattle.block_pages.proofs.RowLemmas.{stretches_tiled}

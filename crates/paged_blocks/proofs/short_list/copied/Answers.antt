@@ -1,6 +1,6 @@
 use Rattle.std.proofs.Common.{IsOk, arith}
 use Rattle.block_list.specs.Stretches.{stretches}
-use Rattle.block_list.proofs.PushLemmas.{on_success}
+use Rattle.plain_blocks.proofs.PushLemmas.{on_success}
 use Rattle.paged_blocks.proofs.ShortListLemmas.{copied_more, copied_all}
 use Rattle.paged_blocks.proofs.short_list.copied.Goals as goal
 

@@ -1,7 +1,7 @@
 use Rattle.std.proofs.Common.{◌+◌, ◌≤◌}
 use Rattle.block_list.specs.Stretches.{stretches}
 use Rattle.block_list.specs.Edits.{start_of}
-use Rattle.block_list.proofs.LookupLemmas.{IsClear}
+use Rattle.plain_blocks.proofs.LookupLemmas.{IsClear}
 use Rattle.paged_blocks.proofs.short_list.first_from.Given as goal
 
 abbrev pub invariant-loop-i : goal.invariant-loop-i

@@ -1,5 +1,5 @@
 use Rattle.std.proofs.Common.{◌≡◌, ◌+◌, ◌-◌, length, min, arith}
-use Rattle.block_list.proofs.LookupLemmas.{last_within}
+use Rattle.plain_blocks.proofs.LookupLemmas.{last_within}
 use Rattle.paged_blocks.proofs.ShortListLemmas.{few_front, few_last, few_range_down, few_short, few_below, few_clear}
 use Rattle.paged_blocks.proofs.short_list.last_with.Goals as goal
 

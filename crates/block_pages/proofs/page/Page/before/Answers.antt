@@ -1,5 +1,5 @@
 use Rattle.std.proofs.Common.{arith}
-use Rattle.block_list.proofs.EditLemmas.{no_block}
+use Rattle.plain_blocks.proofs.EditLemmas.{no_block}
 use Rattle.block_pages.proofs.PageLemmas.{alike, page_size, rows_begin, rising_rows, searched_rows}
 use Rattle.block_pages.proofs.page.Page.before.Goals as goal
 

@@ -1,6 +1,6 @@
 use Rattle.std.proofs.Common.{◌≡◌, ℕ, ◌+◌, ◌-◌, ◌≤◌, ◌∙◌, IsOk, List, length, drop, slice_range, ap, arith, length-append}
 use Rattle.std.proofs.lemmas.List.Edits.{length-between}
-use Rattle.block_list.proofs.PushLemmas.{on_success}
+use Rattle.plain_blocks.proofs.PushLemmas.{on_success}
 use Rattle.block_pages.specs.Rows.{first_or}
 use Rattle.block_pages.proofs.PageLemmas.{page_size, copied_rows}
 use Rattle.block_pages.proofs.page.Page.copy.Goals as goal

@@ -1,7 +1,7 @@
 -- A piece goes from what is left of the text into the draft.
 use Rattle.std.proofs.Common.{arith}
 use Rattle.std.proofs.lemmas.List.{length-drop}
-use Rattle.mapfile_printer.specs.LeftOf.{left_of}
+use Rattle.mapfile_text.specs.LeftOf.{left_of}
 use Rattle.mapfile_save.proofs.FillLemmas.{nothing_filled, piece_filled, piece_refused, filled_after}
 use Rattle.mapfile_save.proofs.draft.Draft+Begun.fill.Goals as goal
 

@@ -1,7 +1,7 @@
 -- Some pieces are in the draft, and the rest is left of the text.
 use Rattle.std.proofs.Common.{length}
 use Rattle.mapfile_text.specs.Printed.{printed}
-use Rattle.mapfile_printer.specs.LeftOf.{left_of}
+use Rattle.mapfile_text.specs.LeftOf.{left_of}
 use Rattle.mapfile_save.proofs.FillLemmas.{PartlyFilled}
 use Rattle.mapfile_save.proofs.draft.Draft+Begun.fill.Given as goal
 

@@ -1,6 +1,0 @@
-use Rattle.std.proofs.Common.{arith}
-use Rattle.block_list.proofs.RowLemmas.{row_size}
-use Rattle.block_list.proofs.block_row.BlockRow.len.Goals as goal
-
-pub returns : goal.returns
-returns c = omega (arith, row_size _ _ c.self.view_is c.self.invariant)

@@ -1,6 +1,0 @@
-use Rattle.std.proofs.Common.{◌≡◌}
-use Rattle.block_list.proofs.LookupLemmas.{counted}
-use Rattle.block_list.proofs.lookups.count.Given as goal
-
-abbrev pub invariant-loop-i : goal.invariant-loop-i
-invariant-loop-i l = l.counted ≡ counted l.blocks.items l.status l.i

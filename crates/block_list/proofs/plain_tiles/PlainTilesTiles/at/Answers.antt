@@ -1,4 +1,0 @@
-use Rattle.block_list.proofs.plain_tiles.PlainTilesTiles.at.Goals as goal
-
-pub returns : goal.returns
-returns c = c.stretch_at.ensures.stretch.has _ c.stretch_at.ensures.begun c.stretch_at.ensures.holds

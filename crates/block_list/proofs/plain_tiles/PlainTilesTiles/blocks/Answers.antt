@@ -1,8 +1,0 @@
-use Rattle.std.proofs.Common.{ap, sym, ◌∙◌, ◌≡◌, length, arith}
-use Rattle.block_list.proofs.StretchLemmas.{stretches_of_tiling}
-use Rattle.block_list.proofs.plain_tiles.PlainTilesTiles.blocks.Goals as goal
-
-pub returns : goal.returns
-returns c =
-    let n : c.len.result ≡ length c.self.inside.blocks.items = omega arith in
-    rw (← c.self.view_is) (n ∙ ap length (sym (stretches_of_tiling _ c.self.invariant)))

@@ -1,5 +1,0 @@
-use Rattle.block_list.proofs.TileLemmas.{tiled_from_tiling}
-use Rattle.block_list.proofs.plain_tiles.PlainTilesTiles.count.Goals as goal
-
-pub count-requires : goal.count-requires
-count-requires c = tiled_from_tiling _ c.self.invariant

@@ -1,5 +1,0 @@
-mod Appended
-mod DigitLemmas
-mod LastDigits
-mod PartLemmas
-mod TakenOff

@@ -1,5 +1,0 @@
-use Rattle.mapfile_printer.proofs.PartLemmas.{begin_is_printed}
-use Rattle.mapfile_printer.proofs.printer.MapPrinter.begin.Goals as goal
-
-pub returns : goal.returns
-returns c = begin_is_printed

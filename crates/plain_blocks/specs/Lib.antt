@@ -1,0 +1,3 @@
+pub mod Row
+pub mod Tiling
+pub mod Push
