@@ -1,30 +1,49 @@
 -- What the calls on a mapfile made.
 use Rattle.std.proofs.Common.{◌≡◌, inl, inr, ℕ, ◌+◌, IsTrue, List, [], ◌∷◌, ◌++◌, length, codes, Option, Some, None, Result, Ok, Err, refl, sym, ◌∙◌, ap, subst, append-nil, length-append, arith}
 use Rattle.crash_site.specs.Files.{draft_of}
-use Rattle.kernel_files.specs.Volume.{Volume, create, sync_file, unlink, sync_folder, Entry, Done, Failed, after, at_node, new_node, lead, folder_of, IsNew}
+use Rattle.kernel_files.specs.declared.standing.Kind.{Kind}
+use Rattle.kernel_files.specs.declared.standing.Kind.TheVariants.{File, Link}
+use Rattle.kernel_files.specs.Volume.{Volume, Call, create, sync_file, unlink, sync_folder, Entry, Done, Failed, after, at_node, new_node, lead, folder_of, IsNew}
 use Rattle.kernel_files.specs.Answers.{Told, volume, Made}
 use Rattle.kernel_files.specs.Steps.{MadeBy, IsDone, IsBroken}
 use Rattle.kernel_files.specs.MapCalls.{Removes, Tries, Probes, SyncsFound, SettlesFound, BreaksTry, BreaksSyncs, BreaksSettles}
-use Rattle.kernel_files.proofs.Steps.{made_map, made_on}
+use Rattle.kernel_files.proofs.Steps.{made_here, made_map, made_on, never_told}
 use Rattle.kernel_files.proofs.Volumes.{names_other}
-use Rattle.folder_site.specs.Settles.{BreaksProbes, SyncsReached, BreaksReached}
+use Rattle.folder_site.specs.Settles.{BreaksProbes, NoCalls, SyncsReached, BreaksReached}
 
 cat : (es fs a b : List Entry) → es ≡ a → fs ≡ b → es ++ fs ≡ a ++ b
 cat es fs a b p q = ap (λ (l : List Entry). l ++ fs) p ∙ ap (λ (l : List Entry). a ++ l) q
 
 -- The file that a name reaches.
 
-module _ (i : ℕ) (name : List ℕ) (old new : Told) where
-  pub reached : (IsTrue old.tells → (volume old).names name ≡ Some i) → MadeBy (IsDone (sync_file i)) old new
-      → MadeBy (SyncsReached (volume old) name) old new
-  reached leads =
-      made_map (IsDone (sync_file i)) (SyncsReached (volume old) name) old new (λ t es _ h. (i, leads t, h))
+-- a kernel that tells has no links
+pub no_target : {T E : Type 0} (call : Call) (r : Result T E) (kind : Kind) (old new : Told) → kind ≡ Link
+    → (IsTrue old.tells → kind ≡ File) → Made call r old new → MadeBy NoCalls old new
+no_target call r kind old new is file m =
+    never_told NoCalls old new m.tells (λ t. let e : Link ≡ File = sym is ∙ file t in (cc))
 
-  pub not_reached : (IsTrue old.tells → (volume old).names name ≡ Some i) → MadeBy (IsBroken (sync_file i)) old new
+pub no_calls : (t : Told) → MadeBy NoCalls t t
+no_calls t = made_here NoCalls t refl
+
+pub not_synced_yet : (name : List ℕ) (old new : Told) → MadeBy NoCalls old new → MadeBy (BreaksReached (volume old) name) old new
+not_synced_yet name old new = made_map NoCalls (BreaksReached (volume old) name) old new (λ t es _ h. inl h)
+
+module _ (i : ℕ) (name : List ℕ) (old mid new : Told) (leads : IsTrue old.tells → (volume old).names name ≡ Some i) where
+  pub reached : MadeBy NoCalls old mid → MadeBy (IsDone (sync_file i)) mid new
+      → MadeBy (SyncsReached (volume old) name) old new
+  reached =
+      made_on NoCalls (IsDone (sync_file i)) (SyncsReached (volume old) name) old mid new
+      (λ t es fs _ h k. (i, leads t, cat es fs [] (Done (sync_file i) ∷ []) h k))
+
+  pub not_reached : MadeBy NoCalls old mid → MadeBy (IsBroken (sync_file i)) mid new
       → MadeBy (BreaksReached (volume old) name) old new
-  not_reached leads =
-      made_map (IsBroken (sync_file i)) (BreaksReached (volume old) name) old new
-      (λ t es _ h. elim h [ inl none ↦ inl none | inr fails ↦ inr (i, leads t, fails) ])
+  not_reached =
+      made_on NoCalls (IsBroken (sync_file i)) (BreaksReached (volume old) name) old mid new
+      (λ t es fs _ h k.
+      elim k [
+        | inl none ↦ inl (cat es fs [] [] h none)
+        | inr fails ↦ inr (i, leads t, cat es fs [] (Failed (sync_file i) ∷ []) h fails)
+      ])
 
 -- The syncs.
 

@@ -1,2 +1,5 @@
 pub mod Drafts
 pub mod Settles
+pub mod Pieces
+pub mod Told
+pub mod Left

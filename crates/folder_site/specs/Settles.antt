@@ -8,6 +8,10 @@ use Rattle.kernel_files.specs.MapCalls.{Probes, BreaksTry}
 abbrev pub BreaksProbes : Volume → List ℕ → List Entry → Type 0
 BreaksProbes v name es = BreaksTry v (draft_of name) es ⊎ Probes v name es
 
+-- no call is made that a kernel tells
+abbrev pub NoCalls : List Entry → Type 0
+NoCalls es = es ≡ []
+
 -- the file that has a name is synced
 abbrev pub SyncsReached : Volume → List ℕ → List Entry → Type 0
 SyncsReached v name es = (j : ℕ) × (v.names name ≡ Some j) × (es ≡ Done (sync_file j) ∷ [])

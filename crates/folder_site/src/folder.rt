@@ -1,53 +1,45 @@
 //! The output and its folder of mapfiles as real files.
-ghost use Rattle.std.specs.Prelude.{◌≡◌, ℕ, ◌+◌, ◌<◌, ◌≤◌, ◌^◌, false, true, List, [], ◌∷◌, length, None, Some, is_some, OnOk, IfOk, IfErr};
+ghost use Rattle.std.specs.Prelude.{◌≡◌, None, is_some, Some, false, OnOk, OnErr, IfOk, IfErr, IsErr, IsTrue};
 ghost use Rattle.fault_count.specs.Counts.{HasCause};
+ghost use Rattle.folder_site.specs.Told.{IsNewSite, site_state, site_told, tells_both};
+ghost use Rattle.kernel_laws.specs.Site.{AreLeft};
 
-use apart::Apart;
+use crate::real::RealKernel;
 use crash_site::fault::fault;
 use crash_site::site::{ImageKind, MapRead, Site, SiteCall, SiteFault};
-use draft::OpenDraft;
+use crash_site::trouble::SiteTrouble;
 use fault_count::FaultCount;
-use held::HeldMap;
-use image::{OpenImage, open_image, write_image};
-use kernel_devices::identity::OpenInput;
+use file_identity::identity::OpenInput;
+use files::KernelFiles;
 use kernel_files::kernel::Kernel;
-use kernel_files::real::RealKernel;
-use mapfile::{OpenMap, read_map, remove_map};
-use real_files::file_cursor::{FileCursor, read_full};
-use real_files::read_ahead::ReadAhead;
-use settle::settle;
+use site_record::recorder::{NoRecord, Recorder};
+use std::alloc::Global;
 use std::io;
 
+mod allowed;
 mod apart;
 mod draft;
+mod files;
 mod held;
 mod image;
+mod left;
 mod mapfile;
 mod names;
 mod nodes;
+mod pieces;
 mod settle;
 
-/// Files and folders over a kernel, or a device as the image. It tells no content.
+/// Files and folders over a kernel, or a device as the image. It tells what its kernel and its recorder tell.
 ///
 /// A call fails if two of the files that it knows are the same, whatever their names: the input noted for it, the
 /// image, and the files that have a mapfile's or a draft's name. Nothing is written then. The image, the mapfile and
 /// the draft are locked, and a call fails that meets one which another run has locked. It fails, too, if the image is
 /// to be a device that is in use, or would be made among the device nodes, or if the image or a mapfile overlaps the
-/// input or lies on it.
+/// input or lies on it. The image is opened before anything is changed: an open after that fails.
 #[derive(Drop)]
-pub struct KernelSite<K: Kernel> {
-    kernel: K,
-    rt: HostRuntime,
-    input: Option<OpenInput>,
-    image: Option<OpenImage>,
-    /// What was read ahead of the image.
-    ahead: ReadAhead,
-    map: Option<OpenMap>,
-    draft: Option<OpenDraft<K>>,
-    /// The mapfile that this run has locked.
-    held: Option<HeldMap<K>>,
-    /// A mapfile was removed: no save is to come.
-    removed: bool,
+pub struct KernelSite<K: Kernel, R: Recorder> {
+    files: KernelFiles<K, R>,
+    alloc: Global,
     faults: FaultCount,
     trouble: Option<SiteTrouble>,
     /// The name of the mapfile whose read failed last, if there was memory for it.
@@ -55,14 +47,7 @@ pub struct KernelSite<K: Kernel> {
 }
 
 /// Real files and folders.
-pub type FolderSite = KernelSite<RealKernel>;
-
-/// Why a call failed: the call, and the system's error.
-#[derive(Clone, Copy, Debug)]
-pub struct SiteTrouble {
-    pub call: SiteCall,
-    pub error: io::Error,
-}
+pub type FolderSite = KernelSite<RealKernel, NoRecord>;
 
 /// The outcome of a call with its error counted as a fault, and kept.
 fn counted<T>(
@@ -72,6 +57,7 @@ fn counted<T>(
     trouble: &mut Option<SiteTrouble>,
 ) -> Result<T, SiteFault>
     ensures value { IfOk result (λ value. outcome ≡ Ok value) }
+    ensures error { OnErr result (IsErr outcome) }
     ensures cause { HasCause faults.old faults.new result }
     ensures kept { IfErr outcome (λ error. trouble.new ≡ Some (record { call = call; error = error })) }
     ensures stands { OnOk outcome (trouble.new ≡ trouble.old) }
@@ -85,54 +71,63 @@ fn counted<T>(
     }
 }
 
-impl KernelSite<RealKernel> {
-    /// Over the files of the system. Nothing is open or begun.
-    pub fn new(rt: HostRuntime) -> KernelSite<RealKernel>
-        ensures open { (⟦<KernelSite<RealKernel> as Site>⟧.state result).is_open ≡ false }
-        ensures draft { (⟦<KernelSite<RealKernel> as Site>⟧.state result).is_drafting ≡ false }
-        ensures faults { (⟦<KernelSite<RealKernel> as Site>⟧.state result).faults ≡ 0 }
-    {
-        KernelSite::over(RealKernel::new(rt), rt)
+/// Keeps the name of a mapfile whose read failed, or that there was no memory for it.
+fn note_unread<T>(outcome: &io::Result<T>, unread: &mut Option<String>, alloc: Global, name: &str)
+    ensures { OnOk outcome.now (unread.new ≡ unread.old) }
+{
+    if outcome.is_err() {
+        *unread = String::from_str(alloc, name).ok();
     }
 }
 
-impl<K: Kernel> KernelSite<K> {
-    /// Over this kernel. Nothing is open or begun.
-    pub fn over(kernel: K, rt: HostRuntime) -> KernelSite<K>
-        ensures open { (⟦<KernelSite<K> as Site>⟧.state result).is_open ≡ false }
-        ensures draft { (⟦<KernelSite<K> as Site>⟧.state result).is_drafting ≡ false }
-        ensures faults { (⟦<KernelSite<K> as Site>⟧.state result).faults ≡ 0 }
+impl KernelSite<RealKernel, NoRecord> {
+    /// Over the files of the system. Nothing is open or begun.
+    pub fn new(rt: HostRuntime) -> KernelSite<RealKernel, NoRecord>
+        ensures open { (⟦<KernelSite<RealKernel, NoRecord> as Site>⟧.state result).is_open ≡ false }
+        ensures draft { (⟦<KernelSite<RealKernel, NoRecord> as Site>⟧.state result).is_drafting ≡ false }
+        ensures faults { (⟦<KernelSite<RealKernel, NoRecord> as Site>⟧.state result).faults ≡ 0 }
     {
-        let ahead = ReadAhead::new(Vec::new(rt.alloc()));
+        KernelSite::over(RealKernel::new(rt), NoRecord, rt)
+    }
+}
+
+impl<K: Kernel, R: Recorder> KernelSite<K, R> {
+    /// Over this kernel, of which no call was made yet. Nothing is open or begun.
+    pub fn over(kernel: K, recorder: R, rt: HostRuntime) -> KernelSite<K, R>
+        requires { IsNewSite (K.told kernel) (R.told recorder) }
+        ensures { ⟦<KernelSite<K, R> as Site>⟧.state result ≡ site_told (K.told kernel) (R.told recorder) }
+    {
         KernelSite {
-            kernel,
-            rt,
-            input: None,
-            image: None,
-            ahead,
-            map: None,
-            draft: None,
-            held: None,
-            removed: false,
+            files: KernelFiles::new(kernel, recorder, rt),
+            alloc: rt.alloc(),
             faults: FaultCount::new(),
             trouble: None,
             unread: None,
         }
     }
 
+    /// Whatever a stop of the kernel leaves, at any of its calls so far, the record of the site's calls may leave.
+    pub fn any_stop(&self)
+        ensures { ∥ (IsTrue (tells_both (K.told self.now.files.kernel) (R.told self.now.files.recorder))
+            → AreLeft (K.told self.now.files.kernel).start (R.told self.now.files.recorder).notes
+            (K.told self.now.files.kernel).calls) ∥₁ }
+    {
+        self.files.any_stop();
+    }
+
     /// The input that is open from here on, as it is noted here, is kept apart from what is written.
     pub fn keep_apart(&mut self, input: OpenInput)
-        ensures { ⟦<KernelSite<K> as Site>⟧.state self.new ≡ ⟦<KernelSite<K> as Site>⟧.state self.old }
+        ensures { ⟦<KernelSite<K, R> as Site>⟧.state self.new ≡ ⟦<KernelSite<K, R> as Site>⟧.state self.old }
     {
-        self.input = Some(input);
+        self.files.keep_apart(input);
     }
 
     /// From here on the image is read ahead, by as many bytes as there is room for, if a read asks for fewer. What
     /// another program writes there meanwhile may be seen late.
     pub fn read_ahead_in(&mut self, room: Vec<u8>)
-        ensures { ⟦<KernelSite<K> as Site>⟧.state self.new ≡ ⟦<KernelSite<K> as Site>⟧.state self.old }
+        ensures { ⟦<KernelSite<K, R> as Site>⟧.state self.new ≡ ⟦<KernelSite<K, R> as Site>⟧.state self.old }
     {
-        self.ahead = ReadAhead::new(room);
+        self.files.read_ahead_in(room);
     }
 
     /// The last call that failed, and its error, if one did.
@@ -151,48 +146,22 @@ impl<K: Kernel> KernelSite<K> {
     }
 }
 
-impl<K: Kernel> Site for KernelSite<K> {
-    ghost use Rattle.fault_count.specs.Schedule.{no_schedule};
-
-    ghost state = { λ s. record {
-      tells = false;
-      start = record { files = λ _. None; image = None; draft = None };
-      calls = [];
-      is_open = is_some s.image;
-      is_drafting = is_some s.draft;
-      faults = s.faults;
-      is_scheduled = false;
-      schedule = no_schedule;
-      starved = 0;
-    } };
+impl<K: Kernel, R: Recorder> Site for KernelSite<K, R> {
+    ghost state = { λ s. site_state (K.told s.files.kernel) (R.told s.files.recorder) (is_some s.files.image)
+        (is_some s.files.draft) s.faults };
 
     fn image_open(&mut self, name: &str, make: bool) -> Result<ImageKind, SiteFault> {
-        self.image = None;
-        self.ahead.begin_anew();
-        let opened = open_image(&self.rt, &self.input, name, make);
-        let Some(image) = counted(
-            opened,
+        let outcome = self.files.open(name, make);
+        counted(
+            outcome,
             SiteCall::ImageOpen,
             &mut self.faults,
             &mut self.trouble,
-        )?
-        else {
-            return Ok(ImageKind::Absent);
-        };
-        let kind = image.kind();
-        self.image = Some(image);
-        Ok(kind)
+        )
     }
 
     fn image_read(&mut self, pos: u64, buf: &mut [u8]) -> Result<usize, SiteFault> {
-        let Some(image) = &self.image else {
-            unreachable!();
-        };
-        let mut cursor = FileCursor::new(&image.file, pos);
-        if self.ahead.give(&mut cursor, pos, u64::MAX, buf) {
-            return Ok(buf.len());
-        }
-        let outcome = read_full(&mut FileCursor::new(&image.file, pos), buf);
+        let outcome = self.files.read(pos, buf);
         counted(
             outcome,
             SiteCall::ImageRead,
@@ -202,12 +171,7 @@ impl<K: Kernel> Site for KernelSite<K> {
     }
 
     fn image_write(&mut self, pos: u64, piece: &[u8]) -> Result<(), SiteFault> {
-        let Some(image) = &mut self.image else {
-            unreachable!();
-        };
-        image.is_changed = true;
-        let mut cursor = FileCursor::new(&image.file, pos);
-        let outcome = write_image(&mut self.ahead, &mut cursor, piece);
+        let outcome = self.files.write(pos, piece);
         counted(
             outcome,
             SiteCall::ImageWrite,
@@ -217,11 +181,9 @@ impl<K: Kernel> Site for KernelSite<K> {
     }
 
     fn image_sync(&mut self) -> Result<(), SiteFault> {
-        let Some(image) = &self.image else {
-            return Ok(());
-        };
+        let outcome = self.files.sync();
         counted(
-            image.sync(),
+            outcome,
             SiteCall::ImageSync,
             &mut self.faults,
             &mut self.trouble,
@@ -229,19 +191,8 @@ impl<K: Kernel> Site for KernelSite<K> {
     }
 
     fn map_read(&mut self, name: &str, pos: u64, buf: &mut [u8]) -> Result<MapRead, SiteFault> {
-        let apart = Apart::new(&self.input, &self.image);
-        let outcome = read_map(
-            &self.rt,
-            &self.kernel,
-            &apart,
-            &mut self.map,
-            name,
-            pos,
-            buf,
-        );
-        if outcome.is_err() {
-            self.unread = String::from_str(self.rt.alloc(), name).ok();
-        }
+        let outcome = self.files.read_map(name, pos, buf);
+        note_unread(&outcome, &mut self.unread, self.alloc, name);
         counted(
             outcome,
             SiteCall::MapRead,
@@ -251,24 +202,19 @@ impl<K: Kernel> Site for KernelSite<K> {
     }
 
     fn draft_begin(&mut self, name: &str) -> Result<(), SiteFault> {
-        self.draft = None;
-        let apart = Apart::new(&self.input, &self.image);
-        let begun = OpenDraft::begin(&mut self.kernel, self.rt.alloc(), &apart, name);
-        self.draft = Some(counted(
-            begun,
+        let outcome = self.files.begin(name);
+        counted(
+            outcome,
             SiteCall::DraftBegin,
             &mut self.faults,
             &mut self.trouble,
-        )?);
-        Ok(())
+        )
     }
 
     fn draft_append(&mut self, piece: &[u8]) -> Result<(), SiteFault> {
-        let Some(draft) = &self.draft else {
-            unreachable!();
-        };
+        let outcome = self.files.append(piece);
         counted(
-            draft.append(&mut self.kernel, piece),
+            outcome,
             SiteCall::DraftAppend,
             &mut self.faults,
             &mut self.trouble,
@@ -276,11 +222,9 @@ impl<K: Kernel> Site for KernelSite<K> {
     }
 
     fn draft_sync(&mut self) -> Result<(), SiteFault> {
-        let Some(draft) = &self.draft else {
-            unreachable!();
-        };
+        let outcome = self.files.sync_draft();
         counted(
-            draft.sync(&mut self.kernel),
+            outcome,
             SiteCall::DraftSync,
             &mut self.faults,
             &mut self.trouble,
@@ -288,32 +232,17 @@ impl<K: Kernel> Site for KernelSite<K> {
     }
 
     fn draft_publish(&mut self, name: &str) -> Result<(), SiteFault> {
-        let Some(draft) = self.draft.take() else {
-            unreachable!();
-        };
-        self.map = None;
-        let apart = Apart::new(&self.input, &self.image);
-        let published = draft.publish(&mut self.kernel, &apart, &self.held, name);
-        self.held = Some(counted(
-            published,
+        let outcome = self.files.publish(name);
+        counted(
+            outcome,
             SiteCall::DraftPublish,
             &mut self.faults,
             &mut self.trouble,
-        )?);
-        Ok(())
+        )
     }
 
     fn map_settle(&mut self, name: &str) -> Result<(), SiteFault> {
-        self.map = None;
-        let apart = Apart::new(&self.input, &self.image);
-        let outcome = settle(
-            &self.rt,
-            &mut self.kernel,
-            &apart,
-            &mut self.held,
-            name,
-            !self.removed,
-        );
+        let outcome = self.files.settle(name);
         counted(
             outcome,
             SiteCall::MapSettle,
@@ -323,9 +252,7 @@ impl<K: Kernel> Site for KernelSite<K> {
     }
 
     fn map_remove(&mut self, name: &str) -> Result<(), SiteFault> {
-        self.map = None;
-        self.removed = true;
-        let outcome = remove_map(&mut self.kernel, &self.held, name);
+        let outcome = self.files.remove(name);
         counted(
             outcome,
             SiteCall::MapRemove,

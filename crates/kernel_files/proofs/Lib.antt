@@ -1,4 +1,3 @@
 pub mod Volumes
 pub mod Steps
 mod Logs
-mod Silent

@@ -95,6 +95,11 @@ new_number acts =
     subst (λ (m : ℕ). Below m v) (let e : creates acts + 0 ≡ creates acts = omega arith in e) h in
     record { named = λ n. not_one (creates acts) (v.names n) (k.names n); shown = λ n. not_all (creates acts) (v.may n) (k.may n) }
 
+-- each call has an entry
+pub entries_all : (k : ℕ) (acts : List Act) → length (entries_from k acts) ≡ length acts
+entries_all k [] = refl
+entries_all k (a ∷ acts) = ap suc (entries_all (makes a + k) acts)
+
 -- One more call.
 
 entries_more : (k : ℕ) (acts : List Act) (a : Act)

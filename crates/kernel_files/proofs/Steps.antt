@@ -1,8 +1,9 @@
 -- Calls one after the other.
-use Rattle.std.proofs.Common.{◌≡◌, inl, inr, Bool, IsTrue, List, [], ◌∷◌, ◌++◌, Result, Ok, Err, OnOk, OnErr, refl, sym, ◌∙◌, ap, subst, append-nil, append_assoc}
-use Rattle.kernel_files.specs.Volume.{Volume, Call, Entry, Done, Failed, entered, after}
+use Rattle.std.proofs.Common.{◌≡◌, inl, inr, ℕ, Bool, IsTrue, List, [], ◌∷◌, ◌++◌, Some, None, Result, Ok, Err, IfOk, OnOk, OnErr, refl, sym, ◌∙◌, ap, subst, append-nil, append_assoc}
+use Rattle.kernel_files.specs.Volume.{Volume, Call, create, Entry, Done, Failed, entered, after, IsNew}
 use Rattle.kernel_files.specs.Answers.{Told, volume, Made}
 use Rattle.kernel_files.specs.Steps.{MadeBy, IsDone, IsBroken}
+use Rattle.kernel_files.specs.ImageCalls.{OpensOrMakes, BreaksMake}
 
 pub still : (old new : Told) → new.tells ≡ old.tells → IsTrue old.tells → IsTrue new.tells
 still old new same tells = subst (λ (b : Bool). IsTrue b) (sym same) tells
@@ -101,3 +102,39 @@ ok_map P Q (Err e) f h = tt
 pub err_map : {T E : Type 0} (P Q : Type 0) (r : Result T E) → (P → Q) → OnErr r P → OnErr r Q
 err_map P Q (Ok x) f h = tt
 err_map P Q (Err e) f h = f h
+
+-- an image's file
+
+module _ (name : List ℕ) (old new : Told) where
+  pub opened_here : (i : ℕ) → (IsTrue old.tells → (volume old).names name ≡ Some i)
+      → MadeBy (OpensOrMakes (volume old) name i) old old
+  opened_here i is = record {
+    tells = refl;
+    start = λ _. refl;
+    calls = λ t. ([], sym (append-nil old.calls), inl (is t, refl));
+  }
+
+  pub opened_new : {F E : Type 0} (number : F → ℕ) (i : ℕ) (r : Result F E)
+      → (IsTrue old.tells → (volume old).names name ≡ None) → (IsTrue old.tells → IsNew (volume old) i)
+      → IfOk r (λ f. number f ≡ i) → Made (create name i) r old new
+      → IfOk r (λ f. MadeBy (OpensOrMakes (volume old) name (number f)) old new)
+  opened_new number i (Ok f) free fresh same m =
+      subst (λ (k : ℕ). MadeBy (OpensOrMakes (volume old) name k) old new) (sym same)
+      (made_map (IsDone (create name i)) (OpensOrMakes (volume old) name i) old new
+      (λ t es _ h. inr (free t, fresh t, h)) (made_done (create name i) (Ok f) f old new refl m))
+  opened_new number i (Err e) free fresh same m = tt
+
+  pub not_opened_new : {F E : Type 0} (i : ℕ) (r : Result F E)
+      → (IsTrue old.tells → (volume old).names name ≡ None) → (IsTrue old.tells → IsNew (volume old) i)
+      → Made (create name i) r old new → OnErr r (MadeBy (BreaksMake (volume old) name) old new)
+  not_opened_new i (Ok f) free fresh m = tt
+  not_opened_new i (Err e) free fresh m =
+      made_map (IsBroken (create name i)) (BreaksMake (volume old) name) old new
+      (λ t es _ h. elim h [ inl none ↦ inl none | inr fails ↦ inr (i, free t, fresh t, fails) ])
+      (made_broken (create name i) (Err e) e old new refl m)
+
+-- no call of a kernel that tells
+pub never_told : (P : List Entry → Type 0) (old new : Told) → new.tells ≡ old.tells → (IsTrue old.tells → ⊥)
+    → MadeBy P old new
+never_told P old new same never =
+    record { tells = same; start = λ t. absurd (never t); calls = λ t. absurd (never t) }

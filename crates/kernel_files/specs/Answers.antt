@@ -1,8 +1,9 @@
--- What a kernel tells of itself, and what a call does to that. For contracts and proofs: no promise uses it.
+-- What a kernel tells of itself, and what a call does to that.
 use Rattle.std.specs.Prelude.{◌≡◌, ◌⊎◌, ℕ, ◌+◌, ◌≤◌, Bool, IsTrue, List, [], ◌∷◌, ◌++◌, length, take, slice_range, Result, OnOk, OnErr}
 use Rattle.kernel_files.specs.Volume.{Volume, Call, Entry, Done, Failed, after}
 
--- whether a kernel tells, and then its files at first and all calls since that may change something, in order
+-- Whether a kernel tells, and then its files at first, and in order all calls since that may change a file's bytes or
+-- where a name leads. Calls on folders, rights, owners and locks aren't listed.
 pub record Told : Type 0 where
   pub tells : Bool
   pub start : Volume

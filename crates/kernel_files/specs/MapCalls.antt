@@ -27,7 +27,7 @@ BreaksBegin v name steps es =
     ⊎ (((i : ℕ) × (steps ≡ 0) × IsNew v i × (es ≡ Failed (create name i) ∷ []))
     ⊎ ((i : ℕ) × (steps ≡ 2) × Begins v name i es)))))
 
--- an append that failed: it took `steps` bytes, by calls of which the last may have failed
+-- an append that failed: it took `steps` bytes of the piece, and then a call may have failed, with any bytes
 abbrev pub BreaksAppend : ℕ → List ℕ → ℕ → List Entry → Type 0
 BreaksAppend i piece steps es = (front : List Entry) × Appends i (take steps piece) front
     × ((es ≡ front) ⊎ ((rest : List ℕ) × (es ≡ front ++ Failed (append i rest) ∷ [])))
@@ -36,7 +36,7 @@ BreaksAppend i piece steps es = (front : List Entry) × Appends i (take steps pi
 abbrev pub Removes : Volume → List ℕ → List Entry → Type 0
 Removes v name es = ((v.names name ≡ None) × (es ≡ [])) ⊎ (es ≡ Done (unlink name) ∷ [])
 
--- whether a draft could be made under a name is tried out, or known
+-- whether a draft could be made under a name is tried out, or not
 abbrev pub Tries : Volume → List ℕ → List Entry → Type 0
 Tries v draft es = (es ≡ [])
     ⊎ ((v.names draft ≡ None) × (i : ℕ) × IsNew v i × (es ≡ Done (create draft i) ∷ Done (unlink draft) ∷ []))

@@ -1,4 +1,4 @@
--- What holds at each stop along the calls of a record. For contracts and proofs: no promise uses it.
+-- What holds at each stop along the calls of a record.
 use Rattle.std.specs.Prelude.{List, [], ◌∷◌}
 use Rattle.kernel_files.specs.Volume.{Volume, Entry, Done, Failed, entered}
 

@@ -1,10 +1,13 @@
 //! The calls of a kernel on files.
-ghost use Rattle.std.specs.Prelude.{◌≡◌, ◌+◌, ◌<◌, ◌≤◌, ◌^◌, ℕ, List, Some, None, IsSome, IsTrue, length, take, IfOk, IfErr, OnOk};
+ghost use Rattle.std.specs.Prelude.{◌≡◌, ◌+◌, ◌<◌, ◌≤◌, ◌^◌, ℕ, List, Some, None, IsSome, IsTrue, length, take, IfOk, IfErr, OnOk, OnErr};
 ghost use Rattle.std.specs.IoError.{error_kind};
 ghost use Rattle.kernel_files.specs.Volume.{create, write, append, sync_file, rename, unlink, sync_folder, folder_of, IsNew};
 ghost use Rattle.kernel_files.specs.Answers.{Told, volume, bytes_at, Made, IsReadAt};
+ghost use Rattle.kernel_files.specs.Steps.{MadeBy};
+ghost use Rattle.kernel_files.specs.ImageCalls.{OpensOrMakes, BreaksMake};
 
 use crate::standing::{Access, Kind, Standing};
+use file_identity::identity::Identity;
 use std::io::{self, ErrorKind};
 
 /// Calls of the system on regular files. Each is one call of the kernel. A name that is absent is an error of the kind
@@ -25,6 +28,10 @@ pub trait Kernel: Drop {
     /// The text of the names in an open folder up to their last slash.
     ghost text: { Self.Folder → List ℕ };
 
+    /// How many calls it tells.
+    fn made(&self) -> usize
+        ensures { IsTrue (told self.now).tells → result ≡ length (told self.now).calls };
+
     /// What has a name. A link is not followed.
     fn found(&self, name: &str) -> io::Result<Standing>
         ensures there { IfOk result (λ standing. IsTrue (told self.now).tells
@@ -40,7 +47,14 @@ pub trait Kernel: Drop {
             → (volume (told self.now)).names name.now ≡ None) };
 
     /// What an open file is.
-    fn met(&self, file: &Self::Open) -> io::Result<Standing>;
+    fn met(&self, file: &Self::Open) -> io::Result<Standing>
+        ensures { IfOk result (λ standing. IsTrue (told self.now).tells → standing.kind ≡ Kind.File) };
+
+    /// An open file, and what it lies on, down to disks.
+    fn beneath(&self, file: &Self::Open) -> io::Result<Vec<Identity>>;
+
+    /// The same of an open folder.
+    fn beneath_folder(&self, folder: &Self::Folder) -> io::Result<Vec<Identity>>;
 
     /// Opens the file that a name reaches.
     fn open(&self, name: &str, access: Access) -> io::Result<Self::Open>
@@ -52,6 +66,17 @@ pub trait Kernel: Drop {
     /// Opens the folder of a name.
     fn open_folder(&self, name: &str) -> io::Result<Self::Folder>
         ensures { IfOk result (λ folder. IsTrue (told self.now).tells → text folder ≡ folder_of name.now) };
+
+    /// Opens the folder in which the file lies that a name reaches by links.
+    fn open_target_folder(&self, name: &str) -> io::Result<Self::Folder>;
+
+    /// Opens the file that a name reaches, to be read and written. If none is there it is made (`O_CREAT` without
+    /// `O_EXCL`).
+    fn open_or_make(&mut self, name: &str) -> io::Result<Self::Open>
+        ensures ok { IfOk result (λ file. MadeBy (OpensOrMakes (volume (told self.old)) name.now (number file))
+            (told self.old) (told self.new)) }
+        ensures err { OnErr result (MadeBy (BreaksMake (volume (told self.old)) name.now)
+            (told self.old) (told self.new)) };
 
     /// Makes a new file (`O_CREAT | O_EXCL`), open to be written. A name that is there already is an error.
     fn create_new(&mut self, name: &str) -> io::Result<Self::Open>
@@ -86,6 +111,10 @@ pub trait Kernel: Drop {
     fn length(&self, file: &Self::Open) -> io::Result<u64>
         ensures { IfOk result (λ n. IsTrue (told self.now).tells
             → n ≡ length (bytes_at (told self.now) (number file.now))) };
+
+    /// Gives a file the length that it has.
+    fn set_length(&self, file: &Self::Open, len: u64) -> io::Result<()>
+        requires { IsTrue (told self.now).tells → len ≡ length (bytes_at (told self.now) (number file.now)) };
 
     /// Makes a file's bytes durable.
     fn sync_file(&mut self, file: &Self::Open) -> io::Result<()>

@@ -3,5 +3,4 @@
 
 pub mod kernel;
 pub mod memory;
-pub mod real;
 pub mod standing;

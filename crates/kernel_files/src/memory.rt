@@ -9,6 +9,7 @@ ghost use Rattle.kernel_files.specs.Log.{makes, creates, call_at, told_of};
 
 use crate::kernel::Kernel;
 use crate::standing::{Access, Standing};
+use file_identity::identity::Identity;
 use std::alloc::{AllocError, Global};
 use std::io::{self, ErrorKind};
 
@@ -48,7 +49,9 @@ pub struct MemoryKernel {
 
 impl MemoryKernel {
     /// No call was made.
-    pub fn new(alloc: Global) -> MemoryKernel {
+    pub fn new(alloc: Global) -> MemoryKernel
+        ensures { result.log.items ≡ [] }
+    {
         MemoryKernel {
             alloc,
             log: Vec::new(alloc),
@@ -216,6 +219,10 @@ impl Kernel for MemoryKernel {
 
     ghost text = { λ folder. folder_of folder.name.items };
 
+    fn made(&self) -> usize {
+        self.log.len()
+    }
+
     fn found(&self, name: &str) -> io::Result<Standing> {
         match find(self.log.as_slice(), self.made, name.as_bytes()) {
             Some(number) => Ok(Standing::of_number(number as u64)),
@@ -231,6 +238,14 @@ impl Kernel for MemoryKernel {
         Ok(Standing::of_number(file.number as u64))
     }
 
+    fn beneath(&self, _file: &OpenNode) -> io::Result<Vec<Identity>> {
+        Ok(Vec::new(self.alloc))
+    }
+
+    fn beneath_folder(&self, _folder: &OpenFolder) -> io::Result<Vec<Identity>> {
+        Ok(Vec::new(self.alloc))
+    }
+
     fn open(&self, name: &str, _access: Access) -> io::Result<OpenNode> {
         match find(self.log.as_slice(), self.made, name.as_bytes()) {
             Some(number) => Ok(OpenNode { number }),
@@ -242,6 +257,17 @@ impl Kernel for MemoryKernel {
         match Vec::from_slice(self.alloc, name.as_bytes()) {
             Ok(name) => Ok(OpenFolder { name }),
             Err(_) => Err(ErrorKind::OutOfMemory.into()),
+        }
+    }
+
+    fn open_target_folder(&self, name: &str) -> io::Result<OpenFolder> {
+        self.open_folder(name)
+    }
+
+    fn open_or_make(&mut self, name: &str) -> io::Result<OpenNode> {
+        match find(self.log.as_slice(), self.made, name.as_bytes()) {
+            Some(number) => Ok(OpenNode { number }),
+            None => self.create_new(name),
         }
     }
 
@@ -290,6 +316,10 @@ impl Kernel for MemoryKernel {
             Ok(bytes) => Ok(bytes.len() as u64),
             Err(_) => Err(ErrorKind::OutOfMemory.into()),
         }
+    }
+
+    fn set_length(&self, _file: &OpenNode, _len: u64) -> io::Result<()> {
+        Ok(())
     }
 
     fn sync_file(&mut self, file: &OpenNode) -> io::Result<()> {

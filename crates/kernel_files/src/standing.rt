@@ -1,7 +1,7 @@
 //! What has a name, or is open, and what a file is opened for.
 ghost use Rattle.std.specs.Prelude.{◌≡◌, ◌↔◌, IsTrue};
 
-use kernel_devices::identity::Identity;
+use file_identity::identity::Identity;
 use std::fs::Metadata;
 use std::os::unix::fs::MetadataExt;
 
@@ -34,7 +34,7 @@ pub struct Standing {
 
 impl Standing {
     /// What the system found.
-    pub(crate) fn of(found: &Metadata) -> Standing {
+    pub fn of(found: &Metadata) -> Standing {
         Standing {
             identity: Identity::of(found),
             kind: kind_of(found),

@@ -16,7 +16,8 @@ use Rattle.crash_site.specs.Left.{loose_end, Matches, MayShow}
 use Rattle.crash_site.proofs.DiskLemmas.{holds_self}
 use Rattle.crash_site.proofs.RangeLemmas.{without_rest, without_end}
 use Rattle.kernel_laws.specs.Refines.{as_file, read_at, files_of, Within, IsAmong, IsFirm, Begun, DraftIs, Refines, Inside, Covers, CoversEntry, IsCovered, Imaged, Follows}
-use Rattle.kernel_laws.specs.Calls.{Writes, SyncsImage, BreaksWrite, BreaksSync}
+use Rattle.kernel_files.specs.ImageCalls.{Writes, BreaksWrite}
+use Rattle.kernel_laws.specs.Calls.{SyncsImage, BreaksSync}
 use Rattle.kernel_laws.proofs.Nodes.{file_with, sound_lost, sound_synced}
 use Rattle.kernel_laws.proofs.Names.{is_name, not_name, finds_here, free_at, read_same}
 use Rattle.kernel_laws.proofs.Stops.{along_map, along_end, along_append, run_append}
@@ -620,6 +621,14 @@ module _ (v : Volume) (d : Disk) (o : Option ℕ) (i : ℕ) (name : List ℕ) (r
       (subst (λ (f : Node). Inside f.lost (v.nodes i).loose) (sym is) m.ordered)
       (subst (λ (f : Node). Inside f.lost f.loose) (sym is) (inside_same (v.nodes i).lost))
 
+  bare_follows : (steps : ℕ) (folder : List ℕ) → Follows (bare folder full) (entered d (Failed image_sync steps)) o (Some i)
+  bare_follows steps folder =
+      let is : full.nodes i ≡ synced (v.nodes i) = node_here i synced v in
+      lost_follows steps (bare folder full) (bare_stays folder full full_stays) (ap (λ (f : Node). f.bytes) is) full_covers
+      (subst (λ (f : Node). Inside f.loose (v.nodes i).loose) (sym is) m.ordered)
+      (subst (λ (f : Node). Inside f.lost (v.nodes i).loose) (sym is) m.ordered)
+      (subst (λ (f : Node). Inside f.lost f.loose) (sym is) (inside_same (v.nodes i).lost))
+
   -- after a sync that returned
   abbrev sure : Showing
   sure = shown_synced (Some (file_with (v.nodes i).bytes)) shown
@@ -703,6 +712,10 @@ module _ (v : Volume) (d : Disk) (o : Option ℕ) (i : ℕ) (name : List ℕ) (r
   breaks_sync steps es (n, is, inr (inr (inl made))) =
       subst (λ (l : List Step). FailsAll v d image_sync steps l o (Some i)) (sym made)
       ((first_within steps, half_within steps, full_within steps), full_follows steps)
-  breaks_sync steps es (n, is, inr (inr (inr made))) =
+  breaks_sync steps es (n, is, inr (inr (inr (inl made)))) =
       subst (λ (l : List Step). FailsAll v d image_sync steps l o (Some i)) (sym made)
       ((first_within steps, half_within steps, (full_within steps, full_within steps, full_within steps)), full_follows steps)
+  breaks_sync steps es (n, is, inr (inr (inr (inr made)))) =
+      let folder : List ℕ = folder_of n in
+      subst (λ (l : List Step). FailsAll v d image_sync steps l o (Some i)) (sym made)
+      ((first_within steps, half_within steps, (full_within steps, full_within steps, bare_within steps folder)), bare_follows steps folder)

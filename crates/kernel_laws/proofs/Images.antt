@@ -12,7 +12,7 @@ use Rattle.crash_site.specs.Left.{IsLoose, loose_end}
 use Rattle.crash_site.proofs.RangeLemmas.{without_in, without_out, without_end}
 use Rattle.crash_site.proofs.Written.{length-written, written_before, written_after}
 use Rattle.kernel_laws.specs.Refines.{Inside}
-use Rattle.kernel_laws.specs.Calls.{Writes}
+use Rattle.kernel_files.specs.ImageCalls.{Writes}
 use Rattle.kernel_laws.proofs.Covers.{inside_same, inside_on, inside_both, inside_more, inside_part}
 
 -- A file while a range of it is written.

@@ -1,6 +1,6 @@
 mod Nodes
 mod Names
-mod Stops
+pub mod Stops
 mod Begins
 mod Drafts
 mod Publishes
@@ -16,3 +16,15 @@ mod ImageCalls
 mod Opens
 mod Loses
 mod Asked
+pub mod Deeds
+mod StepsIn
+pub mod Stands
+pub mod AnyStop
+mod Calm
+pub mod Drops
+mod MapCalm
+pub mod MapKeeps
+pub mod ImageKeeps
+mod DraftFiles
+pub mod DraftHolds
+pub mod DraftKeeps

@@ -12,7 +12,8 @@ use Rattle.crash_site.specs.Disk.{Version, Showing, Disk, or_this, newest, lost_
 use Rattle.crash_site.specs.Left.{Matches, MatchesFile, MatchesOne, MayShow}
 use Rattle.crash_site.proofs.DiskLemmas.{holds_self}
 use Rattle.kernel_laws.specs.Refines.{as_file, read_at, Within, IsAmong, IsFirm, Begun, Refines, Covers, CoversEntry, CoversOne, IsCovered}
-use Rattle.kernel_laws.specs.Calls.{Opens, BreaksOpen}
+use Rattle.kernel_files.specs.ImageCalls.{BreaksOpen}
+use Rattle.kernel_laws.specs.Calls.{Opens}
 use Rattle.kernel_laws.proofs.Nodes.{file_with, firm_reads}
 use Rattle.kernel_laws.proofs.Names.{shown, lead_here, may_here, with_new, new_reads, new_sound, begun_new}
 use Rattle.kernel_laws.proofs.Settles.{draft_on, trial_within, any_on, half_made, made_within, made_names, made_free, node_on, made_reads}

@@ -347,7 +347,7 @@ each_failure v d o k p q (map_remove name) steps es h m =
 -- A whole record.
 
 -- at each stop within a call, what is left is what the site's model says of that call in progress
-enters_along : (v : Volume) (d : Disk) (o k p q : Option ℕ) (e : Entry) (es : List Step) → Follows v d o k
+pub enters_along : (v : Volume) (d : Disk) (o k p q : Option ℕ) (e : Entry) (es : List Step) → Follows v d o k
     → Enters v d.reads o k e es p q
     → Along (Within (entered d (in_part e))) v es × Follows (after_steps v es) (entered d e) p q
 enters_along v d o k p q (Done call) es r m = each_call v d o k p q call es r m

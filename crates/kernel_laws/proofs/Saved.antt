@@ -1,5 +1,5 @@
 -- A text that was saved is left, and so is an image that was synced.
-use Rattle.std.proofs.Common.{◌≡◌, inl, inr, ℕ, ◌+◌, List, [], ◌∷◌, ◌++◌, length, Option, None, refl, sym, ◌∙◌, ap, subst, append-nil, arith}
+use Rattle.std.proofs.Common.{◌≡◌, inl, inr, ℕ, ◌+◌, List, [], ◌∷◌, ◌++◌, length, Option, None, sym, ◌∙◌, ap, subst, append-nil, arith}
 use Rattle.std.specs.Str.{bytes_eq}
 use Rattle.std.proofs.lemmas.Bool.{cases_Bool, cond-false, cond-true}
 use Rattle.std.proofs.lemmas.List.{length-append}
@@ -16,11 +16,8 @@ use Rattle.crash_site.proofs.LawLemmas.{until_all, settled_text, synced_is_found
 use Rattle.kernel_laws.specs.Refines.{as_file, Within}
 use Rattle.kernel_laws.specs.Laws.{SavedTextIsLeft, SyncedImageIsLeft, Deed, Runs, entries, steps_of, first_folder}
 use Rattle.kernel_laws.proofs.Names.{is_name}
+use Rattle.kernel_laws.proofs.Deeds.{entries_append}
 use Rattle.kernel_laws.proofs.Refined.{at_first, ended}
-
-entries_append : (a b : List Deed) → entries (a ++ b) ≡ entries a ++ entries b
-entries_append [] b = refl
-entries_append (x ∷ a) b = ap (λ (l : List Entry). x.entry ∷ l) (entries_append a b)
 
 -- this file under a name, and under the others what reads
 left_at : (d : Disk) (name : List ℕ) (file : Option File) → MayShow (d.shows name) file → Leaves d d.reads.files

@@ -1,7 +1,8 @@
 -- The system calls that each call of a site makes.
-use Rattle.std.specs.Prelude.{◌≡◌, ◌⊎◌, ℕ, ◌+◌, ◌≤◌, Bool, true, false, List, [], ◌∷◌, ◌++◌, length, take, Option, Some, None}
-use Rattle.kernel_files.specs.Volume.{Volume, create, write, sync_file, rename, unlink, sync_folder, Entry as Step, Done as Did, Failed as Broke, folder_of, IsNew}
+use Rattle.std.specs.Prelude.{◌≡◌, ◌⊎◌, ℕ, Bool, true, false, List, [], ◌∷◌, ◌++◌, Option, Some, None}
+use Rattle.kernel_files.specs.Volume.{Volume, create, sync_file, rename, unlink, sync_folder, Entry as Step, Done as Did, Failed as Broke, folder_of, IsNew}
 use Rattle.kernel_files.specs.MapCalls.{Begins, Appends, Probes, BreaksBegin, BreaksAppend}
+use Rattle.kernel_files.specs.ImageCalls.{Writes, BreaksOpen, BreaksWrite}
 use Rattle.crash_site.specs.Files.{draft_of}
 use Rattle.crash_site.specs.Calls.{Call, Entry, Done, Failed, image_open, image_read, image_write, image_sync, map_read, draft_begin, draft_append, draft_sync, draft_publish, map_settle, map_remove}
 use Rattle.crash_site.specs.Folder.{Folder}
@@ -30,13 +31,6 @@ Opens v d name make es q = (d.draft ≡ Some name → ⊥) × (v.may name ≡ v.
     ⊎ (((i : ℕ) × (v.names name ≡ None) × (make ≡ true) × IsNew v i × (es ≡ Did (create name i) ∷ []) × (q ≡ Some i))
     ⊎ ((v.names name ≡ None) × (make ≡ false) × (es ≡ []) × (q ≡ None))))
 
--- a piece is written from a place on, by one call or by several short ones
-abbrev pub Writes : ℕ → ℕ → List ℕ → List Step → Type 0
-Writes i pos piece [] = piece ≡ []
-Writes i pos piece (Did (write j at p) ∷ es) =
-    (rest : List ℕ) × (j ≡ i) × (at ≡ pos) × (piece ≡ p ++ rest) × Writes i (pos + length p) rest es
-Writes i pos piece (e ∷ es) = ⊥
-
 -- the image is synced, and then its folder, unless its entry is durable already; without an image nothing is done
 abbrev pub SyncsImage : Volume → Folder → Option ℕ → List Step → Type 0
 SyncsImage v d None es = es ≡ []
@@ -64,24 +58,13 @@ Makes v d o k (map_settle name) es p q = (d.draft ≡ Some name → ⊥) × Sett
 Makes v d o k (map_remove name) es p q = (d.draft ≡ Some name → ⊥)
     × (((v.names name ≡ None) × (es ≡ [])) ⊎ (es ≡ Did (unlink name) ∷ [])) × (p ≡ o) × IsApart d name × (q ≡ k)
 
--- an open of the image that failed: before it made the file, or after that
-abbrev pub BreaksOpen : Volume → List ℕ → Bool → ℕ → List Step → Type 0
-BreaksOpen v name make steps es = ((steps ≡ 0) × (es ≡ []))
-    ⊎ ((i : ℕ) × (v.names name ≡ None) × (make ≡ true) × IsNew v i
-    × (((steps ≡ 0) × (es ≡ Broke (create name i) ∷ [])) ⊎ ((steps ≡ 1) × (es ≡ Did (create name i) ∷ []))))
-
--- a write that failed: it took `steps` bytes, by calls of which the last may have failed, within the piece
-abbrev pub BreaksWrite : ℕ → ℕ → List ℕ → ℕ → List Step → Type 0
-BreaksWrite i pos piece steps es = (front : List Step) × (steps ≤ length piece) × Writes i pos (take steps piece) front
-    × ((es ≡ front) ⊎ ((rest : List ℕ) × (steps + length rest ≤ length piece)
-    × (es ≡ front ++ Broke (write i (pos + steps) rest) ∷ [])))
-
--- a sync of the image that failed: before its calls, at one of them, or between them
+-- a sync of the image that failed: before its calls, at one of them, between them, or after both
 abbrev pub BreaksSync : Folder → Option ℕ → List Step → Type 0
 BreaksSync d None es = es ≡ []
 BreaksSync d (Some i) es = (name : List ℕ) × (d.image ≡ Some name)
     × ((es ≡ []) ⊎ ((es ≡ Broke (sync_file i) ∷ []) ⊎ ((es ≡ Did (sync_file i) ∷ [])
-    ⊎ (es ≡ Did (sync_file i) ∷ Broke (sync_folder (folder_of name)) ∷ []))))
+    ⊎ ((es ≡ Did (sync_file i) ∷ Broke (sync_folder (folder_of name)) ∷ [])
+    ⊎ (es ≡ Did (sync_file i) ∷ Did (sync_folder (folder_of name)) ∷ [])))))
 
 -- a settle that failed: at its first calls, at the removal of the empty draft, which it then leaves, or at a sync, which
 -- isn't that of the open image

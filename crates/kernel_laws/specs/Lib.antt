@@ -3,3 +3,5 @@ pub mod Calls
 pub mod Laws
 pub mod Loses
 pub mod Asked
+pub mod Deeds
+pub mod Site

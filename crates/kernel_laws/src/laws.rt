@@ -1,7 +1,8 @@
 //! The laws.
-ghost use Rattle.kernel_laws.specs.Asked.{SettleIsAsAsked, FailedSettleIsAsAsked};
+ghost use Rattle.kernel_laws.specs.Asked.{SettleIsAsAsked, FailedSettleIsAsAsked, OpenIsAsAsked, SyncIsAsAsked, FailedSyncIsAsAsked};
 ghost use Rattle.kernel_laws.specs.Laws.{EachCallRefines, EachFailureRefines, EachStopRefines, EachEndRefines, SavedTextIsLeft, SyncedImageIsLeft, RetriedSettleIsNotRefined};
 ghost use Rattle.kernel_laws.specs.Loses.{ReadFilesMayBeFound, OldNameMayBeFound, UnsyncedWriteMayBeMissing, UnsyncedPieceMayBeAny, UnsyncedEndMayBeAny, LostPieceMayBeAny};
+ghost use Rattle.kernel_laws.specs.Site.{AnyStopIsLeft};
 
 /// Each call of a site that returned keeps the refinement.
 pub fn each_call_refines()
@@ -21,6 +22,11 @@ pub fn each_stop_refines()
 /// What is left after a run is what the site's model says.
 pub fn each_end_refines()
     ensures { EachEndRefines }
+{}
+
+/// What any stop of the kernel leaves, the site's record may leave.
+pub fn any_stop_is_left()
+    ensures { AnyStopIsLeft }
 {}
 
 /// A text that was saved is all that the kernel leaves under its name.
@@ -76,4 +82,19 @@ pub fn settle_is_as_asked()
 /// The contract of a settle gives what the laws ask of one that failed.
 pub fn failed_settle_is_as_asked()
     ensures { FailedSettleIsAsAsked }
+{}
+
+/// The contract of an open of the image gives what the laws ask of it.
+pub fn open_is_as_asked()
+    ensures { OpenIsAsAsked }
+{}
+
+/// The contract of a sync of the image gives what the laws ask of it.
+pub fn sync_is_as_asked()
+    ensures { SyncIsAsAsked }
+{}
+
+/// The contract of a sync of the image gives what the laws ask of one that failed.
+pub fn failed_sync_is_as_asked()
+    ensures { FailedSyncIsAsAsked }
 {}

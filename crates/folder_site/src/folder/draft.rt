@@ -1,16 +1,17 @@
 //! The draft of a mapfile: begun, appended to, synced, renamed.
-ghost use Rattle.std.specs.Prelude.{◌≡◌, ◌≤◌, length, string_bytes, OnOk, OnErr, IfOk};
-ghost use Rattle.kernel_files.specs.Volume.{unlink, sync_file, rename};
+ghost use Rattle.std.specs.Prelude.{◌≡◌, ◌≤◌, ℕ, true, false, None, Some, option_map, IsTrue, length, string_bytes, OnOk, OnErr, IfOk};
+ghost use Rattle.kernel_files.specs.Volume.{create, unlink, sync_file, rename, IsNew};
 ghost use Rattle.kernel_files.specs.Answers.{volume, Made};
 ghost use Rattle.kernel_files.specs.Steps.{MadeBy, IsBroken};
 ghost use Rattle.kernel_files.specs.MapCalls.{Begins, Appends, Removes};
+ghost use Rattle.folder_site.specs.Told.{flag_of};
 ghost use Rattle.folder_site.specs.Drafts.{BreaksBeginAt, BreaksAppendAt, AppendsOne, BreaksOne};
 
 use crate::folder::apart::Apart;
 use crate::folder::held::{HeldMap, check_free, check_map_free};
 use crate::folder::mapfile::find_map;
 use crate::folder::names::find;
-use kernel_devices::identity::Identity;
+use file_identity::identity::Identity;
 use kernel_files::kernel::Kernel;
 use kernel_files::standing::Standing;
 use std::alloc::Global;
@@ -22,9 +23,33 @@ const RIGHTS: u32 = 0o777;
 /// A begun draft under its own name. It is locked.
 #[derive(Drop)]
 pub(super) struct OpenDraft<K: Kernel> {
-    file: K::Open,
-    name: String,
+    pub file: K::Open,
+    pub name: String,
     identity: Identity,
+    /// It was synced since it was last added to.
+    pub is_firm: bool,
+    /// A call on it failed, so that no sync makes all of it durable.
+    pub is_lost: bool,
+}
+
+/// Whether a draft is begun under this name.
+pub(super) fn is_draft<K: Kernel>(draft: &Option<OpenDraft<K>>, name: &str) -> bool
+    ensures { result ≡ false → option_map (λ d. string_bytes d.name) draft.now ≡ Some name.now → ⊥ }
+{
+    match draft {
+        Some(draft) => draft.name.as_str() == name,
+        None => false,
+    }
+}
+
+/// Whether a call on the draft failed, or none is begun.
+pub(super) fn is_lost<K: Kernel>(draft: &Option<OpenDraft<K>>) -> bool
+    ensures { result ≡ flag_of (option_map (λ d. d.is_lost) draft.now) }
+{
+    match draft {
+        Some(draft) => draft.is_lost,
+        None => true,
+    }
 }
 
 /// Frees a draft's name. A file that has it loses it; a folder keeps it, and so does the draft of another run.
@@ -41,6 +66,16 @@ fn clear_name<K: Kernel>(kernel: &mut K, apart: &Apart<'_>, name: &str) -> io::R
         }
         None => Ok(()),
     }
+}
+
+/// Makes a new file, open to be written.
+fn make_draft<K: Kernel>(kernel: &mut K, name: &str) -> io::Result<K::Open>
+    ensures { (i : ℕ) × (IsTrue (K.told kernel.old).tells → IsNew (volume (K.told kernel.old)) i)
+        × IfOk result (λ file. K.number file ≡ i)
+        × OnOk result (IsTrue (K.told kernel.old).tells → (volume (K.told kernel.old)).names name.now ≡ None)
+        × Made (create name.now i) result (K.told kernel.old) (K.told kernel.new) }
+{
+    kernel.create_new(name)
 }
 
 /// Writes some front of a piece at a file's end, and gives the rest. A write that is interrupted wrote nothing, and one
@@ -91,36 +126,49 @@ impl<K: Kernel> OpenDraft<K> {
         ensures ok { IfOk result (λ draft. MadeBy (Begins (volume (K.told kernel.old)) name.now (K.number draft.file))
             (K.told kernel.old) (K.told kernel.new)) }
         ensures name { IfOk result (λ draft. string_bytes draft.name ≡ name.now) }
+        ensures fresh { IfOk result (λ draft. (draft.is_firm ≡ false) × (draft.is_lost ≡ false)) }
         ensures err { OnErr result (MadeBy (BreaksBeginAt (volume (K.told kernel.old)) name.now)
             (K.told kernel.old) (K.told kernel.new)) }
     {
         clear_name(kernel, apart, name)?;
         let copy = String::from_str(alloc, name)?;
-        let file = kernel.create_new(name)?;
+        let file = make_draft(kernel, name)?;
         kernel.lock(&file)?;
         let identity = kernel.met(&file)?.identity;
         Ok(OpenDraft {
             file,
             name: copy,
             identity,
+            is_firm: false,
+            is_lost: false,
         })
     }
 
     /// Adds a piece at the draft's end.
-    pub fn append(&self, kernel: &mut K, piece: &[u8]) -> io::Result<()>
-        ensures ok { OnOk result (MadeBy (Appends (K.number self.now.file) piece.now)
+    pub fn append(&mut self, kernel: &mut K, piece: &[u8]) -> io::Result<()>
+        ensures ok { OnOk result (MadeBy (Appends (K.number self.old.file) piece.now)
             (K.told kernel.old) (K.told kernel.new)) }
-        ensures err { OnErr result (MadeBy (BreaksAppendAt (K.number self.now.file) piece.now)
+        ensures err { OnErr result (MadeBy (BreaksAppendAt (K.number self.old.file) piece.now)
             (K.told kernel.old) (K.told kernel.new)) }
+        ensures done { OnOk result (self.new ≡ record self.old { is_firm = false }) }
+        ensures lost { OnErr result (self.new ≡ record self.old { is_firm = false; is_lost = true }) }
     {
-        append_all(kernel, &self.file, piece)
+        self.is_firm = false;
+        let outcome = append_all(kernel, &self.file, piece);
+        self.is_lost = self.is_lost || outcome.is_err();
+        outcome
     }
 
     /// Makes the draft's bytes durable.
-    pub fn sync(&self, kernel: &mut K) -> io::Result<()>
-        ensures { Made (sync_file (K.number self.now.file)) result (K.told kernel.old) (K.told kernel.new) }
+    pub fn sync(&mut self, kernel: &mut K) -> io::Result<()>
+        ensures made { Made (sync_file (K.number self.old.file)) result (K.told kernel.old) (K.told kernel.new) }
+        ensures done { OnOk result (self.new ≡ record self.old { is_firm = true }) }
+        ensures lost { OnErr result (self.new ≡ record self.old { is_firm = false; is_lost = true }) }
     {
-        kernel.sync_file(&self.file)
+        let outcome = kernel.sync_file(&self.file);
+        self.is_firm = outcome.is_ok();
+        self.is_lost = self.is_lost || outcome.is_err();
+        outcome
     }
 
     /// Gives the draft the mode and the owner of a mapfile that is there. What is no regular file, such as a device,
@@ -147,14 +195,15 @@ impl<K: Kernel> OpenDraft<K> {
         self,
         kernel: &mut K,
         apart: &Apart<'_>,
-        held: &Option<HeldMap<K>>,
+        held: &mut Option<HeldMap<K>>,
         name: &str,
-    ) -> io::Result<HeldMap<K>>
+    ) -> io::Result<()>
         ensures { Made (rename (string_bytes self.name) name.now) result (K.told kernel.old) (K.told kernel.new) }
     {
         self.prepare(kernel, apart, held, name)?;
         kernel.rename(self.name.as_str(), name)?;
-        Ok(HeldMap::keep(self.file, self.identity))
+        *held = Some(HeldMap::keep(self.file, self.identity));
+        Ok(())
     }
 }
 

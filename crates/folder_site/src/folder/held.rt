@@ -1,7 +1,7 @@
 //! The locks on a mapfile and on its draft, by which rescues with the same mapfile keep apart.
 use crate::folder::apart::Apart;
 use crate::folder::names::open_as;
-use kernel_devices::identity::Identity;
+use file_identity::identity::Identity;
 use kernel_files::kernel::Kernel;
 use kernel_files::standing::{Access, Standing};
 use std::io;

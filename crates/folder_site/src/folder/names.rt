@@ -1,63 +1,68 @@
-//! The folder that holds a file, and its sync.
-ghost use Rattle.std.specs.Prelude.{◌≡◌, Some, None, IsNone, IsTrue, IfOk};
+//! What has a name, opened or found, and the folder that holds it.
+ghost use Rattle.std.specs.Prelude.{◌≡◌, true, Some, None, IsSome, IsNone, IsTrue, IfOk, IfErr, IfSome};
+ghost use Rattle.std.specs.IoError.{error_kind};
+ghost use Rattle.kernel_files.specs.Volume.{folder_of};
 ghost use Rattle.kernel_files.specs.Answers.{volume};
 
-use kernel_devices::names::folder_of;
 use kernel_files::kernel::Kernel;
-use kernel_files::standing::{Access, Standing};
-use real_files::outcome::{folder_synced, if_allowed};
-use std::fs::{self, File, OpenFile, OpenOptions};
+use kernel_files::standing::{Access, Kind, Standing};
 use std::io::{self, ErrorKind};
 
 /// The folder in which the file lies that a name reaches.
-fn open_folder(rt: &HostRuntime, name: &str) -> io::Result<File> {
-    if !fs::symlink_metadata(rt, name)?.is_symlink() {
-        return File::open(rt, folder_of(name));
+fn open_folder<K: Kernel>(kernel: &K, name: &str) -> io::Result<K::Folder>
+    ensures { IfOk result (λ folder. IsTrue (K.told kernel.now).tells → K.text folder ≡ folder_of name.now) }
+{
+    if kernel.found(name)?.kind == Kind::Link {
+        kernel.open_target_folder(name)
+    } else {
+        kernel.open_folder(name)
     }
-    let real = fs::canonicalize(rt, name)?;
-    File::open(rt, folder_of(real.as_str()))
 }
 
 /// The folder of a file. One that can't be read can't be synced: that is an error if the file was made here, since its
 /// entry would not be durable.
-pub(super) fn folder_for(rt: &HostRuntime, name: &str, made: bool) -> io::Result<Option<File>> {
-    if_allowed(open_folder(rt, name), made)
-}
-
-/// Syncs a folder, which makes its entries durable, if its file system can.
-pub(super) fn sync_entries<F: OpenFile>(folder: &F) -> io::Result<()> {
-    folder_synced(folder.sync_all())
-}
-
-/// Makes a file durable, and then its folder's entries, if that is open.
-pub(super) fn sync_both<F: OpenFile, G: OpenFile>(file: &F, folder: Option<&G>) -> io::Result<()> {
-    file.sync_all()?;
-    match folder {
-        Some(folder) => sync_entries(folder),
-        None => Ok(()),
-    }
-}
-
-/// Opens a file with these rights, or, if they aren't granted, only to write it.
-pub(super) fn open_with(rt: &HostRuntime, rights: &OpenOptions, name: &str) -> io::Result<File> {
-    match rights.open(rt, name) {
-        Err(error) if error.kind() == ErrorKind::PermissionDenied => {
-            OpenOptions::new().write(true).open(rt, name)
-        }
-        outcome => outcome,
+pub(super) fn folder_for<K: Kernel>(
+    kernel: &K,
+    name: &str,
+    made: bool,
+) -> io::Result<Option<K::Folder>>
+    ensures folder { IfOk result (λ found. IfSome found (λ folder. IsTrue (K.told kernel.now).tells
+        → K.text folder ≡ folder_of name.now)) }
+    ensures made { IfOk result (λ found. made ≡ true → IsSome found) }
+{
+    match open_folder(kernel, name) {
+        Ok(folder) => Ok(Some(folder)),
+        Err(error) if !made && error.kind() == ErrorKind::PermissionDenied => Ok(None),
+        Err(error) => Err(error),
     }
 }
 
 /// Opens a file for this, or, if that isn't granted, only to write it.
 pub(super) fn open_as<K: Kernel>(kernel: &K, name: &str, access: Access) -> io::Result<K::Open>
-    ensures { IfOk result (λ file. IsTrue (K.told kernel.now).tells
+    ensures there { IfOk result (λ file. IsTrue (K.told kernel.now).tells
         → (volume (K.told kernel.now)).names name.now ≡ Some (K.number file)) }
+    ensures absent { IfErr result (λ e. error_kind e ≡ ErrorKind.NotFound → IsTrue (K.told kernel.now).tells
+        → (volume (K.told kernel.now)).names name.now ≡ None) }
 {
     match kernel.open(name, access) {
         Err(error) if error.kind() == ErrorKind::PermissionDenied => {
             kernel.open(name, Access::Write)
         }
         outcome => outcome,
+    }
+}
+
+/// Opens a file to read and write it, or only to write it, if it is there.
+pub(super) fn open_found<K: Kernel>(kernel: &K, name: &str) -> io::Result<Option<K::Open>>
+    ensures there { IfOk result (λ found. IfSome found (λ file. IsTrue (K.told kernel.now).tells
+        → (volume (K.told kernel.now)).names name.now ≡ Some (K.number file))) }
+    ensures absent { IfOk result (λ found. IsNone found → IsTrue (K.told kernel.now).tells
+        → (volume (K.told kernel.now)).names name.now ≡ None) }
+{
+    match open_as(kernel, name, Access::Both) {
+        Ok(file) => Ok(Some(file)),
+        Err(error) if error.kind() == ErrorKind::NotFound => Ok(None),
+        Err(error) => Err(error),
     }
 }
 

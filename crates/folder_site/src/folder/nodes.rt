@@ -1,8 +1,8 @@
 //! No image is made among the kernel's device nodes: in place of a disk that is gone there would be a file in memory.
 ghost use Rattle.std.specs.Prelude.{◌≡◌, ◌⊎◌, ◌↔◌, IsTrue, codes};
 
+use file_identity::names::folder_of;
 use kernel_devices::mounts::{device_text, find_mount, read_mounts};
-use kernel_devices::names::folder_of;
 use std::fs;
 use std::io::{self, ErrorKind};
 use std::os::unix::fs::MetadataExt;

@@ -4,15 +4,15 @@ ghost use Rattle.kernel_files.specs.Volume.{sync_folder, folder_of};
 ghost use Rattle.kernel_files.specs.Answers.{volume, Made};
 ghost use Rattle.kernel_files.specs.Steps.{MadeBy};
 ghost use Rattle.kernel_files.specs.MapCalls.{Tries, Probes, SyncsFound, SettlesFound, BreaksTry, BreaksSyncs, BreaksSettles};
-ghost use Rattle.folder_site.specs.Settles.{BreaksProbes, SyncsReached, BreaksReached};
+ghost use Rattle.folder_site.specs.Settles.{BreaksProbes, NoCalls, SyncsReached, BreaksReached};
 
 use crate::folder::apart::Apart;
 use crate::folder::held::{HeldMap, check_free, hold_map};
 use crate::folder::mapfile::find_map;
-use crate::folder::names::{find, folder_for, open_as, sync_entries};
+use crate::folder::names::{find, open_as};
 use kernel_files::kernel::Kernel;
 use kernel_files::standing::{Access, Kind};
-use real_files::outcome::removable;
+use real_files::outcome::{if_allowed, removable};
 use std::io::{self, ErrorKind};
 
 /// Makes the entries of a mapfile's folder durable, and then the mapfile itself if it is there. A saved draft was
@@ -32,31 +32,36 @@ pub(super) fn settle<K: Kernel>(
         (K.told kernel.old) (K.told kernel.new)) }
 {
     if saves && held.is_none() {
-        apart.check_folder(rt, name)?;
+        apart.check_folder(kernel, name)?;
     }
     hold_map(kernel, apart, held, name)?;
     ask_for_saves(rt, kernel, apart, name, saves)?;
-    sync_map(rt, kernel, apart, name)
+    sync_map(kernel, apart, name)
 }
 
 /// Makes the entries of a mapfile's folder durable, and then the file that has its name.
-fn sync_map<K: Kernel>(
-    rt: &HostRuntime,
-    kernel: &mut K,
-    apart: &Apart<'_>,
-    name: &str,
-) -> io::Result<()>
+fn sync_map<K: Kernel>(kernel: &mut K, apart: &Apart<'_>, name: &str) -> io::Result<()>
     ensures ok { OnOk result (MadeBy (SyncsFound name.now ((volume (K.told kernel.old)).names name.now))
         (K.told kernel.old) (K.told kernel.new)) }
     ensures err { OnErr result (MadeBy (BreaksSyncs name.now ((volume (K.told kernel.old)).names name.now))
         (K.told kernel.old) (K.told kernel.new)) }
 {
-    let found = find_map(kernel, apart, name)?;
-    sync_folder_of(kernel, name)?;
-    match found {
-        Some(_) => sync_reached(rt, kernel, name),
-        None => Ok(()),
+    match find_map(kernel, apart, name)? {
+        Some(_) => sync_found(kernel, name),
+        None => sync_folder_of(kernel, name),
     }
+}
+
+/// Makes the entries of a mapfile's folder durable, and then the mapfile, which is there.
+fn sync_found<K: Kernel>(kernel: &mut K, name: &str) -> io::Result<()>
+    ensures ok { OnOk result (MadeBy (SyncsFound name.now ((volume (K.told kernel.old)).names name.now))
+        (K.told kernel.old) (K.told kernel.new)) }
+    ensures err { OnErr result (MadeBy (BreaksSyncs name.now ((volume (K.told kernel.old)).names name.now))
+        (K.told kernel.old) (K.told kernel.new)) }
+{
+    sync_folder_of(kernel, name)?;
+    sync_reached(kernel, name)?;
+    Ok(())
 }
 
 /// Makes the entries of a name's folder durable.
@@ -69,19 +74,28 @@ fn sync_folder_of<K: Kernel>(kernel: &mut K, name: &str) -> io::Result<()>
 
 /// Makes the file durable that a name reaches, and before it, if the name is a link, the entry to which it leads, which
 /// may lie in another folder.
-fn sync_reached<K: Kernel>(rt: &HostRuntime, kernel: &mut K, name: &str) -> io::Result<()>
+fn sync_reached<K: Kernel>(kernel: &mut K, name: &str) -> io::Result<()>
     ensures ok { OnOk result (MadeBy (SyncsReached (volume (K.told kernel.old)) name.now)
         (K.told kernel.old) (K.told kernel.new)) }
     ensures err { OnErr result (MadeBy (BreaksReached (volume (K.told kernel.old)) name.now)
         (K.told kernel.old) (K.told kernel.new)) }
 {
     let file = open_as(kernel, name, Access::Read)?;
-    if kernel.found(name)?.kind == Kind::Link {
-        if let Some(folder) = folder_for(rt, name, false)? {
-            sync_entries(&folder)?;
-        }
-    }
+    sync_target(kernel, name)?;
     kernel.sync_file(&file)
+}
+
+/// Makes the entry durable to which a link leads, if its folder can be opened. What is no link is left alone.
+fn sync_target<K: Kernel>(kernel: &mut K, name: &str) -> io::Result<()>
+    ensures { MadeBy NoCalls (K.told kernel.old) (K.told kernel.new) }
+{
+    if kernel.found(name)?.kind != Kind::Link {
+        return Ok(());
+    }
+    match if_allowed(kernel.open_target_folder(name), false)? {
+        Some(target) => kernel.sync_folder(&target),
+        None => Ok(()),
+    }
 }
 
 /// Whether a draft could be made beside a mapfile, and take its place, if there are to be any. No file that is there is

@@ -17,7 +17,7 @@ pub returns-in_err-file-clause-err : goal.returns-in_err-file-clause-err
 returns-in_err-file-clause-err g c =
     let old = g.K.Kernel.told c.args.kernel.now in
     let mid = g.K.Kernel.told c.clear_name.new.kernel in
-    let k = c.create_new.ensures in
+    let k = c.make_draft.ensures in
     let q = err_from_is_err_and c.from_residual-in_err-file.result c.from_residual-in_err-file.ensures.1 in
     rw q.1
     (not_created c.args.name.now old mid _ k.0 k.1 c.in_ok-clear_name.ensures.ok
@@ -27,7 +27,7 @@ pub returns-in_err-lock-clause-err : goal.returns-in_err-lock-clause-err
 returns-in_err-lock-clause-err g c =
     let old = g.K.Kernel.told c.args.kernel.now in
     let mid = g.K.Kernel.told c.clear_name.new.kernel in
-    let k = c.create_new.ensures in
+    let k = c.make_draft.ensures in
     let q = err_from_is_err_and c.from_residual-in_err-lock.result c.from_residual-in_err-lock.ensures.1 in
     rw q.1
     (begun_late c.args.name.now old mid _ k.0
@@ -37,7 +37,7 @@ pub returns-in_err-identity-clause-err : goal.returns-in_err-identity-clause-err
 returns-in_err-identity-clause-err g c =
     let old = g.K.Kernel.told c.args.kernel.now in
     let mid = g.K.Kernel.told c.clear_name.new.kernel in
-    let k = c.create_new.ensures in
+    let k = c.make_draft.ensures in
     let q = err_from_is_err_and c.from_residual-in_err-identity.result c.from_residual-in_err-identity.ensures.1 in
     rw q.1
     (begun_late c.args.name.now old mid _ k.0
@@ -48,6 +48,6 @@ returns-clause-ok g c =
     let old = g.K.Kernel.told c.args.kernel.now in
     let mid = g.K.Kernel.told c.clear_name.new.kernel in
     let k = c.in_ok-file.ensures in
-    let new = g.K.Kernel.told c.create_new.new.self in
+    let new = g.K.Kernel.told c.make_draft.new.kernel in
     subst (λ (i : ℕ). MadeBy (Begins (volume old) c.args.name.now i) old new) (sym k.2)
     (begun c.args.name.now old mid new k.0 k.1 c.in_ok-clear_name.ensures.ok (made_done _ _ _ _ _ refl k.4))

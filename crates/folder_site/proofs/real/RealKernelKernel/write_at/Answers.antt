@@ -1,0 +1,10 @@
+use Rattle.std.proofs.Common.{ℕ, [], false, refl, take}
+use Rattle.kernel_files.specs.Volume.{write}
+use Rattle.kernel_files.specs.Log.{empty_volume}
+use Rattle.folder_site.proofs.Silent.{silent_write}
+use Rattle.folder_site.proofs.real.RealKernelKernel.write_at.Goals as goal
+
+pub returns-clause-made : goal.returns-clause-made
+returns-clause-made c =
+    silent_write (λ (n : ℕ). write 0 c.args.pos (take n c.args.piece.now)) c.write_at.result c.args.piece.now
+    (record { tells = false; start = empty_volume; calls = [] }) refl c.write_at.ensures.bound

@@ -1,0 +1,3 @@
+pub mod Record
+pub mod Memory
+pub mod MemoryState
