@@ -4,7 +4,7 @@ use Rattle.std.proofs.lemmas.List.Elements.{All-head, All-tail}
 use Rattle.block_list.specs.declared.status.Status.{Status}
 use Rattle.mapfile_text.specs.declared.state.MapState.{MapState}
 use Rattle.crash_site.specs.Files.{File}
-use Rattle.crash_site.specs.Calls.{Call, Entry, Done, Failed, image_open, image_sync, map_read, map_settle}
+use Rattle.crash_site.specs.Calls.{Call, Entry, Done, Failed, image_open, image_sync, map_settle}
 use Rattle.rescue_rules.specs.Setting.{Setting}
 use Rattle.rescue_rules.specs.Stops.{files_before, has_barrier, is_settle, returned}
 use Rattle.rescue_rules.specs.Work.{Gain, opening_calls, GoesOn, InOpening, InLoad, InRun, Goes, InMaps, AfterMaps, AreMapReads, is_map_read}
@@ -18,12 +18,9 @@ use Rattle.rescue_safety.proofs.Texts.{cut_take}
 use Rattle.rescue_safety.proofs.ThenLemmas.{load as loaded}
 use Rattle.saved_laws.specs.Laws.{ReadsComeAfterTheBarrier}
 use Rattle.saved_laws.proofs.SavedLemmas.{synced}
+use Rattle.rescue_safety.proofs.QuietLemmas.{unsettled}
 
 -- ---- reads of maps settle nothing
-
-read_unsettled : (c : Call) → is_map_read c ≡ true → is_settle (Done c) ≡ false
-read_unsettled (map_read name at size answer) is = refl
-read_unsettled c is = absurd (cc)
 
 abbrev IsMapRead : Call → Type 0
 IsMapRead c = is_map_read c ≡ true
@@ -37,7 +34,7 @@ reads_unsettled (c ∷ cs) (Done z ∷ es) reads cut =
       count_step is_settle (Done z) es,
       reads_unsettled cs es (All-tail IsMapRead c cs reads) cut.1,
       ap (λ (b : Bool). add b 0)
-          (ap (λ (d : Call). is_settle (Done d)) cut.0 ∙ read_unsettled c (All-head IsMapRead c cs reads)),
+          (ap (λ (d : Call). is_settle (Done d)) cut.0 ∙ unsettled c (All-head IsMapRead c cs reads)),
     )
 reads_unsettled (c ∷ cs) (Failed z steps ∷ es) reads cut =
     ap (λ (l : List Entry). settled (Failed z steps ∷ l)) cut.1
@@ -50,7 +47,7 @@ record IsSynced (es : List Entry) : Type 0 where
   rest : List Entry
   is : es ≡ front ++ Done image_sync ∷ rest
 
-one_counts : (b : Bool) → add b 0 ≤ 1
+pub one_counts : (b : Bool) → add b 0 ≤ 1
 one_counts true = omega arith
 one_counts false = omega arith
 

@@ -4,7 +4,7 @@ use Rattle.std.proofs.lemmas.List.{length-drop, map-append}
 use Rattle.block_list.specs.declared.status.Status.{Status}
 use Rattle.mapfile_text.specs.declared.state.MapState.{MapState}
 use Rattle.crash_site.specs.declared.site.SiteCall.{SiteCall}
-use Rattle.crash_site.specs.Files.{File, file_named}
+use Rattle.crash_site.specs.Files.{File}
 use Rattle.crash_site.specs.Calls.{Call, Entry, Done as Returned, image_open}
 use Rattle.mapfile_save.specs.MapNames.{names_of}
 use Rattle.rescue_rules.specs.declared.stop.Stop.{Stop}
@@ -27,9 +27,9 @@ use Rattle.task_files.specs.Asked.{Maps, setting_of}
 use Rattle.task_files.specs.Maps.{found_in, mapfile_of}
 use Rattle.task_files.specs.Work.{answer_of, Rescues, rescue_faults, rescue_rows, worked_rows, barrier_of}
 use Rattle.ddrescue_words.specs.Command.{Command}
-use Rattle.ddrescue_cli.proofs.GoesLemmas.{setting_by}
 use Rattle.rescue_safety.proofs.BegunLemmas.{count_both}
 use Rattle.rescue_safety.proofs.SettleLemmas.{settled}
+use Rattle.ddrescue_laws.proofs.DoneLemmas.{file_in}
 
 -- work that read nothing, or went through its rows
 passed_or : {E : Type 0} (f : Faults E) (steps : List (WorkStep E)) (run : E → Deeds → Type 0) (e : E) (d : Deeds)
@@ -82,12 +82,6 @@ pub record EndedWork (s : Setting) (files : List ℕ → Option File) (g : Gain)
   pub reads : reads_of (events_in g) ≡ g.reads
   pub settles : s.has_mapfile ≡ true → 1 ≤ settled front
   pub calls : g.calls ≡ front ++ last_calls s (begins s statuses state g) (events_in g)
-
--- the mapfile of a command is that of its setting
-file_in : (c : Command) (mapfile : Option (List ℕ)) (line : List ℕ) (end : ℕ) (maps : Maps) (files : List ℕ → Option File)
-    → file_named mapfile files ≡ mapfile_in (setting_by c (option_map names_of mapfile) line end maps) files
-file_in c None line end maps files = refl
-file_in c (Some n) line end maps files = refl
 
 -- the barrier settles a mapfile
 barrier_settles : (mapfile : Option (List ℕ)) → is_some (option_map names_of mapfile) ≡ true

@@ -185,9 +185,6 @@ module _ (U : Status → Type 0) (V : ℕ → Reading → Type 0) (are : AreFail
 
     module _ (m : Machine) (r : Reading) (t : Taking s m r) (asks : IsRequest s m r.pos (r.pos + r.asked))
         (order : IsInOrder s m) (u : Status) (so : U u) where
-      abbrev Back : Type 0
-      Back = Fails m.map ⊎ InVain r
-
       abbrev rest : List Status
       rest = with_rest s m r
 
@@ -437,9 +434,6 @@ module _ (U : Status → Type 0) (V : ℕ → Reading → Type 0) (are : AreFail
   abbrev old : Option File
   old = files_before (b r) (s r).names.map
 
-  abbrev Was : Type 0
-  Was = (was : Status) × U was × Marks (files_before (b r) (s r).names.map) was x
-
   abbrev Source : Type 0
   Source = ((was : Status) × U was × Marks (files_before (b r) (s r).names.map) was x) ⊎ Asked U V are (s r) (ok r) x (reads_until (s r).sector (suc (writes_in (take (k + 1) (g r).calls))) (g r).reads)
 
@@ -552,10 +546,8 @@ bad_again Finished is = is
 
 bad_retrimmed : (w : Status) → IsBad (trimmed_again w) → IsBad w
 bad_retrimmed BadSector is = refl
-bad_retrimmed NonTried is = is
-bad_retrimmed NonTrimmed is = is
 bad_retrimmed NonScraped is = absurd (cc)
-bad_retrimmed Finished is = is
+bad_retrimmed _ is = is
 
 -- a request outside copying is of a sector at most
 size_outside : (s : Setting) (m : Machine) (phase : Phase) (mode : TrimMode) → copies phase ≡ false
@@ -622,17 +614,13 @@ HasFailed u = has_failed u ≡ true
 
 failed_again : (w : Status) → HasFailed (tried_again w) → HasFailed w
 failed_again NonTried is = is
-failed_again NonTrimmed is = refl
-failed_again NonScraped is = refl
-failed_again BadSector is = refl
 failed_again Finished is = is
+failed_again _ is = refl
 
 failed_retrimmed : (w : Status) → HasFailed (trimmed_again w) → HasFailed w
 failed_retrimmed NonTried is = is
-failed_retrimmed NonTrimmed is = refl
-failed_retrimmed NonScraped is = refl
-failed_retrimmed BadSector is = refl
 failed_retrimmed Finished is = is
+failed_retrimmed _ is = refl
 
 abbrev Any : ℕ → Reading → Type 0
 Any sector r = ⊤

@@ -1,6 +1,6 @@
 mod SavedWalk
 mod NothingLost
-mod SavedLemmas
+pub mod SavedLemmas
 mod EndedLemmas
 mod EndFinished
 mod FailedLemmas

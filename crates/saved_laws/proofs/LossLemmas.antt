@@ -1,12 +1,11 @@
 -- What is due in the first moves of a run, and which of their calls have returned.
-use Rattle.std.proofs.Common.{◌≡◌, inl, inr, ⊎_elim, ℕ, zero, suc, ◌+◌, ◌<◌, ◌≤◌, Bool, true, false, ◌&&◌, if◌then◌else◌, nat_eq, List, [], ◌∷◌, ◌++◌, length, take, drop, map, All, Option, Some, None, is_none, not, refl, sym, ap, ◌∙◌, subst, arith, append_assoc}
+use Rattle.std.proofs.Common.{◌≡◌, ⊎_elim, ℕ, zero, suc, ◌+◌, ◌<◌, ◌≤◌, Bool, true, false, ◌&&◌, if◌then◌else◌, nat_eq, List, [], ◌∷◌, ◌++◌, length, take, drop, map, All, Option, Some, None, is_none, not, refl, sym, ap, ◌∙◌, subst, arith, append_assoc}
 use Rattle.std.specs.List.{flat_map}
 use Rattle.std.proofs.lemmas.Bool.{cond_both, and_from}
 use Rattle.std.proofs.lemmas.List.{map-append}
-use Rattle.std.proofs.lemmas.List.Elements.{All-nil, All-head, All-tail}
+use Rattle.std.proofs.lemmas.List.Elements.{All-nil}
 use Rattle.faulty_source.specs.Journal.{Reading, kept}
-use Rattle.crash_site.specs.Calls.{Call, image_open, image_read, image_write, Entry, Done, Failed}
-use Rattle.crash_site.specs.CallsMade.{unanswered}
+use Rattle.crash_site.specs.Calls.{Call, image_open, image_write, Entry, Done, Failed}
 use Rattle.rescue_rules.specs.declared.stop.Limit.{Limit}
 use Rattle.rescue_rules.specs.Setting.{Setting, IsSensible, place}
 use Rattle.rescue_rules.specs.Passes.{Pass}
@@ -19,76 +18,44 @@ use Rattle.rescue_rules.specs.RunDeeds.{run_deeds}
 use Rattle.rescue_rules.specs.RunCalls.{write_calls}
 use Rattle.rescue_rules.specs.Snapshots.{Snapshot, text_of, snapshot_of, is_due}
 use Rattle.rescue_rules.specs.Stops.{is_write}
-use Rattle.rescue_rules.proofs.CutLemmas.{Cut, IsOf, add}
+use Rattle.rescue_rules.proofs.CutLemmas.{Cut, add}
 use Rattle.rescue_rules.proofs.DeedStages.{last_calls, all_calls}
 use Rattle.rescue_rules.proofs.MoveLemmas.{run_first, run_rest}
 use Rattle.rescue_safety.specs.Safe.{reads_until}
 use Rattle.rescue_safety.proofs.BegunLemmas.{writes_in, Past, cut_split, count_step, is_kept, write_counted, save_unwritten}
-use Rattle.saved_laws.proofs.SavedWalk.{read_settles, save_dry}
+use Rattle.saved_laws.proofs.SavedWalk.{read_settles}
 use Rattle.rescue_safety.proofs.SettleLemmas.{settled, save_settled}
 use Rattle.rescue_safety.proofs.ThenLemmas.{IsDry}
+use Rattle.saved_laws.proofs.BarrierFirst.{one_counts}
+use Rattle.rescue_safety.proofs.DryLemmas.{cut_dry}
+use Rattle.rescue_safety.proofs.WrittenLemmas.{save_dry}
 
 -- ---- parts of calls that write nothing
 
 pub failed_alike : (c : Call) (steps : ℕ) → is_write (Failed c steps) ≡ is_write (Done c)
 failed_alike (image_open name make) steps = refl
-failed_alike (image_read pos asked answer) steps = refl
-failed_alike (image_write pos piece) steps = refl
-failed_alike c steps = refl
-
-unanswered_alike : (c : Call) (steps : ℕ) → is_write (Failed (unanswered c) steps) ≡ is_write (Done c)
-unanswered_alike (image_open name make) steps = refl
-unanswered_alike (image_read pos asked answer) steps = refl
-unanswered_alike (image_write pos piece) steps = refl
-unanswered_alike c steps = refl
-
-failed_of : (c z : Call) (steps : ℕ) → IsOf c z → is_write (Failed z steps) ≡ is_write (Done c)
-failed_of c z steps (inl is) = ap (λ (d : Call). is_write (Failed d steps)) is ∙ failed_alike c steps
-failed_of c z steps (inr is) = ap (λ (d : Call). is_write (Failed d steps)) is ∙ unanswered_alike c steps
-
-pub dry_cut : (cs : List Call) (es : List Entry) → All IsDry cs → Cut cs es → writes_in es ≡ 0
-dry_cut cs [] dry cut = refl
-dry_cut [] (e ∷ es) dry cut = absurd cut
-dry_cut (c ∷ cs) (Done z ∷ es) dry cut =
-    omega (
-      arith,
-      count_step is_write (Done z) es,
-      dry_cut cs es (All-tail IsDry c cs dry) cut.1,
-      ap (λ (b : Bool). add b 0) (ap (λ (d : Call). is_write (Done d)) cut.0 ∙ All-head IsDry c cs dry),
-    )
-dry_cut (c ∷ cs) (Failed z steps ∷ es) dry cut =
-    omega (
-      arith,
-      count_step is_write (Failed z steps) es,
-      ap (λ (l : List Entry). writes_in l) cut.1,
-      ap (λ (b : Bool). add b 0) (failed_of c z steps cut.0 ∙ All-head IsDry c cs dry),
-      (let none : writes_in [] ≡ 0 = refl in none),
-    )
-
-at_most : (b : Bool) → add b 0 ≤ 1
-at_most true = omega arith
-at_most false = omega arith
+failed_alike _ steps = refl
 
 -- a write and then such calls write once at most
 one_cut : (none : Bool) (pos : ℕ) (piece : List ℕ) (cs : List Call) (es : List Entry) → All IsDry cs
     → Cut ((if none then [] else image_write pos piece ∷ []) ++ cs) es → writes_in es ≤ 1
 one_cut none pos piece cs [] dry cut = omega (arith, (let no : writes_in [] ≡ 0 = refl in no))
-one_cut true pos piece cs (e ∷ es) dry cut = omega (arith, dry_cut cs (e ∷ es) dry cut)
+one_cut true pos piece cs (e ∷ es) dry cut = omega (arith, cut_dry cs (e ∷ es) dry cut)
 one_cut false pos piece cs (Done z ∷ es) dry cut =
-    omega (arith, count_step is_write (Done z) es, dry_cut cs es dry cut.1, at_most (is_write (Done z)))
+    omega (arith, count_step is_write (Done z) es, cut_dry cs es dry cut.1, one_counts (is_write (Done z)))
 one_cut false pos piece cs (Failed z steps ∷ es) dry cut =
     omega (
       arith,
       count_step is_write (Failed z steps) es,
       ap (λ (l : List Entry). writes_in l) cut.1,
-      at_most (is_write (Failed z steps)),
+      one_counts (is_write (Failed z steps)),
       (let none : writes_in [] ≡ 0 = refl in none),
     )
 
 -- and where nothing was kept they write none
 none_cut : (none : Bool) (pos : ℕ) (piece : List ℕ) (cs : List Call) (es : List Entry) → All IsDry cs → none ≡ true
     → Cut ((if none then [] else image_write pos piece ∷ []) ++ cs) es → writes_in es ≡ 0
-none_cut true pos piece cs es dry is cut = dry_cut cs es dry cut
+none_cut true pos piece cs es dry is cut = cut_dry cs es dry cut
 none_cut false pos piece cs es dry is cut = absurd (cc)
 
 -- ---- the first of a run's reads

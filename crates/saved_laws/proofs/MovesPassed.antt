@@ -1,25 +1,21 @@
 -- What had returned when a read after the first ones had begun to be written.
-use Rattle.std.proofs.Common.{◌≡◌, ⊎_elim, ℕ, zero, suc, ◌+◌, ◌<◌, ◌≤◌, true, List, [], ◌∷◌, ◌++◌, length, take, drop, map, Option, refl, sym, ap, ◌∙◌, subst, arith, append_assoc, length-append}
+use Rattle.std.proofs.Common.{◌≡◌, ⊎_elim, ℕ, zero, suc, ◌+◌, ◌<◌, ◌≤◌, List, [], ◌∷◌, ◌++◌, length, take, drop, map, Option, refl, sym, ap, ◌∙◌, subst, arith, append_assoc, length-append}
 use Rattle.std.proofs.Math.Seq.{take-nil}
-use Rattle.std.proofs.lemmas.List.{map-append}
 use Rattle.block_list.specs.declared.status.Status.{Status}
 use Rattle.mapfile_text.specs.declared.state.MapState.{MapState}
 use Rattle.faulty_source.specs.Journal.{Reading}
-use Rattle.crash_site.specs.Calls.{Call, Entry, Done, image_open, image_sync, map_settle}
+use Rattle.crash_site.specs.Calls.{Call, Entry, Done}
 use Rattle.rescue_rules.specs.Setting.{Setting}
 use Rattle.rescue_rules.specs.Machine.{Machine}
-use Rattle.rescue_rules.specs.MachineLaws.{IsInOrder}
 use Rattle.rescue_rules.specs.Step.{Event}
 use Rattle.rescue_rules.specs.Moves.{state_after}
-use Rattle.rescue_rules.specs.Events.{began_at, with_times, reads_of}
+use Rattle.rescue_rules.specs.Events.{with_times, reads_of}
 use Rattle.rescue_rules.specs.RunDeeds.{run_deeds}
 use Rattle.rescue_rules.specs.Snapshots.{Snapshot, last_snapshot}
-use Rattle.rescue_rules.specs.Stops.{Before, files_before, has_barrier, is_settle}
+use Rattle.rescue_rules.specs.Stops.{Before, files_before, is_settle}
 use Rattle.rescue_rules.specs.Work.{Gain, begins, events_in}
 use Rattle.rescue_rules.proofs.CutLemmas.{Cut}
 use Rattle.rescue_rules.proofs.DeedStages.{all_calls}
-use Rattle.rescue_rules.proofs.MapfileLemmas.{opening_by}
-use Rattle.rescue_rules.proofs.ReadyLemmas.{order_over}
 use Rattle.rescue_safety.specs.Safe.{reads_until}
 use Rattle.rescue_safety.proofs.AskedLemmas.{until_front}
 use Rattle.rescue_safety.proofs.BegunLemmas.{writes_in, Past, count_both}
@@ -27,11 +23,12 @@ use Rattle.rescue_safety.proofs.ClaimLemmas.{Ran}
 use Rattle.rescue_safety.proofs.FinishedLemmas.{StandsAt}
 use Rattle.rescue_safety.proofs.SaveLemmas.{Made, calls_of_run}
 use Rattle.rescue_safety.proofs.SettleLemmas.{settled}
-use Rattle.rescue_safety.proofs.ThenLemmas.{load as loaded, front, all_dry, parts, past_writes}
+use Rattle.rescue_safety.proofs.ThenLemmas.{front, all_dry, parts, past_writes}
 use Rattle.saved_laws.specs.GoesLaws.{GoesSafely}
-use Rattle.saved_laws.proofs.LossLemmas.{dry_cut, until_zero, moved, due_settles, Returned, moves_returned}
+use Rattle.saved_laws.proofs.LossLemmas.{until_zero, moved, due_settles, Returned, moves_returned}
 use Rattle.saved_laws.proofs.SavedWalk.{first_settled}
-use Rattle.saved_laws.proofs.SavedLemmas.{unread_or_stands, synced}
+use Rattle.saved_laws.proofs.SavedLemmas.{unread_or_stands}
+use Rattle.rescue_safety.proofs.DryLemmas.{cut_dry}
 
 -- ---- events and reads
 
@@ -110,9 +107,6 @@ module _ (b : Before) (s : Setting) (g : Gain) (q : GoesSafely b s g) (k : ℕ) 
     abbrev head : List Call
     head = front s began was g made
 
-    order : IsInOrder s m
-    order = order_over s began was (began_at g.times)
-
     abbrev gone : List Entry
     gone = map Done (moved s q.sensible q.named x m first)
 
@@ -152,28 +146,12 @@ module _ (b : Before) (s : Setting) (g : Gain) (q : GoesSafely b s g) (k : ℕ) 
           arith,
           enough,
           ap (λ (i : ℕ). length (reads_until s.sector i g.reads))
-              (dry_cut head (take (k + 1) g.calls) (all_dry s began was g made) c),
+              (cut_dry head (take (k + 1) g.calls) (all_dry s began was g made) c),
           until_zero s.sector g.reads,
         ) in no))
         (λ (c : Past head (calls_of_run s began was g) (take (k + 1) g.calls)).
         passed_by c.rest c.is c.cut (past_writes s began was g made (take (k + 1) g.calls) c))
         (parts s began was g made (k + 1))
-
-    head_synced : (rest : List Entry) → has_barrier (map Done head ++ rest) ≡ true
-    head_synced rest =
-        let load : List Call = loaded s began was g made in
-        let front_two : List Entry
-        = map Done made.maps ++ Done (image_open s.outfile true) ∷ Done (map_settle s.names.map) ∷ [] in
-        ap has_barrier
-        (ap (λ (l : List Entry). l ++ rest) (map-append Done made.maps (opening_by s true ++ load))
-        ∙ append_assoc (map Done made.maps) (map Done (opening_by s true ++ load)) rest
-        ∙ sym (append_assoc (map Done made.maps) (Done (image_open s.outfile true) ∷ Done (map_settle s.names.map) ∷ [])
-        (Done image_sync ∷ (map Done load ++ rest))))
-        ∙ synced front_two (map Done load ++ rest)
-
-    pub barrier : has_barrier (take k g.calls) ≡ true
-    barrier =
-        ap has_barrier (passed.here ∙ append_assoc (map Done head) gone passed.rest) ∙ head_synced (gone ++ passed.rest)
 
     -- the barrier's settle, and those of the first moves
     pub enough_settled : 1 + due_settles s q.sensible q.named x (begins s began was g) first

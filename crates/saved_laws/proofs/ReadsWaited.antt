@@ -29,7 +29,7 @@ use Rattle.rescue_safety.proofs.SafeLemmas.{s, g, b, goes, calls_are, seen_alone
 use Rattle.rescue_safety.proofs.ThenLemmas.{IsDry, dry_count}
 use Rattle.saved_laws.specs.Laws.{ReadsWait}
 use Rattle.saved_laws.proofs.LossLemmas.{failed_alike}
-use Rattle.saved_laws.proofs.SavedWalk.{save_dry}
+use Rattle.rescue_safety.proofs.WrittenLemmas.{save_dry}
 
 -- ---- reads of which something is kept
 

@@ -2,14 +2,12 @@
 use Rattle.std.proofs.Common.{◌≡◌, ◌⊎◌, inl, inr, ⊎_elim, ℕ, zero, suc, ◌+◌, ◌≤◌, Bool, true, false, not, if◌then◌else◌, nat_eq, List, [], ◌∷◌, ◌++◌, take, map, All, Option, Some, None, refl, sym, ap, ◌∙◌, subst, arith, append_assoc}
 use Rattle.std.specs.List.{flat_map, slice_get}
 use Rattle.std.proofs.lemmas.List.{map-append}
-use Rattle.std.proofs.lemmas.List.Elements.{All-nil, All-cons, All-head, All-tail, All-append}
+use Rattle.std.proofs.lemmas.List.Elements.{All-head, All-tail}
 use Rattle.block_list.specs.declared.status.Status.{Status}
 use Rattle.mapfile_text.specs.declared.state.MapState.{MapState}
-use Rattle.mapfile_text.specs.Pieces.{pieces_of}
 use Rattle.faulty_source.specs.Journal.{Reading, kept}
 use Rattle.crash_site.specs.Files.{File}
-use Rattle.crash_site.specs.Calls.{Call, image_write, image_sync, draft_begin, draft_append, draft_sync, draft_publish, map_settle, Entry, Done, Failed}
-use Rattle.mapfile_save.specs.MapNames.{MapNames}
+use Rattle.crash_site.specs.Calls.{Call, image_write, image_sync, map_settle, Entry, Done, Failed}
 use Rattle.mapfile_save.specs.Saving.{save_calls}
 use Rattle.rescue_rules.specs.Setting.{Setting, IsSensible, place}
 use Rattle.rescue_rules.specs.Machine.{Machine}
@@ -35,6 +33,7 @@ use Rattle.rescue_safety.proofs.BegunLemmas.{writes_in, Past, cut_split, count_b
 use Rattle.rescue_safety.proofs.SaveLemmas.{Made, calls_of_run}
 use Rattle.rescue_safety.proofs.SettleLemmas.{settled, save_settled}
 use Rattle.rescue_safety.proofs.ThenLemmas.{IsDry, dry_count, load as loaded, front, run_calls, all_dry, parts}
+use Rattle.rescue_safety.proofs.WrittenLemmas.{save_dry}
 
 -- ---- a call among calls in two parts
 
@@ -88,21 +87,6 @@ dry_front (c ∷ cs) (Done z ∷ es) y ys dry cut =
       count_step is_write (Done z) es,
     )
 dry_front (c ∷ cs) (Failed z steps ∷ es) y ys dry cut = absurd (never_empty es (Done y) ys cut.1)
-
-appends_dry : (ps : List (List ℕ)) → All IsDry (map draft_append ps)
-appends_dry [] = All-nil IsDry
-appends_dry (p ∷ ps) = All-cons IsDry (draft_append p) (map draft_append ps) refl (appends_dry ps)
-
-pub save_dry : (names : MapNames) (text : List ℕ) → All IsDry (save_calls names text)
-save_dry names text =
-    let end : List Call = draft_sync ∷ draft_publish names.map ∷ map_settle names.map ∷ [] in
-    let appends : List Call = map draft_append (pieces_of text) in
-    All-cons IsDry image_sync (draft_begin names.draft ∷ (appends ++ end)) refl
-    (All-cons IsDry (draft_begin names.draft) (appends ++ end) refl
-    (All-append IsDry appends end (appends_dry (pieces_of text))
-    (All-cons IsDry draft_sync (draft_publish names.map ∷ map_settle names.map ∷ []) refl
-    (All-cons IsDry (draft_publish names.map) (map_settle names.map ∷ []) refl
-    (All-cons IsDry (map_settle names.map) [] refl (All-nil IsDry))))))
 
 -- a write is no sync
 no_sync : (none : Bool) (pos : ℕ) (piece : List ℕ) (es ys : List Entry)

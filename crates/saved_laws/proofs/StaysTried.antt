@@ -28,11 +28,9 @@ use Rattle.saved_laws.proofs.TriedKept.{Tried, TriedIn, marks_tried, saves_tried
 -- ---- preparation
 
 trimmed_tried : (u : Status) → u ≢ NonTried → trimmed_again u ≢ NonTried
-trimmed_tried NonTried t = t
-trimmed_tried NonTrimmed t = t
 trimmed_tried NonScraped t = λ is. absurd (cc)
 trimmed_tried BadSector t = λ is. absurd (cc)
-trimmed_tried Finished t = t
+trimmed_tried _ t = t
 
 prepared_tried : (again retrim : Bool) (u : Status) → if_asked again tried_again u ≢ NonTried
     → prepared_status again retrim u ≢ NonTried
