@@ -1,11 +1,12 @@
 -- A run at its start, and at the start of its next pass.
-use Rattle.std.proofs.Common.{◌≡◌, ℕ, ◌<◌, min, Bool, true, ◌&&◌, nat_eq, List, ◌∷◌, ◌^◌, length, drop, Option, Some, None, refl, sym, ap, ◌∙◌, arith, ⊎_elim}
+use Rattle.std.proofs.Common.{◌≡◌, ℕ, ◌<◌, min, Bool, true, ◌&&◌, nat_eq, List, ◌∷◌, ◌^◌, length, drop, Option, Some, None, refl, sym, ap, subst, ◌∙◌, arith, ⊎_elim}
 use Rattle.std.specs.List.{slice_get}
 use Rattle.std.proofs.Math.Bool.{and-true}
 use Rattle.std.proofs.Math.Path.{fun_ext}
 use Rattle.std.proofs.lemmas.Bool.{cond-true, eq-eqb}
-use Rattle.block_list.specs.declared.block.Range.{Range}
 use Rattle.block_list.specs.declared.status.Status.{Status}
+use Rattle.block_list.specs.declared.tiles.Tiles.{Ghosts as TilesGhosts}
+use Rattle.mapfile_text.specs.declared.heading.Program.TheVariants.{Ddrescue}
 use Rattle.mapfile_text.specs.declared.state.MapState.{MapState}
 use Rattle.faulty_source.specs.Ends.{is_before}
 use Rattle.rescue_rules.specs.declared.phase.Phase.{Phase}
@@ -14,18 +15,16 @@ use Rattle.rescue_rules.specs.declared.stop.TrimMode.{TrimMode}
 use Rattle.rescue_rules.specs.declared.stop.TrimMode.TheVariants.{Lead}
 use Rattle.rescue_rules.specs.Setting.{Setting}
 use Rattle.rescue_rules.specs.Passes.{Pass, numbered, passes_from}
-use Rattle.rescue_rules.specs.Machine.{Machine, start_of, is_live}
+use Rattle.rescue_rules.specs.Machine.{Machine, pass_of, start_of, is_live}
 use Rattle.rescue_rules.specs.Beginning.{first_pass, first_cursor}
 use Rattle.rescue_domain.specs.Parts.{covers}
-use Rattle.rescue_core.specs.declared.keeper.Keeper.{Keeper}
-use Rattle.run_options.specs.declared.settings.Settings.{Settings}
 use Rattle.run_options.specs.Settings.{IsSound, Suits}
-use Rattle.rescue_rules.specs.declared.report.Counts.{Counts}
 use Rattle.rescue_rules.specs.declared.progress.Progress.{Progress}
 use Rattle.rescue_rules.specs.Counts.{counts_of}
 use Rattle.rescue_rules.proofs.FitLemmas.{first_few, first_there, start_there}
 use Rattle.rescue_rules.proofs.ReadyLemmas.{order_lead}
-use Rattle.rescue_core.specs.RunState.{RunState, setting_with, setting_in, run_at, IsRunning, HasCounts, passed}
+use Rattle.rescue_core.specs.declared.running.Running.{Running}
+use Rattle.rescue_core.specs.RunState.{RunState, setting_in, run_of, IsRunning, HasCounts, IsRun, passed}
 use Rattle.rescue_core.proofs.RequestLemmas.{start_up}
 use Rattle.rescue_core.proofs.PassLemmas.{next_passes, IsOn, next_on, copying_leads}
 
@@ -71,25 +70,38 @@ at_pass r phase pass passes cursor mode skip = record r {
   };
 }
 
-pub passed_is : (settings : Settings) (domain : List Range) (map : List Status) (phase : Phase) (progress : Progress)
-    (keeper : Keeper) (phase' : Phase) (pass : ℕ) (progress' : Progress)
-    → let s : Setting = setting_with settings domain keeper.names keeper.heading.line in
-    slice_get (passes_from s phase progress.pass) 1 ≡ Some (numbered phase' pass)
-    → progress'.pass ≡ pass → progress'.cursor ≡ start_of s (numbered phase' pass) map
-    → progress'.mode ≡ Lead → progress'.skip ≡ settings.skips.first
-    → run_at settings domain map phase' progress' keeper
-    ≡ passed (run_at settings domain map phase progress keeper) phase' pass
-passed_is settings domain map phase progress keeper phase' pass progress' next is begins lead skip =
-    let s : Setting = setting_with settings domain keeper.names keeper.heading.line in
-    let r : RunState = run_at settings domain map phase progress keeper in
-    ap (λ (n : ℕ). at_pass r phase' n (passes_from s phase' n) progress'.cursor progress'.mode progress'.skip) is
-    ∙ ap (λ (ps : List Pass). at_pass r phase' pass ps progress'.cursor progress'.mode progress'.skip)
-    (next_passes s phase progress.pass (numbered phase' pass) next)
-    ∙ ap (λ (n : ℕ). at_pass r phase' pass (numbered phase' pass ∷ drop 2 r.machine.passes) n progress'.mode progress'.skip) begins
-    ∙ ap (λ (mode : TrimMode). at_pass r phase' pass (numbered phase' pass ∷ drop 2 r.machine.passes)
-    (start_of s (numbered phase' pass) map) mode progress'.skip) lead
-    ∙ ap (λ (n : ℕ). at_pass r phase' pass (numbered phase' pass ∷ drop 2 r.machine.passes)
-    (start_of s (numbered phase' pass) map) Lead n) skip
+pub passed_is : {T : Type 0} (t : TilesGhosts T) (r : Running T) (phase : Phase) (pass : ℕ) (progress : Progress)
+    → slice_get (run_of t r).machine.passes 1 ≡ Some (numbered phase pass)
+    → progress.pass ≡ pass
+    → progress.cursor ≡ start_of (setting_in (run_of t r)) (numbered phase pass) (t.statuses r.tiles)
+    → progress.mode ≡ Lead → progress.skip ≡ r.settings.skips.first
+    → run_of t (record r { phase = phase; progress = progress }) ≡ passed (run_of t r) phase pass
+passed_is t r phase pass progress next is begins lead skip =
+    let q : RunState = run_of t r in
+    let s : Setting = setting_in q in
+    ap (λ (n : ℕ). at_pass q phase n (passes_from s phase n) progress.cursor progress.mode progress.skip) is
+    ∙ ap (λ (ps : List Pass). at_pass q phase pass ps progress.cursor progress.mode progress.skip)
+    (next_passes s r.phase r.progress.pass (numbered phase pass) next)
+    ∙ ap (λ (n : ℕ). at_pass q phase pass (numbered phase pass ∷ drop 2 q.machine.passes) n progress.mode progress.skip)
+    begins
+    ∙ ap (λ (mode : TrimMode). at_pass q phase pass (numbered phase pass ∷ drop 2 q.machine.passes)
+    (start_of s (numbered phase pass) q.machine.map) mode progress.skip) lead
+    ∙ ap (λ (n : ℕ). at_pass q phase pass (numbered phase pass ∷ drop 2 q.machine.passes)
+    (start_of s (numbered phase pass) q.machine.map) Lead n) skip
+
+pub run_passed : {T : Type 0} (t : TilesGhosts T) (r r' : Running T) (phase : Phase) (pass : ℕ) → IsRun t r
+    → slice_get (run_of t r).machine.passes 1 ≡ Some (numbered phase pass)
+    → run_of t r' ≡ passed (run_of t r) phase pass → length r'.buf.items ≡ length r.buf.items
+    → r'.keeper.heading.program ≡ Ddrescue → r'.counts ≡ r.counts
+    → IsRun t r'
+run_passed t r r' phase pass is next begins room program counts = record {
+  running = subst (λ (now : RunState). IsRunning now (length r'.buf.items)) (sym begins)
+      (running_passed (run_of t r) (length r'.buf.items) phase pass refl
+      (subst (λ (n : ℕ). IsRunning (run_of t r) n) (sym room) is.running) next);
+  program = program;
+  counted = subst (λ (now : RunState). HasCounts now r'.counts) (sym begins)
+      (record { counts_are = counts ∙ is.counted.counts_are });
+}
 
 -- where a run begins
 pub first_none : (s : Setting) (loaded : Option MapState) (map : List Status) (cursor : ℕ) → loaded ≡ None
@@ -107,26 +119,28 @@ first_last s loaded state map pass cursor is least last begins =
     (eq-eqb (min state.pass 5) 5 (sym least ∙ last)))
     ∙ ap (λ (o : Option MapState). first_cursor s o map) (sym is)
 
-pub running_started : (settings : Settings) (domain : List Range) (map : List Status) (loaded : Option MapState)
-    (progress : Progress) (keeper : Keeper) (room : ℕ) → IsSound settings
-    → Suits settings (covers domain) (length map) → length map < 2 ^ 63 → progress.pass ≡ first_pass loaded
-    → progress.cursor ≡ first_cursor (setting_with settings domain keeper.names keeper.heading.line) loaded map
-    → progress.mode ≡ Lead → progress.skip ≡ settings.skips.first → room ≡ settings.cluster
-    → IsRunning (run_at settings domain map Copying progress keeper) room
-running_started settings domain map loaded progress keeper room sound suits short pass cursor lead skip size =
-    let s : Setting = setting_with settings domain keeper.names keeper.heading.line in
-    let m : Machine = (run_at settings domain map Copying progress keeper).machine in
+running_started : {T : Type 0} (t : TilesGhosts T) (r : Running T) (loaded : Option MapState) (room : ℕ)
+    → r.phase ≡ Copying → IsSound r.settings → Suits r.settings (covers r.domain) (length (t.statuses r.tiles))
+    → length (t.statuses r.tiles) < 2 ^ 63 → r.progress.pass ≡ first_pass loaded
+    → r.progress.cursor ≡ first_cursor (setting_in (run_of t r)) loaded (t.statuses r.tiles)
+    → r.progress.mode ≡ Lead → r.progress.skip ≡ r.settings.skips.first → room ≡ r.settings.cluster
+    → IsRunning (run_of t r) room
+running_started t r loaded room copies sound suits short pass cursor lead skip size =
+    let s : Setting = setting_in (run_of t r) in
+    let m : Machine = (run_of t r).machine in
     record {
       sound = sound;
       suits = suits;
       short = short;
-      cursor = omega (arith, cursor, first_there s loaded map);
+      cursor = omega (arith, cursor, first_there s loaded (t.statuses r.tiles));
       skip = omega (arith, skip, sound.skip);
       order = order_lead s m lead;
-      pass = copying_leads s progress.pass (omega (arith, pass, first_few loaded));
-      trims = λ is. absurd (cc);
-      scrapes = λ is. absurd (cc);
-      led = λ is. absurd (cc);
+      pass = subst (λ (phase : Phase). pass_of (record m { passes = passes_from s phase r.progress.pass })
+          ≡ numbered phase r.progress.pass) (sym copies)
+          (copying_leads s r.progress.pass (omega (arith, pass, first_few loaded)));
+      trims = λ is. absurd (let no : Copying ≡ Trimming = sym copies ∙ is in cc);
+      scrapes = λ is. absurd (let no : Copying ≡ Scraping = sym copies ∙ is in cc);
+      led = λ is. absurd (let no : Copying ≡ Trimming = sym copies ∙ is in cc);
       room_is = size;
     }
 
@@ -134,10 +148,18 @@ running_started settings domain map loaded progress keeper room sound suits shor
 all_live : (s : Setting) (m : Machine) → m.tally.over ≡ None → is_live s m ≡ s.domain
 all_live s m none = fun_ext (λ x. ap (λ (o : Option ℕ). s.domain x && is_before o x) none ∙ and-true (s.domain x))
 
-pub counted_started : (settings : Settings) (domain : List Range) (map : List Status) (progress : Progress)
-    (keeper : Keeper) (counts : Counts) → keeper.tally.over ≡ None → counts ≡ counts_of (covers domain) map
-    → HasCounts (run_at settings domain map Copying progress keeper) counts
-counted_started settings domain map progress keeper counts none is =
-    let r : RunState = run_at settings domain map Copying progress keeper in record {
-      counts_are = is ∙ ap (λ (set : ℕ → Bool). counts_of set map) (sym (all_live (setting_in r) r.machine none));
-    }
+pub run_started : {T : Type 0} (t : TilesGhosts T) (r : Running T) (loaded : Option MapState) → r.phase ≡ Copying
+    → IsSound r.settings → Suits r.settings (covers r.domain) (length (t.statuses r.tiles))
+    → length (t.statuses r.tiles) < 2 ^ 63 → r.progress.pass ≡ first_pass loaded
+    → r.progress.cursor ≡ first_cursor (setting_in (run_of t r)) loaded (t.statuses r.tiles)
+    → r.progress.mode ≡ Lead → r.progress.skip ≡ r.settings.skips.first → length r.buf.items ≡ r.settings.cluster
+    → r.keeper.heading.program ≡ Ddrescue → r.keeper.tally.over ≡ None
+    → r.counts ≡ counts_of (covers r.domain) (t.statuses r.tiles) → IsRun t r
+run_started t r loaded copies sound suits short pass cursor lead skip size program none counts = record {
+  running = running_started t r loaded (length r.buf.items) copies sound suits short pass cursor lead skip size;
+  program = program;
+  counted = record {
+    counts_are = counts ∙ ap (λ (set : ℕ → Bool). counts_of set (t.statuses r.tiles))
+        (sym (all_live (setting_in (run_of t r)) (run_of t r).machine none));
+  };
+}

@@ -14,7 +14,7 @@ use Rattle.rescue_rules.specs.declared.phase.Phase.{Phase}
 use Rattle.rescue_rules.specs.Setting.{Setting, IsSensible}
 use Rattle.rescue_rules.specs.Passes.{taken}
 use Rattle.rescue_rules.specs.Machine.{Machine, pass_of, IsRequest}
-use Rattle.rescue_rules.specs.Step.{Event, trims, is_trimming, rest_status, scraped, over_after, step}
+use Rattle.rescue_rules.specs.Step.{Event, is_trimming, rest_status, scraped, over_after, step}
 use Rattle.rescue_rules.specs.MachineLaws.{IsInOrder, StepsBy, AsksFor}
 use Rattle.rescue_rules.proofs.MarkLemmas.{marked_inside, marked_outside}
 use Rattle.rescue_rules.proofs.OverLemmas.{good_reaches}

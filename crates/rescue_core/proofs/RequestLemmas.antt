@@ -3,16 +3,17 @@ use Rattle.std.proofs.Common.{◌≡◌, ℕ, Bool, true, false, List, [], ◌�
 use Rattle.std.specs.List.{slice_index_or}
 use Rattle.std.proofs.lemmas.Bool.{cond-true, cond-false}
 use Rattle.block_list.specs.declared.status.Status.{Status}
+use Rattle.block_list.specs.declared.tiles.Tiles.{Ghosts as TilesGhosts}
 use Rattle.rescue_rules.specs.declared.phase.Phase.{Phase}
 use Rattle.rescue_rules.specs.declared.phase.Phase.TheVariants.{Copying, Trimming}
 use Rattle.rescue_rules.specs.declared.stop.TrimMode.{TrimMode}
 use Rattle.rescue_rules.specs.declared.stop.TrimMode.TheVariants.{Lead}
-use Rattle.rescue_rules.specs.declared.tally.Tally.{Tally}
 use Rattle.rescue_rules.specs.declared.progress.Progress.{Progress}
 use Rattle.rescue_rules.specs.Setting.{Setting}
 use Rattle.rescue_rules.specs.Passes.{Pass, is_up, numbered, passes_from}
 use Rattle.rescue_rules.specs.Machine.{Machine, Search, pass_of, start_of, search_in, search_of}
-use Rattle.rescue_core.specs.RunState.{machine_at}
+use Rattle.rescue_core.specs.declared.running.Running.{Running}
+use Rattle.rescue_core.specs.RunState.{setting_in, run_of, IsRun}
 use Rattle.rescue_core.specs.Requesting.{StandsAt}
 
 -- where a pass begins
@@ -29,12 +30,12 @@ leads_by s phase number [] are is =
     let some : passes_from s Copying 1 ≡ [] = ap (λ (p : Pass). passes_from s p.phase p.number) is ∙ sym are in absurd (cc)
 leads_by s phase number (p ∷ ps) are is = ap (λ (q : Pass). q ∷ ps) is
 
-pub stands : (s : Setting) (map : List Status) (phase : Phase) (progress : Progress) (tally : Tally)
-    → pass_of (machine_at s map phase progress tally) ≡ numbered phase progress.pass
-    → StandsAt (machine_at s map phase progress tally) phase progress map tally.over
-stands s map phase progress tally pass =
+pub stands : {T : Type 0} (t : TilesGhosts T) (r : Running T) → IsRun t r
+    → StandsAt (run_of t r).machine r.phase r.progress (t.statuses r.tiles) r.keeper.tally.over
+stands t r is =
     record {
-      passes = leads_by s phase progress.pass (passes_from s phase progress.pass) refl pass;
+      passes = leads_by (setting_in (run_of t r)) r.phase r.progress.pass (run_of t r).machine.passes refl
+          is.running.pass;
       progress_is = refl;
       map = refl;
       over = refl;

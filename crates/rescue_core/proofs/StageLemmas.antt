@@ -1,5 +1,5 @@
 -- What is known of a run stays so in a turn, and in a new pass.
-use Rattle.std.proofs.Common.{◌≡◌, ℕ, ◌+◌, Bool, true, false, List, [], ◌∷◌, drop, All, Some, Ok, Err, Result, IfOk, IfErr, refl, sym, ap, ◌∙◌, subst, ⊎_elim, arith}
+use Rattle.std.proofs.Common.{◌≡◌, ℕ, ◌+◌, Bool, true, false, List, [], ◌∷◌, drop, All, Some, refl, sym, ap, ◌∙◌, subst, ⊎_elim, arith}
 use Rattle.std.specs.List.{slice_get}
 use Rattle.std.proofs.lemmas.Bool.{true_from_ne_false, true≢false}
 use Rattle.std.proofs.lemmas.Option.{same_Some}
@@ -15,7 +15,7 @@ use Rattle.rescue_rules.specs.declared.phase.Phase.TheVariants.{Copying, Trimmin
 use Rattle.rescue_rules.specs.Setting.{Setting, IsSensible}
 use Rattle.rescue_rules.specs.Passes.{Pass, taken, numbered}
 use Rattle.rescue_rules.specs.Machine.{Machine, pass_of, is_live, is_wanted, IsRequest, has_request}
-use Rattle.rescue_rules.specs.Step.{Event, copies, trims, is_copying, is_trimming, step}
+use Rattle.rescue_rules.specs.Step.{Event, copies, is_copying, is_trimming, step}
 use Rattle.rescue_rules.specs.Moves.{ready, no_pass_left}
 use Rattle.rescue_rules.proofs.SearchLemmas.{request_seen}
 use Rattle.rescue_rules.proofs.OverLemmas.{live_was, wanted_live}
@@ -24,9 +24,10 @@ use Rattle.rescue_rules.proofs.StatusLemmas.{non_tried_stood, non_trimmed_stood,
 use Rattle.rescue_rules.proofs.ReadyLemmas.{ready_here, ready_on, ready_end, spent_request}
 use Rattle.rescue_core.specs.RunState.{RunState, setting_in, passed, IsRunning, IsGone}
 use Rattle.rescue_core.specs.Stages.{Reached, Begun, Copied, Trimmed, Scraped, Over, IsTrimmed, IsScraped, IsOver, Known}
-use Rattle.rescue_core.specs.declared.turn.Turn.{Turn}
+use Rattle.rescue_core.specs.declared.turn.Advanced.{Advanced}
 use Rattle.rescue_rules.specs.Across.{Across}
-use Rattle.rescue_core.specs.Turning.{stepped, IsEvent, Turned, Halted, Starved, Lost, Unwritten, Limited, Unsaved}
+use Rattle.rescue_core.specs.Turning.{stepped, IsEvent, Halted, Starved, Lost, Unwritten, Limited, Unsaved}
+use Rattle.rescue_core.specs.TurnParts.{Advances}
 
 -- its settings are sensible
 pub running_sensible : (r : RunState) (room : ℕ) → IsRunning r room → IsSensible (setting_in r)
@@ -142,7 +143,7 @@ known_event reached r room request e heard source source' clock clock' is asks e
     known
 
 -- a turn keeps what is known, whatever its outcome
-known_halted : (reached : Reached) (request : Request) (stop : Stop) (r r' : RunState) (room : ℕ) (o : Across)
+pub known_halted : (reached : Reached) (request : Request) (stop : Stop) (r r' : RunState) (room : ℕ) (o : Across)
     → IsRunning r room → IsRequest (setting_in r) r.machine request.pos (request.pos + request.len)
     → Halted request stop r r' o → Known reached r → Known reached r'
 known_halted reached request stop r r' room o is asks h known =
@@ -156,15 +157,32 @@ known_halted reached request stop r r' room o is asks h known =
           (known_event reached r room request e r'.heard o.source o.source' o.clock o.clock' is asks event known)
     ]
 
-pub known_turns : (reached : Reached) (request : Request) (result : Result Turn Stop) (r r' : RunState) (room : ℕ) (o : Across)
+-- and so does what is said or not
+known_heard : (reached : Reached) (r : RunState) (heard : Bool) → Known reached r
+    → Known reached (record r { heard = heard })
+known_heard Begun r heard known = known
+known_heard Copied r heard known = known
+known_heard Trimmed r heard known = record { tried = known.tried; trimmed = known.trimmed }
+known_heard Scraped r heard known = record {
+  trimmed = record { tried = known.trimmed.tried; trimmed = known.trimmed.trimmed };
+  scraped = known.scraped;
+}
+known_heard Over r heard known = record {
+  scraped = record {
+    trimmed = record { tried = known.scraped.trimmed.tried; trimmed = known.scraped.trimmed.trimmed };
+    scraped = known.scraped.scraped;
+  };
+  spent = known.spent;
+}
+
+pub known_on : (reached : Reached) (request : Request) (got : Advanced) (r r1 r2 : RunState) (room : ℕ) (o : Across)
     → IsRunning r room → IsRequest (setting_in r) r.machine request.pos (request.pos + request.len)
-    → IfOk result (λ turn. Turned request turn r r' o) → IfErr result (λ stop. Halted request stop r r' o)
-    → Known reached r → Known reached r'
-known_turns reached request (Ok turn) r r' room o is asks t h known =
-    subst (Known reached) (sym t.steps)
-    (known_event reached r room request t.event r'.heard o.source o.source' o.clock o.clock' is asks t.is known)
-known_turns reached request (Err stop) r r' room o is asks t h known =
-    known_halted reached request stop r r' room o is asks h known
+    → Advances request got r r1 o → r2 ≡ record r1 { heard = r2.heard } → Known reached r → Known reached r2
+known_on reached request got r r1 r2 room o is asks a stands known =
+    subst (Known reached) (sym stands)
+    (known_heard reached r1 r2.heard
+    (subst (Known reached) (sym a.goes.steps)
+    (known_event reached r room request a.event r.heard o.source o.source' o.clock o.clock' is asks a.is known)))
 
 -- a pass after the first one
 next_pass : (ps : List Pass) (p : Pass) → slice_get ps 1 ≡ Some p → (c : Pass) × (ps ≡ c ∷ p ∷ drop 2 ps)

@@ -41,15 +41,16 @@ pub record Says (request : Request) (got : Advanced) (r r1 r2 : RunState) (o : A
 says_step : (request : Request) (got : Advanced) (r r1 r2 : RunState) (o : Across) (site1 : SiteState)
     → (w : Says request got r r1 r2 o site1) → r2 ≡ stepped r w.advances.event r2.heard
 says_step request got r r1 r2 o site1 w =
-    w.stands ∙ ap (λ (q : RunState). record q { heard = r2.heard }) w.advances.steps
+    w.stands ∙ ap (λ (q : RunState). record q { heard = r2.heard }) w.advances.goes.steps
 
 says_line : (request : Request) (got : Advanced) (r r1 r2 : RunState) (o : Across) (site1 : SiteState)
     → (w : Says request got r r1 r2 o site1)
     → SpeaksOn (move_pieces r w.advances.event) r.heard r2.heard o.console o.console'
 says_line request got r r1 r2 o site1 w =
     let e : Event = w.advances.event in
-    subst (λ (due : Bool). SaysOf (stepped r e r.heard) due r.heard r2.heard o.console o.console') w.advances.speaks
-    (subst (λ (q : RunState). SaysOf q got.speaks q.heard r2.heard o.console o.console') w.advances.steps
+    subst (λ (due : Bool). SaysOf (stepped r e r.heard) due r.heard r2.heard o.console o.console')
+    w.advances.goes.speaks
+    (subst (λ (q : RunState). SaysOf q got.speaks q.heard r2.heard o.console o.console') w.advances.goes.steps
     (subst (λ (x : ConsoleState). SaysOf r1 got.speaks r1.heard r2.heard x o.console') w.silent w.says))
 
 -- the save that is due then
@@ -57,7 +58,7 @@ save_is : (request : Request) (got : Advanced) (r r1 r2 : RunState) (o : Across)
     → (w : Says request got r r1 r2 o site1)
     → save_if r2 got.saves ≡ save_if (stepped r w.advances.event r2.heard) (is_timely r.machine w.advances.event)
 save_is request got r r1 r2 o site1 w =
-    ap (save_if r2) w.advances.saves
+    ap (save_if r2) w.advances.goes.saves
     ∙ ap (λ (q : RunState). save_if q (is_timely r.machine w.advances.event)) (says_step request got r r1 r2 o site1 w)
 
 -- With that save it is whole,
@@ -70,7 +71,7 @@ says_turned request got r r1 r2 r3 o site1 w none is saves =
     subst (λ (q : RunState). Turned request got.turn r q o) (sym is) (record {
       event = e;
       is = w.advances.is;
-      answers = w.advances.answers;
+      answers = w.advances.goes.answers;
       steps = step;
       within = ap (λ (q : RunState). limit_met (setting_in q) r2.machine) (sym step) ∙ none;
       calls = move_makes r e r2.heard o.site site1 o.site'
@@ -101,7 +102,7 @@ says_unsaved request got r r1 r2 r3 o site1 call w none is named broke =
     let within : limit_met (setting_in r) (stepped r e r2.heard).machine ≡ None =
     ap (λ (q : RunState). limit_met (setting_in q) q.machine) (sym step) ∙ none in
     let there : is_some r.names ≡ true = ap (λ (q : RunState). is_some q.names) (sym step) ∙ where_due.1 in
-    let timely : is_timely r.machine e ≡ true = sym w.advances.saves ∙ where_due.0 in
+    let timely : is_timely r.machine e ≡ true = sym w.advances.goes.saves ∙ where_due.0 in
     let save : List Call = save_calls (names_in r.names) (text_of r.line (snapshot_of r2.machine)) in
     let all : save_if r2 got.saves ≡ save
     = ap (save_if r2) where_due.0

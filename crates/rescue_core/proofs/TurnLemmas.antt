@@ -4,9 +4,9 @@ use Rattle.std.specs.List.{slice_get, slice_index_or}
 use Rattle.std.proofs.Math.Nat.{div-mul-le_self, mul-le-mul_right}
 use Rattle.std.proofs.lemmas.Bool.{and_parts}
 use Rattle.size_suffixes.specs.Sectors.{largest_cluster}
-use Rattle.block_list.specs.declared.block.Range.{Range}
 use Rattle.block_list.specs.declared.status.Status.{Status}
 use Rattle.block_list.specs.Status.{same}
+use Rattle.block_list.specs.declared.tiles.Tiles.{Ghosts as TilesGhosts}
 use Rattle.faulty_source.specs.Journal.{floor}
 use Rattle.rescue_domain.specs.Parts.{covers}
 use Rattle.rescue_rules.specs.declared.stop.TrimMode.{TrimMode}
@@ -16,15 +16,14 @@ use Rattle.rescue_rules.specs.declared.phase.Phase.TheVariants.{Copying, Trimmin
 use Rattle.rescue_rules.specs.declared.tally.Tally.{Tally}
 use Rattle.rescue_rules.specs.declared.progress.Progress.{Progress}
 use Rattle.rescue_rules.specs.Setting.{Setting, IsSensible}
-use Rattle.rescue_rules.specs.Passes.{Pass, taken, numbered}
+use Rattle.rescue_rules.specs.Passes.{Pass, taken, numbered, passes_from}
 use Rattle.rescue_rules.specs.Machine.{Machine, pass_of, has_taken, is_live, is_wanted, ceiling, Search, search_in, search_of, cut_start, cut_end, IsRequest}
-use Rattle.rescue_rules.specs.Step.{Event, map_after, step}
+use Rattle.rescue_rules.specs.Step.{Event, step}
 use Rattle.rescue_rules.proofs.RoundLemmas.{ceiling_above}
 use Rattle.rescue_rules.proofs.StepLemmas.{Asks, request_asks, wanted_domain, asks_back}
-use Rattle.rescue_core.specs.declared.keeper.Keeper.{Keeper}
-use Rattle.run_options.specs.declared.settings.Settings.{Settings}
+use Rattle.rescue_core.specs.declared.running.Running.{Running}
 use Rattle.run_options.specs.Settings.{HasPlaces}
-use Rattle.rescue_core.specs.RunState.{RunState, setting_in, IsRunning, run_at}
+use Rattle.rescue_core.specs.RunState.{RunState, setting_in, run_of, IsRunning}
 use Rattle.rescue_core.specs.Turning.{stepped}
 use Rattle.rescue_core.specs.TurnParts.{IsBackOf}
 use Rattle.rescue_core.proofs.StageLemmas.{running_sensible}
@@ -55,14 +54,13 @@ request_few s ok m p q r =
     = cut_few f.front s.sector f.size r.start r.end ok.sector in
     omega (arith, few, size_most s ok m (pass_of m).phase m.progress.mode (sector_in s ok), r.starts, r.ends)
 
--- what a turn needs of its request: it fits the buffer, the map and the output
+-- what a turn needs of its request: it fits the buffer and the map
 pub record Fits (r : RunState) (room pos len : ℕ) : Type 0 where
   pub some : 0 < len
   pub few : len ≤ room
   pub most : room ≤ largest_cluster
   pub there : pos + len ≤ length r.machine.map
   pub short : pos + len < 2 ^ 63
-  pub place : pos - r.settings.input_position + r.settings.output_position + len < 2 ^ 63
   pub back : IsBackOf r.machine.progress.mode pos
   pub wanted : is_wanted (setting_in r) r.machine pos ≡ true
 
@@ -70,28 +68,37 @@ back_of : (mode : TrimMode) (pos : ℕ) → ((low : ℕ) → mode ≡ Tail low �
 back_of Lead pos h = tt
 back_of (Tail low) pos h = h low refl
 
-pub request_fits : (r : RunState) (room pos len : ℕ) → IsRunning r room → HasPlaces r.settings (covers r.domain)
+pub request_fits : (r : RunState) (room pos len : ℕ) → IsRunning r room
     → IsRequest (setting_in r) r.machine pos (pos + len) → Fits r room pos len
-request_fits r room pos len i places request =
+request_fits r room pos len i request =
     let s : Setting = setting_in r in
     let ok : IsSensible s = running_sensible r room i in
     let asks : Asks s r.machine pos (pos + len) = request_asks s ok r.machine pos (pos + len) request in
-    let some : 0 < len = omega (arith, asks.some) in
-    let first : covers r.domain pos ≡ true
-    = wanted_domain s r.machine pos (asks.wanted pos (omega arith) asks.some) in
-    let last : covers r.domain (pos + len - 1) ≡ true
-    = wanted_domain s r.machine (pos + len - 1) (asks.wanted (pos + len - 1) (omega arith) (omega arith)) in
     record {
-      some = some;
+      some = omega (arith, asks.some);
       few = omega (arith, request_few s ok r.machine pos (pos + len) request, i.room_is);
       most = omega (arith, i.room_is, i.sound.cluster_max);
       there = asks.there;
       short = omega (arith, asks.there, i.short);
-      place = omega (arith, places.low (pos + len - 1) last, i.suits.from pos first);
       back = back_of r.machine.progress.mode pos
           (λ low is. (asks_back s ok r.machine pos (pos + len) low i.order request is).after);
       wanted = asks.wanted pos (omega arith) asks.some;
     }
+
+-- and the output, if that has places for the domain
+pub request_place : (r : RunState) (room pos len : ℕ) → IsRunning r room → HasPlaces r.settings (covers r.domain)
+    → IsRequest (setting_in r) r.machine pos (pos + len)
+    → pos - r.settings.input_position + r.settings.output_position + len < 2 ^ 63
+request_place r room pos len i places request =
+    let s : Setting = setting_in r in
+    let asks : Asks s r.machine pos (pos + len)
+    = request_asks s (running_sensible r room i) r.machine pos (pos + len) request in
+    let first : covers r.domain pos ≡ true
+    = wanted_domain s r.machine pos (asks.wanted pos (omega arith) asks.some) in
+    let last : covers r.domain (pos + len - 1) ≡ true
+    = wanted_domain s r.machine (pos + len - 1)
+    (asks.wanted (pos + len - 1) (omega (arith, asks.some)) (omega (arith, asks.some))) in
+    omega (arith, asks.some, places.low (pos + len - 1) last, i.suits.from pos first)
 
 -- what a phase asks for, by the passes that a run is in
 taken_in : (ps : List Pass) (phase : Phase) (n k : ℕ) (status found : Option Status) → has_taken ps found ≡ true
@@ -111,18 +118,26 @@ wanted_in s m map phase n k pos x wanted pass =
     (taken_in m.passes phase n k (slice_get map x) (slice_get m.map pos)
     (and_parts (is_live s m pos) (has_taken m.passes (slice_get m.map pos)) wanted).1 pass)
 
--- a run after an event, by its parts
-pub run_steps : (settings : Settings) (domain : List Range) (map map' : List Status) (phase : Phase)
-    (progress progress' : Progress) (keeper : Keeper) (tally' : Tally) (e : Event)
-    → let r : RunState = run_at settings domain map phase progress keeper in
-    map' ≡ map_after (setting_in r) r.machine e.reading
-    → progress' ≡ (step (setting_in r) r.machine e).progress
-    → tally' ≡ (step (setting_in r) r.machine e).tally
-    → run_at settings domain map' phase progress' (record keeper { tally = tally' }) ≡ stepped r e keeper.heard
-run_steps settings domain map map' phase progress progress' keeper tally' e map_is place_is tally_is =
-    let r : RunState = run_at settings domain map phase progress keeper in
-    let n : Machine = step (setting_in r) r.machine e in
-    let k : Tally → Keeper = λ t. record keeper { tally = t } in
-    ap (λ (l : List Status). run_at settings domain l phase progress' (k tally')) map_is
-    ∙ ap (λ (p : Progress). run_at settings domain n.map phase p (k tally')) place_is
-    ∙ ap (λ (t : Tally). run_at settings domain n.map phase n.progress (k t)) tally_is
+-- a run with these marks, at this place, that has come to this
+abbrev pub run_with : {T : Type 0} → TilesGhosts T → Running T → List Status → Progress → Tally → RunState
+run_with t r map progress tally = record (run_of t r) {
+  pass = progress.pass;
+  machine = record {
+    map = map;
+    passes = passes_from (setting_in (run_of t r)) r.phase progress.pass;
+    progress = progress;
+    tally = tally;
+  };
+}
+
+-- after an event
+pub run_steps : {T : Type 0} (t : TilesGhosts T) (r : Running T) (map : List Status) (progress : Progress)
+    (tally : Tally) (e : Event) → map ≡ (step (setting_in (run_of t r)) (run_of t r).machine e).map
+    → progress ≡ (step (setting_in (run_of t r)) (run_of t r).machine e).progress
+    → tally ≡ (step (setting_in (run_of t r)) (run_of t r).machine e).tally
+    → run_with t r map progress tally ≡ stepped (run_of t r) e r.keeper.heard
+run_steps t r map progress tally e map_is place_is tally_is =
+    let n : Machine = step (setting_in (run_of t r)) (run_of t r).machine e in
+    ap (λ (l : List Status). run_with t r l progress tally) map_is
+    ∙ ap (λ (p : Progress). run_with t r n.map p tally) place_is
+    ∙ ap (λ (y : Tally). run_with t r n.map n.progress y) tally_is

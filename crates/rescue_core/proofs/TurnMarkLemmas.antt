@@ -6,16 +6,15 @@ use Rattle.block_list.specs.declared.status.Status.{Status}
 use Rattle.block_list.specs.declared.status.Status.TheVariants.{Finished}
 use Rattle.block_list.specs.Map.{marked}
 use Rattle.faulty_source.specs.Journal.{Reading, kept}
-use Rattle.transfer_token.specs.declared.fetch.Fetched.TheVariants.{Part, Nothing}
+use Rattle.transfer_token.specs.declared.fetch.Cut.TheVariants.{Part, Nothing}
 use Rattle.transfer_token.specs.Tokens.{size_of, IsCut}
 use Rattle.rescue_rules.specs.declared.phase.Phase.{Phase}
 use Rattle.rescue_rules.specs.declared.progress.Progress.{Progress}
 use Rattle.rescue_rules.specs.Step.{map_after, rest_status, scraped}
-use Rattle.rescue_core.specs.declared.landing.Kept.{Kept}
-use Rattle.rescue_core.specs.declared.landing.Kept.TheVariants.{Part as PartKept, Nothing as NothingKept}
+use Rattle.transfer_token.specs.declared.fetch.Cut.{Cut}
 use Rattle.run_options.specs.declared.settings.Settings.{Settings}
 use Rattle.rescue_core.specs.RunState.{RunState, setting_in}
-use Rattle.rescue_core.specs.TurnParts.{RunsAt, fetched_of}
+use Rattle.rescue_core.specs.TurnParts.{RunsAt}
 
 -- a mark of no positions leaves the map
 pub marked_none : (map : List Status) (pos : ℕ) (t : Status) → marked map pos 0 t ≡ map
@@ -26,8 +25,8 @@ marked_none map pos t =
     ∙ take-append-drop pos map
 
 pub part_map : (settings : Settings) (phase : Phase) (progress : Progress) (r : RunState) (reading : Reading) (map : List Status)
-    (pos : ℕ) (kept : Kept) (landed missed : Range) → RunsAt settings phase progress r → r.machine.map ≡ map
-    → reading.pos ≡ pos → IsCut settings.sector reading (fetched_of kept) → kept ≡ PartKept landed missed
+    (pos : ℕ) (kept : Cut Range) (landed missed : Range) → RunsAt settings phase progress r → r.machine.map ≡ map
+    → reading.pos ≡ pos → IsCut settings.sector reading kept → kept ≡ Part landed missed
     → map_after (setting_in r) r.machine reading
     ≡ scraped progress.mode pos (marked (marked map landed.from (size_of landed) Finished) missed.from (size_of missed)
     (rest_status (setting_in r) r.machine (size_of missed)))
@@ -35,7 +34,7 @@ part_map settings phase progress r reading map pos cut landed missed at is from 
     let k : ℕ = kept settings.sector reading in
     let mode : r.machine.progress.mode ≡ progress.mode = ap (λ (p : Progress). p.mode) at.progress_is in
     let parts : IsCut settings.sector reading (Part landed missed)
-    = subst (λ (c : Kept). IsCut settings.sector reading (fetched_of c)) cut_is h in
+    = subst (λ (c : Cut Range). IsCut settings.sector reading c) cut_is h in
     let part = parts.0 in
     let a : landed.from ≡ reading.pos = ap (λ (x : Range). x.from) parts.2 in
     let b : landed.to ≡ reading.pos + k = ap (λ (x : Range). x.to) parts.2 in
@@ -46,8 +45,8 @@ part_map settings phase progress r reading map pos cut landed missed at is from 
     cc
 
 pub nothing_map : (settings : Settings) (phase : Phase) (progress : Progress) (r : RunState) (reading : Reading)
-    (map : List Status) (pos : ℕ) (kept : Kept) (missed : Range) → RunsAt settings phase progress r → r.machine.map ≡ map
-    → reading.pos ≡ pos → IsCut settings.sector reading (fetched_of kept) → kept ≡ NothingKept missed
+    (map : List Status) (pos : ℕ) (kept : Cut Range) (missed : Range) → RunsAt settings phase progress r → r.machine.map ≡ map
+    → reading.pos ≡ pos → IsCut settings.sector reading kept → kept ≡ Nothing missed
     → map_after (setting_in r) r.machine reading
     ≡ scraped progress.mode pos (marked map missed.from (size_of missed)
     (rest_status (setting_in r) r.machine (size_of missed)))
@@ -55,7 +54,7 @@ nothing_map settings phase progress r reading map pos cut missed at is from h cu
     let k : ℕ = kept settings.sector reading in
     let mode : r.machine.progress.mode ≡ progress.mode = ap (λ (p : Progress). p.mode) at.progress_is in
     let parts : IsCut settings.sector reading (Nothing missed)
-    = subst (λ (c : Kept). IsCut settings.sector reading (fetched_of c)) cut_is h in
+    = subst (λ (c : Cut Range). IsCut settings.sector reading c) cut_is h in
     let part = parts.0 in
     let none = parts.1 in
     let c : missed.from ≡ reading.pos = ap (λ (x : Range). x.from) parts.2 in

@@ -7,4 +7,3 @@ pub mod Closing
 pub mod Stages
 pub mod TurnParts
 pub mod Counting
-pub mod After

@@ -1,27 +1,28 @@
 -- What is known of a run between its turns. For contracts and proofs: no promise uses it.
-use Rattle.std.specs.Prelude.{◌≡◌, ℕ, ◌^◌, ◌<◌, ◌≤◌, Bool, true, false, List, [], length, drop, Option, is_some}
+use Rattle.std.specs.Prelude.{◌≡◌, ℕ, ◌+◌, ◌^◌, ◌<◌, ◌≤◌, Bool, true, false, List, [], length, drop, Option, is_some}
 use Rattle.block_list.specs.declared.block.Range.{Range}
 use Rattle.block_list.specs.declared.status.Status.{Status}
 use Rattle.block_list.specs.declared.status.Status.TheVariants.{NonTrimmed}
 use Rattle.block_list.specs.Map.{Has}
+use Rattle.block_list.specs.declared.tiles.Tiles.{Ghosts as TilesGhosts}
+use Rattle.mapfile_text.specs.declared.heading.Program.TheVariants.{Ddrescue}
 use Rattle.mapfile_text.specs.declared.state.MapState.{MapState}
 use Rattle.mapfile_save.specs.MapNames.{MapNames, names_in}
+use Rattle.transfer_token.specs.declared.token.Request.{Request}
 use Rattle.rescue_rules.specs.declared.phase.Phase.{Phase}
 use Rattle.rescue_rules.specs.declared.phase.Phase.TheVariants.{Copying, Trimming, Scraping}
 use Rattle.rescue_rules.specs.declared.stop.TrimMode.{TrimMode}
 use Rattle.rescue_rules.specs.declared.stop.TrimMode.TheVariants.{Lead, Tail}
-use Rattle.rescue_rules.specs.declared.tally.Tally.{Tally}
 use Rattle.rescue_rules.specs.Setting.{Setting}
 use Rattle.rescue_rules.specs.Passes.{passes_from, is_up, numbered}
-use Rattle.rescue_rules.specs.Machine.{Machine, pass_of, is_live}
+use Rattle.rescue_rules.specs.Machine.{Machine, pass_of, is_live, IsRequest}
 use Rattle.rescue_rules.specs.MachineLaws.{IsInOrder}
 use Rattle.rescue_rules.specs.Moves.{begun}
 use Rattle.rescue_rules.specs.declared.report.Counts.{Counts}
-use Rattle.rescue_rules.specs.declared.progress.Progress.{Progress}
 use Rattle.rescue_rules.specs.Counts.{counts_of}
 use Rattle.rescue_rules.specs.Beginning.{first_pass, shown_at_first, machine_of}
 use Rattle.rescue_domain.specs.Parts.{covers}
-use Rattle.rescue_core.specs.declared.keeper.Keeper.{Keeper}
+use Rattle.rescue_core.specs.declared.running.Running.{Running}
 use Rattle.run_options.specs.declared.settings.Settings.{Settings}
 use Rattle.run_options.specs.Settings.{IsSound, Suits}
 
@@ -66,28 +67,6 @@ setting_with settings domain names line = record {
 abbrev pub setting_in : RunState → Setting
 setting_in r = setting_with r.settings r.domain r.names r.line
 
--- the machine's state, from its parts
-abbrev pub machine_at : Setting → List Status → Phase → Progress → Tally → Machine
-machine_at s map phase progress tally = record {
-  map = map;
-  passes = passes_from s phase progress.pass;
-  progress = progress;
-  tally = tally;
-}
-
--- the run that these parts make
-abbrev pub run_at : Settings → List Range → List Status → Phase → Progress → Keeper → RunState
-run_at settings domain map phase progress keeper = record {
-  settings = settings;
-  domain = domain;
-  names = keeper.names;
-  line = keeper.heading.line;
-  phase = phase;
-  pass = progress.pass;
-  machine = machine_at (setting_with settings domain keeper.names keeper.heading.line) map phase progress keeper.tally;
-  heard = keeper.heard;
-}
-
 -- no position that is left of the domain has this status
 abbrev pub IsGone : Status → RunState → Type 0
 IsGone status r = (x : ℕ) → is_live (setting_in r) r.machine x ≡ true → Has r.machine.map status x → ⊥
@@ -123,6 +102,36 @@ pub record IsRunning (r : RunState) (room : ℕ) : Type 0 where
 -- counts are those of what is left of the domain
 pub record HasCounts (r : RunState) (counts : Counts) : Type 0 where
   pub counts_are : counts ≡ counts_of (is_live (setting_in r) r.machine) r.machine.map
+
+-- the next request of a run
+abbrev pub IsNext : RunState → Request → Type 0
+IsNext r request = IsRequest (setting_in r) r.machine request.pos (request.pos + request.len)
+
+module _ {T : Type 0} where
+  -- the run that a value is, as the rules have it
+  abbrev pub run_of : TilesGhosts T → Running T → RunState
+  run_of t r = record {
+    settings = r.settings;
+    domain = r.domain;
+    names = r.keeper.names;
+    line = r.keeper.heading.line;
+    phase = r.phase;
+    pass = r.progress.pass;
+    machine = record {
+      map = t.statuses r.tiles;
+      passes = passes_from (setting_with r.settings r.domain r.keeper.names r.keeper.heading.line) r.phase
+          r.progress.pass;
+      progress = r.progress;
+      tally = r.keeper.tally;
+    };
+    heard = r.keeper.heard;
+  }
+
+  -- a value that is a run between its turns
+  pub record IsRun (t : TilesGhosts T) (r : Running T) : Type 0 where
+    pub running : IsRunning (run_of t r) (length r.buf.items)
+    pub program : r.keeper.heading.program ≡ Ddrescue
+    pub counted : HasCounts (run_of t r) r.counts
 
 -- a run at its start
 abbrev pub started : Settings → List Range → Option MapNames → List ℕ → List Status → Option MapState → (moment : ℕ)

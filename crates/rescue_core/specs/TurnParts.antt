@@ -1,14 +1,16 @@
 -- What the parts of a turn take, and what they make. For contracts and proofs: no promise uses it.
 use Rattle.std.specs.Prelude.{◌≡◌, ⊤, ℕ, ◌+◌, ◌/◌, ◌≤◌, Bool, List, length, take, Option, Some, None, if◌then◌else◌}
+use Rattle.block_list.specs.declared.block.Range.{Range}
+use Rattle.block_list.specs.declared.tiles.Tiles.{Ghosts as TilesGhosts}
 use Rattle.faulty_source.specs.Got.{count_of, is_end}
 use Rattle.faulty_source.specs.Journal.{Reading}
 use Rattle.faulty_source.specs.SourceState.{SourceState}
 use Rattle.crash_site.specs.SiteChanges.{Makes}
 use Rattle.rescue_console.specs.ClockState.{ClockState}
 use Rattle.transfer_token.specs.declared.token.Request.{Request}
-use Rattle.transfer_token.specs.declared.fetch.Fetched.{Fetched}
-use Rattle.transfer_token.specs.declared.fetch.Fetched.TheVariants.{Whole, Part, Nothing, Ended, Empty}
-use Rattle.transfer_token.specs.Tokens.{IsCut}
+use Rattle.transfer_token.specs.declared.fetch.Cut.{Cut}
+use Rattle.transfer_token.specs.declared.fetch.Cut.TheVariants.{Whole, Part, Nothing, Ended, Empty}
+use Rattle.transfer_token.specs.Tokens.{Spans, IsCut}
 use Rattle.rescue_rules.specs.declared.phase.Phase.{Phase}
 use Rattle.rescue_rules.specs.declared.stop.TrimMode.{TrimMode}
 use Rattle.rescue_rules.specs.declared.stop.TrimMode.TheVariants.{Lead, Tail}
@@ -21,12 +23,11 @@ use Rattle.rescue_rules.specs.Step.{Event, is_timely}
 use Rattle.rescue_rules.specs.RunCalls.{write_calls}
 use Rattle.rescue_rules.specs.Across.{Across}
 use Rattle.rescue_core.specs.declared.gather.Gathered.{Gathered}
-use Rattle.rescue_core.specs.declared.landing.Kept.{Kept}
-use Rattle.rescue_core.specs.declared.landing.Kept.TheVariants.{Whole as WholeKept, Part as PartKept, Nothing as NothingKept, Ended as EndedKept, Empty as EmptyKept}
 use Rattle.run_options.specs.declared.settings.Settings.{Settings}
 use Rattle.rescue_core.specs.declared.timed.Timed.{Timed}
 use Rattle.rescue_core.specs.declared.turn.Advanced.{Advanced}
-use Rattle.rescue_core.specs.RunState.{RunState, setting_in}
+use Rattle.rescue_core.specs.declared.running.Running.{Running}
+use Rattle.rescue_core.specs.RunState.{RunState, setting_in, run_of, IsRun, IsNext}
 use Rattle.rescue_core.specs.Turning.{IsEvent, turn_of, stepped, move_by}
 
 -- a run with these settings, in this phase and at this place
@@ -55,20 +56,12 @@ pub record IsTimed (request : Request) (sector : ℕ) (timed : Timed) (buf : Lis
   pub cut : IsCut sector event.reading timed.fetched
   pub front : take (length event.reading.given) buf ≡ event.reading.given
 
--- what was kept of a request, as it was fetched
-abbrev pub fetched_of : Kept → Fetched
-fetched_of (WholeKept landed) = Whole landed
-fetched_of (PartKept landed missed) = Part landed missed
-fetched_of (NothingKept missed) = Nothing missed
-fetched_of (EndedKept landed over) = Ended landed over
-fetched_of (EmptyKept over) = Empty over
-
 -- where a read met the input's end, if it did
 abbrev pub end_met : Reading → Option ℕ
 end_met r = if r.ended then Some (r.pos + length r.given) else None
 
 -- a read that was cut into this, whose bytes are at the buffer's front, and whose first byte has this place
-pub record IsCutAt (fetched : Fetched) (buf : List ℕ) (at : ℕ) (s : Setting) (r : Reading) : Type 0 where
+pub record IsCutAt (fetched : Cut Range) (buf : List ℕ) (at : ℕ) (s : Setting) (r : Reading) : Type 0 where
   pub cut : IsCut s.sector r fetched
   pub front : take (length r.given) buf ≡ r.given
   pub at_is : at ≡ place s r.pos
@@ -78,24 +71,43 @@ abbrev pub IsBackOf : TrimMode → (pos : ℕ) → Type 0
 IsBackOf Lead pos = ⊤
 IsBackOf (Tail low) pos = low ≤ pos
 
--- A read of what was requested whose kept part was written, and what a turn answers of it.
-pub record Gathers (request : Request) (settings : Settings) (got : Gathered) (o : Across) : Type 0 where
+-- the read of an event, as a run gathered it
+pub record IsGathered (request : Request) (r : RunState) (got : Gathered) (e : Event) : Type 0 where
+  pub pos : e.reading.pos ≡ request.pos
+  pub asked : e.reading.asked ≡ request.len
+  pub few : length e.reading.given ≤ request.len
+  pub cut : IsCut r.settings.sector e.reading got.kept
+  pub turn : got.turn ≡ turn_of r e
+  pub after : e.after ≡ got.after
+
+-- a read of what was requested whose kept part was written
+pub record Gathers (request : Request) (r : RunState) (got : Gathered) (o : Across) : Type 0 where
   pub event : Event
   pub is : IsEvent request event o.source o.source' o.clock o.clock'
-  pub cut : IsCut settings.sector event.reading (fetched_of got.kept)
-  pub turn : (r : RunState) → r.settings ≡ settings → got.turn ≡ turn_of r event
-  pub after : event.after ≡ got.after
-  pub writes : (r : RunState) → r.settings ≡ settings → Makes (write_calls (setting_in r) event.reading) o.site o.site'
+  pub gathered : IsGathered request r got event
+  pub writes : Makes (write_calls (setting_in r) event.reading) o.site o.site'
 
--- A turn up to its marks: one event of the request, its step and its write; and whether a line is due after it, and
--- whether it is time for a save.
+-- a run whose next request was gathered
+pub record MayGoOn {T : Type 0} (t : TilesGhosts T) (r : Running T) (request : Request) (got : Gathered)
+    : Type 0 where
+  pub run : IsRun t r
+  pub next : IsNext (run_of t r) request
+  pub spans : Spans request got.kept
+  pub given : got.turn.given ≤ request.len
+
+-- One step of the rules, and what a turn answers of it. Whether a line is due after it, and whether it is time for a
+-- save.
+pub record GoesOn (e : Event) (r r' : RunState) (got : Advanced) : Type 0 where
+  pub steps : r' ≡ stepped r e r.heard
+  pub answers : got.turn ≡ turn_of r e
+  pub speaks : got.speaks
+      ≡ is_line_due r.machine.tally.said (move_by r e).after.tally.shown.current
+      ((move_by r e).after.tally.now / 1000)
+  pub saves : got.saves ≡ is_timely r.machine e
+
+-- A turn up to its marks: one event of the request, its step and its write.
 pub record Advances (request : Request) (got : Advanced) (r r' : RunState) (o : Across) : Type 0 where
   pub event : Event
   pub is : IsEvent request event o.source o.source' o.clock o.clock'
-  pub answers : got.turn ≡ turn_of r event
-  pub steps : r' ≡ stepped r event r.heard
+  pub goes : GoesOn event r r' got
   pub writes : Makes (write_calls (setting_in r) event.reading) o.site o.site'
-  pub speaks : got.speaks
-      ≡ is_line_due r.machine.tally.said (move_by r event).after.tally.shown.current
-      ((move_by r event).after.tally.now / 1000)
-  pub saves : got.saves ≡ is_timely r.machine event

@@ -1,117 +1,88 @@
 //! What a run does after a read that it gathered.
-ghost use Rattle.std.specs.Prelude.{◌+◌, ◌≤◌, length};
-ghost use Rattle.run_options.specs.Settings.{IsSound};
-ghost use Rattle.transfer_token.specs.Tokens.{Spans};
-ghost use Rattle.rescue_core.specs.TurnParts.{IsBackOf, fetched_of};
-ghost use Rattle.rescue_core.specs.After.{GoesOnAfter};
+ghost use Rattle.std.specs.Prelude.{◌≡◌, ◌≤◌};
+ghost use Rattle.rescue_rules.specs.Step.{Event};
+ghost use Rattle.rescue_core.specs.RunState.{run_of, IsRun};
+ghost use Rattle.rescue_core.specs.TurnParts.{IsGathered, MayGoOn, GoesOn};
 
 use crate::counts::count_after;
 use crate::due::Due;
 use crate::gather::Gathered;
-use crate::landing::Kept;
 use crate::mark::mark;
 use crate::progress::progress_after;
+use crate::running::Running;
 use crate::tally::{shown_at, tally_after};
-use crate::turn::{Advanced, Turn};
+use crate::turn::{Advanced, Read, Turn};
 use crate::wanted::trims_on;
 use block_list::tiles::Tiles;
-use rescue_domain::domain::Domain;
 use rescue_domain::live::Live;
 use rescue_rules::phase::Phase;
-use rescue_rules::progress::Progress;
-use rescue_rules::report::Counts;
-use rescue_rules::tally::Tally;
-use run_options::settings::Settings;
+use transfer_token::fetch::Cut;
 use transfer_token::token::Request;
 
-/// Marks what was kept and missed, moves cursor and skip on, and counts the read; tells what is due then.
-// A plain read of copying has its own copy of `go_on`, in which most of what it asks is known (bench/turns).
-#[inline(always)]
-pub(crate) fn go_on_by_kind<T: Tiles>(
-    settings: &Settings,
-    domain: &Domain,
-    tiles: &mut T,
-    progress: &mut Progress,
-    tally: &mut Tally,
-    counts: &mut Counts,
-    phase: Phase,
-    request: Request,
-    gathered: Gathered,
-) -> Advanced
-    requires sound { IsSound settings.now }
-    requires spans { Spans request (fetched_of gathered.kept) }
-    requires within { request.pos + request.len ≤ length (T.statuses tiles.old) }
-    requires back { IsBackOf progress.old.mode request.pos }
-    requires spare { 6 ≤ T.spare tiles.old }
-    requires skip { progress.old.skip ≤ settings.now.skips.most }
-    requires given { gathered.turn.given ≤ request.len }
-    ensures { GoesOnAfter settings.now domain.now phase request gathered (T.statuses tiles.old) (T.statuses tiles.new)
-        progress.old progress.new tally.old tally.new counts.old counts.new result }
-{
-    let Gathered { kept, turn, after } = gathered;
-    match kept {
-        Kept::Whole(landed) if phase == Phase::Copying && turn.is_plain() => {
-            let turn = Turn {
-                whole: true,
-                slow: false,
-                ended: false,
-                ..turn
-            };
-            let kept = Kept::Whole(landed);
-            let gathered = Gathered { kept, turn, after };
-            let phase = Phase::Copying;
-            go_on(
-                settings, domain, tiles, progress, tally, counts, phase, request, gathered,
-            )
-        }
-        kept => {
-            let gathered = Gathered { kept, turn, after };
-            go_on(
-                settings, domain, tiles, progress, tally, counts, phase, request, gathered,
-            )
+impl<T: Tiles> Running<T> {
+    /// Marks what was kept and missed, moves cursor and skip on, and counts the read; tells what is due then.
+    // A plain read of copying has its own copy of `go_on`, in which most of what it asks is known (bench/turns).
+    #[inline(always)]
+    pub(crate) fn go_on_by_kind(&mut self, request: Request, gathered: Gathered) -> Advanced
+        requires gathered { MayGoOn T.Tiles self.old request gathered }
+        requires spare { 6 ≤ T.spare self.old.tiles }
+        ensures { (e : Event) → IsGathered request (run_of T.Tiles self.old) gathered e
+            → GoesOn e (run_of T.Tiles self.old) (run_of T.Tiles self.new) result × IsRun T.Tiles self.new }
+    {
+        let Gathered { kept, turn, after } = gathered;
+        match kept {
+            Cut::Whole(landed) if self.phase == Phase::Copying && turn.is_plain() => {
+                let turn = Turn {
+                    whole: true,
+                    slow: false,
+                    ended: false,
+                    ..turn
+                };
+                let kept = Cut::Whole(landed);
+                let gathered = Gathered { kept, turn, after };
+                self.go_on(Phase::Copying, request, gathered)
+            }
+            kept => {
+                let gathered = Gathered { kept, turn, after };
+                self.go_on(self.phase, request, gathered)
+            }
         }
     }
-}
 
-/// Marks and counts after any read.
-#[inline(always)]
-fn go_on<T: Tiles>(
-    settings: &Settings,
-    domain: &Domain,
-    tiles: &mut T,
-    progress: &mut Progress,
-    tally: &mut Tally,
-    counts: &mut Counts,
-    phase: Phase,
-    request: Request,
-    gathered: Gathered,
-) -> Advanced
-    requires sound { IsSound settings.now }
-    requires spans { Spans request (fetched_of gathered.kept) }
-    requires within { request.pos + request.len ≤ length (T.statuses tiles.old) }
-    requires back { IsBackOf progress.old.mode request.pos }
-    requires spare { 6 ≤ T.spare tiles.old }
-    requires skip { progress.old.skip ≤ settings.now.skips.most }
-    requires given { gathered.turn.given ≤ request.len }
-    ensures { GoesOnAfter settings.now domain.now phase request gathered (T.statuses tiles.old) (T.statuses tiles.new)
-        progress.old progress.new tally.old tally.new counts.old counts.new result }
-{
-    let Gathered { kept, turn, after } = gathered;
-    let top = tiles.end();
-    let end = request.pos + request.len as u64;
-    let met = mark(tiles, kept, request, settings, phase, *progress);
-    let live = Live {
-        domain,
-        over: tally.over,
-    };
-    count_after(counts, live, tiles, phase, request, turn, met);
-    let more = trims_on(live, tiles, phase, end);
-    progress_after(settings, phase, progress, top, request, turn, more);
-    let shown = shown_at(phase, *progress);
-    let Due { speaks, saves } = tally_after(tally, turn, after, shown, met);
-    Advanced {
-        turn,
-        speaks,
-        saves,
+    /// Marks and counts after any read, in the run's phase.
+    #[inline(always)]
+    fn go_on(&mut self, phase: Phase, request: Request, gathered: Gathered) -> Advanced
+        requires phase { phase ≡ self.old.phase }
+        requires gathered { MayGoOn T.Tiles self.old request gathered }
+        requires spare { 6 ≤ T.spare self.old.tiles }
+        ensures { (e : Event) → IsGathered request (run_of T.Tiles self.old) gathered e
+            → GoesOn e (run_of T.Tiles self.old) (run_of T.Tiles self.new) result × IsRun T.Tiles self.new }
+    {
+        let Gathered { kept, turn, after } = gathered;
+        let top = self.tiles.end();
+        let end = request.pos + request.len as u64;
+        let met = mark(
+            &mut self.tiles,
+            kept,
+            request,
+            &self.settings,
+            phase,
+            self.progress,
+        );
+        let live = Live {
+            domain: &self.domain,
+            over: self.keeper.tally.over,
+        };
+        let read = Read { request, turn };
+        count_after(&mut self.counts, live, &self.tiles, phase, read, met);
+        let more = trims_on(live, &self.tiles, phase, end);
+        progress_after(&self.settings, phase, &mut self.progress, top, read, more);
+        let shown = shown_at(phase, self.progress);
+        let Due { speaks, saves } = tally_after(&mut self.keeper.tally, turn, after, shown, met);
+        Advanced {
+            turn,
+            speaks,
+            saves,
+        }
     }
 }

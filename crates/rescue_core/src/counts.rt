@@ -11,7 +11,7 @@ ghost use Rattle.rescue_core.specs.RunState.{RunState, setting_in, HasCounts};
 ghost use Rattle.rescue_core.specs.Turning.{stepped};
 ghost use Rattle.rescue_core.specs.TurnParts.{end_met};
 
-use crate::turn::Turn;
+use crate::turn::Read;
 use block_list::areas::Count;
 use block_list::status::Status;
 use block_list::tiles::Tiles;
@@ -20,7 +20,6 @@ use rescue_domain::domain::Domain;
 use rescue_domain::live::Live;
 use rescue_rules::phase::Phase;
 use rescue_rules::report::Counts;
-use transfer_token::token::Request;
 
 /// The counts of a whole map, which are looked up once, when a run begins.
 pub fn counts_at_first<T: Tiles>(domain: &Domain, tiles: &T) -> Counts
@@ -37,16 +36,15 @@ pub(crate) fn count_after<T: Tiles>(
     live: Live<'_>,
     tiles: &T,
     phase: Phase,
-    request: Request,
-    turn: Turn,
+    read: Read,
     end: Option<u64>,
 )
     ensures { (r : RunState) (e : Event) (heard : Bool) → HasCounts r counts.old
-        → IsMarkedRead r e phase request turn live.entry (T.statuses tiles.now) → end ≡ end_met e.reading
+        → IsMarkedRead r e phase read.request read.turn live.entry (T.statuses tiles.now) → end ≡ end_met e.reading
         → HasCounts (stepped r e heard) counts.new }
 {
-    counts.rescued = counts.rescued.saturating_add(turn.kept);
-    fail_after(&mut counts.failed, live, tiles, phase, request, turn);
+    counts.rescued = counts.rescued.saturating_add(read.turn.kept);
+    fail_after(&mut counts.failed, live, tiles, phase, read);
     if let Some(end) = end {
         *counts = counts_before(*counts, live, tiles, end);
     }
@@ -54,19 +52,13 @@ pub(crate) fn count_after<T: Tiles>(
 
 /// Goes on with the count of what failed, after the marks of a read. After a whole read of copying it is as before.
 #[inline(always)]
-fn fail_after<T: Tiles>(
-    failed: &mut Count,
-    live: Live<'_>,
-    tiles: &T,
-    phase: Phase,
-    request: Request,
-    turn: Turn,
-)
+fn fail_after<T: Tiles>(failed: &mut Count, live: Live<'_>, tiles: &T, phase: Phase, read: Read)
     ensures { (r : RunState) (e : Event)
         → failed.old ≡ (counts_of (is_live (setting_in r) r.machine) r.machine.map).failed
-        → IsMarkedRead r e phase request turn live.entry (T.statuses tiles.now)
+        → IsMarkedRead r e phase read.request read.turn live.entry (T.statuses tiles.now)
         → failed.new ≡ (counts_of (is_live (setting_in r) r.machine) (T.statuses tiles.now)).failed }
 {
+    let Read { request, turn } = read;
     let from = request.pos;
     if copies(phase) {
         if turn.failed() {

@@ -7,9 +7,8 @@ ghost use Rattle.rescue_rules.specs.Machine.{Machine, pass_of};
 ghost use Rattle.rescue_rules.specs.Setting.{Setting};
 ghost use Rattle.rescue_rules.specs.Step.{map_after, rest_status, scraped};
 ghost use Rattle.rescue_core.specs.RunState.{RunState, setting_in};
-ghost use Rattle.rescue_core.specs.TurnParts.{RunsAt, fetched_of, end_met, IsBackOf};
+ghost use Rattle.rescue_core.specs.TurnParts.{RunsAt, end_met, IsBackOf};
 
-use crate::landing::Kept;
 use block_list::status::Status;
 use block_list::tiles::Tiles;
 use rescue_rules::phase::Phase;
@@ -17,49 +16,50 @@ use rescue_rules::progress::Progress;
 use rescue_rules::stop::TrimMode;
 use run_options::settings::Settings;
 use transfer_token::book::{book, book_missed};
-use transfer_token::token::{Missed, Request};
+use transfer_token::fetch::Cut;
+use transfer_token::token::{Landed, Missed, Request};
 
 /// Marks what was kept of a request, and what was missed; answers where the input ended, if the read met its end.
 #[inline(always)]
 pub(crate) fn mark<T: Tiles>(
     tiles: &mut T,
-    kept: Kept,
+    kept: Cut<Landed>,
     request: Request,
     settings: &Settings,
     phase: Phase,
     progress: Progress,
 ) -> Option<u64>
-    requires spans { Spans request (fetched_of kept) }
+    requires spans { Spans request kept }
     requires within { request.pos + request.len ≤ length (T.statuses tiles.old) }
     requires back { IsBackOf progress.mode request.pos }
     requires spare { 6 ≤ T.spare tiles.old }
     ensures map { (r : RunState) (reading : Reading) → RunsAt settings.now phase progress r
         → r.machine.map ≡ T.statuses tiles.old → reading.pos ≡ request.pos
-        → IsCut settings.now.sector reading (fetched_of kept)
+        → IsCut settings.now.sector reading kept
         → T.statuses tiles.new ≡ map_after (setting_in r) r.machine reading }
-    ensures end { (reading : Reading) → IsCut settings.now.sector reading (fetched_of kept) → result ≡ end_met reading }
+    ensures end { (reading : Reading) → IsCut settings.now.sector reading kept → result ≡ end_met reading }
 {
     match kept {
-        Kept::Whole(landed) => {
+        Cut::Whole(landed) => {
             book(tiles, landed);
             None
         }
-        Kept::Part(landed, missed) => {
+        Cut::Part(landed, missed) => {
             book(tiles, landed);
             mark_missed(tiles, missed, settings, phase);
             mark_between(tiles, progress.mode, request.pos);
             None
         }
-        Kept::Nothing(missed) => {
+        Cut::Nothing(missed) => {
             mark_missed(tiles, missed, settings, phase);
             mark_between(tiles, progress.mode, request.pos);
             None
         }
-        Kept::Ended(landed, over) => {
+        Cut::Ended(landed, over) => {
             book(tiles, landed);
             Some(over.end())
         }
-        Kept::Empty(over) => Some(over.end()),
+        Cut::Empty(over) => Some(over.end()),
     }
 }
 

@@ -19,9 +19,12 @@ ghost use Rattle.rescue_core.specs.Closing.{Closes, MayClose, drafting_at_stop, 
 ghost use Rattle.rescue_core.specs.Stages.{Reached, Begun, Copied, Trimmed, Scraped, Over};
 
 use crate::closing::Closed;
+use crate::counts::counts_at_first;
+use crate::keeper::Keeper;
 use crate::outside::Outside;
+use crate::progress::{first_progress, progress_at_start};
 use crate::running::Running;
-use crate::turn::Turn;
+use crate::turn::{Advanced, Turn};
 use block_list::tiles::Tiles;
 use crash_site::site::Site;
 use faulty_source::source::Source;
@@ -33,6 +36,7 @@ use rescue_console::console::Console;
 use rescue_domain::domain::Domain;
 use rescue_rules::phase::Phase;
 use rescue_rules::stop::Stop;
+use rescue_rules::tally::Tally;
 use run_options::settings::Settings;
 use std::marker::Model;
 use transfer_token::token::Request;
@@ -95,11 +99,12 @@ impl<P: Stage, T: Tiles> Model for Rescue<P, T> {
 
     ghost Value = { RunState };
 
-    ghost view = { λ r. r.running };
-
+    ghost use Rattle.rescue_core.specs.RunState.{run_of, IsRun};
     ghost use Rattle.rescue_core.specs.Stages.{Known};
 
-    ghost invariant = { λ r. Known P.reached r.running };
+    ghost view = { λ r. run_of T.Tiles r.running };
+
+    ghost invariant = { λ r. IsRun T.Tiles r.running × Known P.reached (run_of T.Tiles r.running) };
 }
 
 impl<T: Tiles> Rescue<Copying, T> {
@@ -126,9 +131,24 @@ impl<T: Tiles> Rescue<Copying, T> {
         requires pass { IfSome loaded (λ state. 0 < state.pass) }
         ensures { result ≡ started settings domain names heading.line (T.statuses tiles) loaded moment heard }
     {
-        let running = Running::start(
-            buf, settings, domain, tiles, loaded, names, heading, moment, heard,
-        );
+        let progress = first_progress(&settings, loaded, tiles.end());
+        let counts = counts_at_first(&domain, &tiles);
+        let tally = Tally::first(loaded, moment, counts.failed.areas);
+        let running = Running {
+            settings,
+            domain,
+            tiles,
+            buf,
+            phase: Phase::Copying,
+            progress,
+            counts,
+            keeper: Keeper {
+                names,
+                heading,
+                tally,
+                heard,
+            },
+        };
         Rescue {
             stage: Copying,
             running,
@@ -141,7 +161,7 @@ impl<T: Tiles> Rescue<Copying, T> {
         requires pass { 0 < state.pass }
         ensures { self.new ≡ run_showing self.old state }
     {
-        self.running.show_loaded(state);
+        self.running.keeper.tally.shown = state;
     }
 
     /// Copying is over, once no position of the domain is non-tried.
@@ -253,7 +273,11 @@ impl<P: Stage, T: Tiles> Rescue<P, T> {
         ensures within { IfSome result (λ q. q.pos + q.len ≤ length self.now.machine.map) }
         ensures short { IfSome result (λ q. q.pos + q.len < 2 ^ 63) }
     {
-        self.running.pending_request()
+        if self.running.leads_up() {
+            self.running.next_lead()
+        } else {
+            self.running.find_request()
+        }
     }
 
     /// Goes on to the next pass, after one that has no request left.
@@ -262,14 +286,20 @@ impl<P: Stage, T: Tiles> Rescue<P, T> {
         requires spent { has_request (setting_in self.old) self.old.machine ≡ false }
         ensures { self.new ≡ passed self.old phase pass }
     {
-        self.running.begin_pass(phase, pass);
+        self.running.phase = phase;
+        self.running.progress = progress_at_start(
+            &self.running.settings,
+            pass,
+            self.running.tiles.end(),
+        );
     }
 
     /// One turn: room in the map, a reading of the clock, the read, another reading, the write of what was kept, and
     /// the marks. The line follows, if one is due and the rescue is heard, and the save, if one is due. Without a
     /// mapfile none is. Lack of memory comes before the read; a lost read or a failed write leaves the range as it was,
     /// and says nothing; a call of the save may fail after the marks. After a put that fails it isn't heard any more.
-    // Inlined in the loop of each phase, or a request of one sector costs half as much again (bench/turns).
+    // Inlined in the loop of each phase, with what it calls that is marked so, or a request of one sector costs half as
+    // much again (bench/turns).
     #[inline(always)]
     pub fn turn<S: Source, D: Site, K: Clock, C: Console>(
         &mut self,
@@ -289,7 +319,19 @@ impl<P: Stage, T: Tiles> Rescue<P, T> {
         ensures objects { ObjectsStay (between S.Source D.Site K.Clock C.Console outside.old outside.new) }
         ensures same { AreSame outside.old outside.new }
     {
-        self.running.take_turn(request, outside)
+        let Advanced {
+            turn,
+            speaks,
+            saves,
+        } = self.running.advance(request, outside)?;
+        self.running.say_due(speaks, outside.console);
+        if let Some(limit) = self.running.limit() {
+            return Err(Stop::LimitMet(limit));
+        }
+        if let Err(fault) = self.running.save_due(saves, outside.site) {
+            return Err(Stop::Site(fault.call));
+        }
+        Ok(turn)
     }
 
     /// A rescue that stopped, with its stop.
@@ -314,7 +356,11 @@ impl<T: Tiles> Model for Stopped<T> {
 
     ghost Value = { StoppedState };
 
-    ghost view = { λ s. record { run = s.running; stop = s.stop } };
+    ghost use Rattle.rescue_core.specs.RunState.{run_of, IsRun};
+
+    ghost view = { λ s. record { run = run_of T.Tiles s.running; stop = s.stop } };
+
+    ghost invariant = { λ s. IsRun T.Tiles s.running };
 }
 
 impl<T: Tiles> Stopped<T> {

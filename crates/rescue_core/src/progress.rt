@@ -16,13 +16,12 @@ ghost use Rattle.rescue_core.specs.Turning.{turn_of};
 ghost use Rattle.rescue_core.specs.TurnParts.{RunsAt, IsReadOf};
 
 use crate::request::{is_up, start_of};
-use crate::turn::Turn;
+use crate::turn::{Read, Turn};
 use mapfile_text::state::MapState;
 use rescue_rules::phase::{COPYING_PASSES, Phase};
 use rescue_rules::progress::Progress;
 use rescue_rules::stop::TrimMode;
 use run_options::settings::Settings;
-use transfer_token::token::Request;
 
 /// The start of a pass over a map that ends at `end`.
 pub(crate) fn progress_at_start(settings: &Settings, pass: u32, end: u64) -> Progress
@@ -72,24 +71,25 @@ pub(crate) fn progress_after(
     phase: Phase,
     progress: &mut Progress,
     top: u64,
-    request: Request,
-    turn: Turn,
+    read: Read,
     more: bool,
 )
     requires sound { IsSound settings.now }
     requires skip { progress.old.skip ≤ settings.now.skips.most }
-    requires within { request.pos + request.len ≤ top }
-    requires given { turn.given ≤ request.len }
+    requires within { read.request.pos + read.request.len ≤ top }
+    requires given { read.turn.given ≤ read.request.len }
     requires short { top < 2 ^ 63 }
     ensures { (r : RunState) (e : Event) → RunsAt settings.now phase progress.old r
-        → IsReadOf request turn.given turn.ended e.reading → turn ≡ turn_of r e → length r.machine.map ≡ top
+        → IsReadOf read.request read.turn.given read.turn.ended e.reading → read.turn ≡ turn_of r e
+        → length r.machine.map ≡ top
         → (phase ≡ Trimming
         → more ≡ is_wanted (setting_in r)
-        (record r.machine { map = map_after (setting_in r) r.machine e.reading }) (request.pos + request.len))
+        (record r.machine { map = map_after (setting_in r) r.machine e.reading }) (read.request.pos + read.request.len))
         → progress.new ≡ (step (setting_in r) r.machine e).progress }
 {
+    let Read { request, turn } = read;
     let jumped = jumps(phase, progress.pass, turn);
-    progress.cursor = next_cursor(settings, phase, *progress, top, request, turn, jumped);
+    progress.cursor = next_cursor(settings, phase, *progress, top, read, jumped);
     progress.mode = if phase == Phase::Trimming {
         next_mode(
             progress.mode,
@@ -111,18 +111,18 @@ fn next_cursor(
     phase: Phase,
     progress: Progress,
     top: u64,
-    request: Request,
-    turn: Turn,
+    read: Read,
     jumped: bool,
 ) -> u64
     requires small { progress.skip < 2 ^ 63 }
-    requires within { request.pos + request.len ≤ top }
+    requires within { read.request.pos + read.request.len ≤ top }
     requires short { top < 2 ^ 63 }
-    requires given { turn.given ≤ request.len }
+    requires given { read.turn.given ≤ read.request.len }
     ensures { (r : RunState) (e : Event) → RunsAt settings.now phase progress r
-        → IsReadOf request turn.given turn.ended e.reading → jumped ≡ is_jump (setting_in r) r.machine e
+        → IsReadOf read.request read.turn.given read.turn.ended e.reading → jumped ≡ is_jump (setting_in r) r.machine e
         → length r.machine.map ≡ top → result ≡ cursor_after (setting_in r) r.machine e }
 {
+    let Read { request, turn } = read;
     let jump = if jumped { progress.skip } else { 0 };
     let size = if turn.ended {
         turn.given

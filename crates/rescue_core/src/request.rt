@@ -3,26 +3,22 @@ ghost use Rattle.std.specs.Prelude.{◌≡◌, ℕ, ◌+◌, ◌<◌, ◌≤◌,
 ghost use Rattle.size_suffixes.specs.Sectors.{largest_cluster};
 ghost use Rattle.block_list.specs.declared.block.Range.{Range};
 ghost use Rattle.block_list.specs.declared.status.Status.{Status};
-ghost use Rattle.block_list.specs.declared.status.Status.TheVariants.{NonTrimmed};
-ghost use Rattle.run_options.specs.Settings.{IsSound};
 ghost use Rattle.mapfile_save.specs.MapNames.{MapNames};
 ghost use Rattle.rescue_domain.specs.Live.{lives};
 ghost use Rattle.rescue_rules.specs.declared.phase.Phase.{Phase};
-ghost use Rattle.rescue_rules.specs.declared.phase.Phase.TheVariants.{Trimming};
-ghost use Rattle.rescue_rules.specs.declared.stop.TrimMode.TheVariants.{Lead};
 ghost use Rattle.rescue_rules.specs.Passes.{taken, is_up, numbered};
-ghost use Rattle.rescue_rules.specs.Machine.{Machine, start_of, search_of, IsNextRange, is_ahead, cut_start, cut_end, IsRequest, has_request};
-ghost use Rattle.rescue_core.specs.RunState.{setting_with};
+ghost use Rattle.rescue_rules.specs.Machine.{start_of, search_of, IsNextRange, is_ahead, cut_start, cut_end, has_request};
+ghost use Rattle.rescue_core.specs.RunState.{setting_with, setting_in, run_of, IsRun, IsNext};
 ghost use Rattle.rescue_domain.specs.Search.{IsMarked};
-ghost use Rattle.rescue_core.specs.Requesting.{search_by, StandsAt, IsCutOf};
+ghost use Rattle.rescue_core.specs.Requesting.{search_by, Cuts, FindsNone, LeadsUp};
 
+use crate::running::Running;
 use block_list::block::Range;
 use block_list::status::Status;
 use block_list::tiles::Tiles;
 use rescue_domain::live::Live;
 use rescue_domain::search::{find_down, find_up};
 use rescue_rules::phase::Phase;
-use rescue_rules::progress::Progress;
 use rescue_rules::stop::TrimMode;
 use run_options::settings::Settings;
 use transfer_token::token::Request;
@@ -65,47 +61,6 @@ pub(crate) fn status_of(phase: Phase) -> Status
         Phase::Trimming => Status::NonTrimmed,
         Phase::Scraping => Status::NonScraped,
         Phase::Retrying => Status::BadSector,
-    }
-}
-
-/// The search of a phase at a place, in a map that ends at `end`.
-fn search_at(settings: &Settings, phase: Phase, progress: &Progress, end: u64) -> Search
-    requires sound { IsSound settings.now }
-    ensures is { (domain : List Range) (names : Option MapNames) (line : List ℕ) (m : Machine) (map : List Status)
-        (over : Option ℕ) → length map ≡ end → StandsAt m phase progress.now map over
-        → search_by result ≡ search_of (setting_with settings.now domain names line) m }
-    ensures least { settings.now.sector ≤ result.size }
-    ensures most { result.size ≤ settings.now.cluster }
-{
-    let up = is_up(settings, progress.pass);
-    let size = settings.sector;
-    match phase {
-        Phase::Copying => Search {
-            up,
-            from: progress.cursor,
-            front: up,
-            size: settings.cluster,
-        },
-        Phase::Trimming => match progress.mode {
-            TrimMode::Lead => Search {
-                up,
-                from: start_of(settings, progress.pass, end),
-                front: true,
-                size,
-            },
-            TrimMode::Tail(low) => Search {
-                up: true,
-                from: low,
-                front: false,
-                size,
-            },
-        },
-        Phase::Scraping | Phase::Retrying => Search {
-            up,
-            from: progress.cursor,
-            front: up,
-            size,
-        },
     }
 }
 
@@ -152,100 +107,114 @@ fn cut(search: Search, sector: u64, range: Range) -> Request
     }
 }
 
-/// What is cut of the next range that a search finds.
-#[inline(always)]
-fn request_by<T: Tiles>(
-    settings: &Settings,
-    live: Live<'_>,
-    tiles: &T,
-    search: Search,
-    status: Status,
-) -> Option<Request>
-    requires sound { IsSound settings.now }
-    requires least { settings.now.sector ≤ search.size }
-    requires most { search.size ≤ settings.now.cluster }
-    requires short { length (T.statuses tiles.now) < 2 ^ 63 }
-    ensures some { IfSome result (λ q. IsCutOf (search_by search) settings.now.sector (lives live.entry)
-        (T.statuses tiles.now) status q.pos (q.pos + q.len)) }
-    ensures none { IfNone result ((x : ℕ) → is_ahead (search_by search) x ≡ true
-        → IsMarked (lives live.entry) (T.statuses tiles.now) status x → ⊥) }
-    ensures len { IfSome result (λ q. 0 < q.len) }
-    ensures size { IfSome result (λ q. q.len ≤ settings.now.cluster) }
-    ensures within { IfSome result (λ q. q.pos + q.len ≤ length (T.statuses tiles.now)) }
-    ensures short { IfSome result (λ q. q.pos + q.len < 2 ^ 63) }
-{
-    let range = next_range(live, tiles, search, status)?;
-    Some(cut(search, settings.sector, range))
-}
-
-/// The next request of a phase at a place, of a machine that is there.
-#[inline(always)]
-pub(crate) fn find_request<T: Tiles>(
-    settings: &Settings,
-    live: Live<'_>,
-    tiles: &T,
-    phase: Phase,
-    progress: &Progress,
-) -> Option<Request>
-    requires sound { IsSound settings.now }
-    ensures some { IfSome result (λ q. (names : Option MapNames) (line : List ℕ) (m : Machine)
-        → StandsAt m phase progress.now (T.statuses tiles.now) live.entry.over
-        → IsRequest (setting_with settings.now live.entry.domain.now names line) m q.pos (q.pos + q.len)) }
-    ensures none { IfNone result ((names : Option MapNames) (line : List ℕ) (m : Machine)
-        → StandsAt m phase progress.now (T.statuses tiles.now) live.entry.over
-        → has_request (setting_with settings.now live.entry.domain.now names line) m ≡ false) }
-    ensures len { IfSome result (λ q. 0 < q.len) }
-    ensures most { IfSome result (λ q. q.len ≤ settings.now.cluster) }
-    ensures within { IfSome result (λ q. q.pos + q.len ≤ length (T.statuses tiles.now)) }
-    ensures short { IfSome result (λ q. q.pos + q.len < 2 ^ 63) }
-{
-    let search = search_at(settings, phase, progress, tiles.end());
-    request_by(settings, live, tiles, search, status_of(phase))
-}
-
-/// Whether a phase at a place trims upwards, and is before a range.
-pub(crate) fn leads_up(settings: &Settings, phase: Phase, progress: &Progress) -> bool
-    ensures phase { result ≡ true → phase ≡ Trimming }
-    ensures mode { result ≡ true → progress.now.mode ≡ Lead }
-    ensures up { result ≡ true → (domain : List Range) (names : Option MapNames) (line : List ℕ)
-        → is_up (setting_with settings.now domain names line) (numbered phase progress.now.pass) ≡ true }
-{
-    match (phase, progress.mode) {
-        (Phase::Trimming, TrimMode::Lead) => is_up(settings, progress.pass),
-        _ => false,
+impl<T: Tiles> Running<T> {
+    /// The search of a run.
+    fn search(&self) -> Search
+        requires { IsRun T.Tiles self.now }
+        ensures is { search_by result
+            ≡ search_of (setting_in (run_of T.Tiles self.now)) (run_of T.Tiles self.now).machine }
+        ensures least { self.now.settings.sector ≤ result.size }
+        ensures most { result.size ≤ self.now.settings.cluster }
+    {
+        let progress = &self.progress;
+        let up = is_up(&self.settings, progress.pass);
+        let size = self.settings.sector;
+        match self.phase {
+            Phase::Copying => Search {
+                up,
+                from: progress.cursor,
+                front: up,
+                size: self.settings.cluster,
+            },
+            Phase::Trimming => match progress.mode {
+                TrimMode::Lead => Search {
+                    up,
+                    from: start_of(&self.settings, progress.pass, self.tiles.end()),
+                    front: true,
+                    size,
+                },
+                TrimMode::Tail(low) => Search {
+                    up: true,
+                    from: low,
+                    front: false,
+                    size,
+                },
+            },
+            Phase::Scraping | Phase::Retrying => Search {
+                up,
+                from: progress.cursor,
+                front: up,
+                size,
+            },
+        }
     }
-}
 
-/// The next request of trimming upwards at the front of an area. Nothing is left to trim before the cursor.
-pub(crate) fn next_lead<T: Tiles>(
-    settings: &Settings,
-    live: Live<'_>,
-    tiles: &T,
-    progress: &Progress,
-) -> Option<Request>
-    requires sound { IsSound settings.now }
-    requires mode { progress.now.mode ≡ Lead }
-    requires up { (names : Option MapNames) (line : List ℕ)
-        → is_up (setting_with settings.now live.domain.now names line) (numbered Trimming progress.now.pass) ≡ true }
-    requires clear { (x : ℕ) → x < progress.now.cursor
-        → IsMarked (lives live) (T.statuses tiles.now) NonTrimmed x → ⊥ }
-    requires short { length (T.statuses tiles.now) < 2 ^ 63 }
-    ensures some { IfSome result (λ q. (names : Option MapNames) (line : List ℕ) (m : Machine)
-        → StandsAt m Trimming progress.now (T.statuses tiles.now) live.entry.over
-        → IsRequest (setting_with settings.now live.entry.domain.now names line) m q.pos (q.pos + q.len)) }
-    ensures none { IfNone result ((names : Option MapNames) (line : List ℕ) (m : Machine)
-        → StandsAt m Trimming progress.now (T.statuses tiles.now) live.entry.over
-        → has_request (setting_with settings.now live.entry.domain.now names line) m ≡ false) }
-    ensures len { IfSome result (λ q. 0 < q.len) }
-    ensures most { IfSome result (λ q. q.len ≤ settings.now.cluster) }
-    ensures within { IfSome result (λ q. q.pos + q.len ≤ length (T.statuses tiles.now)) }
-    ensures short { IfSome result (λ q. q.pos + q.len < 2 ^ 63) }
-{
-    let search = Search {
-        up: true,
-        from: progress.cursor,
-        front: true,
-        size: settings.sector,
-    };
-    request_by(settings, live, tiles, search, Status::NonTrimmed)
+    /// What is cut of the next range that a search finds.
+    #[inline(always)]
+    fn request_by(&self, search: Search, status: Status) -> Option<Request>
+        requires run { IsRun T.Tiles self.now }
+        requires least { self.now.settings.sector ≤ search.size }
+        requires most { search.size ≤ self.now.settings.cluster }
+        ensures some { IfSome result (λ q. Cuts (run_of T.Tiles self.now) (search_by search) status q.pos
+            (q.pos + q.len)) }
+        ensures none { IfNone result (FindsNone (run_of T.Tiles self.now) (search_by search) status) }
+        ensures len { IfSome result (λ q. 0 < q.len) }
+        ensures size { IfSome result (λ q. q.len ≤ self.now.settings.cluster) }
+        ensures within { IfSome result (λ q. q.pos + q.len ≤ length (T.statuses self.now.tiles)) }
+        ensures short { IfSome result (λ q. q.pos + q.len < 2 ^ 63) }
+    {
+        let live = Live {
+            domain: &self.domain,
+            over: self.keeper.tally.over,
+        };
+        let range = next_range(live, &self.tiles, search, status)?;
+        Some(cut(search, self.settings.sector, range))
+    }
+
+    /// The next request of a run.
+    #[inline(always)]
+    pub(crate) fn find_request(&self) -> Option<Request>
+        requires { IsRun T.Tiles self.now }
+        ensures some { IfSome result (λ q. IsNext (run_of T.Tiles self.now) q) }
+        ensures none { IfNone result
+            (has_request (setting_in (run_of T.Tiles self.now)) (run_of T.Tiles self.now).machine ≡ false) }
+        ensures len { IfSome result (λ q. 0 < q.len) }
+        ensures most { IfSome result (λ q. q.len ≤ self.now.settings.cluster) }
+        ensures within { IfSome result (λ q. q.pos + q.len ≤ length (T.statuses self.now.tiles)) }
+        ensures short { IfSome result (λ q. q.pos + q.len < 2 ^ 63) }
+    {
+        let search = self.search();
+        self.request_by(search, status_of(self.phase))
+    }
+
+    /// Whether a run trims upwards, and is before a range.
+    pub(crate) fn leads_up(&self) -> bool
+        ensures { result ≡ true → LeadsUp (run_of T.Tiles self.now) }
+    {
+        match (self.phase, self.progress.mode) {
+            (Phase::Trimming, TrimMode::Lead) => is_up(&self.settings, self.progress.pass),
+            _ => false,
+        }
+    }
+
+    /// The next request of trimming upwards at the front of an area. Nothing is left to trim before the cursor.
+    pub(crate) fn next_lead(&self) -> Option<Request>
+        requires run { IsRun T.Tiles self.now }
+        requires leads { LeadsUp (run_of T.Tiles self.now) }
+        ensures some { IfSome result (λ q. IsNext (run_of T.Tiles self.now) q) }
+        ensures none { IfNone result
+            (has_request (setting_in (run_of T.Tiles self.now)) (run_of T.Tiles self.now).machine ≡ false) }
+        ensures len { IfSome result (λ q. 0 < q.len) }
+        ensures most { IfSome result (λ q. q.len ≤ self.now.settings.cluster) }
+        ensures within { IfSome result (λ q. q.pos + q.len ≤ length (T.statuses self.now.tiles)) }
+        ensures short { IfSome result (λ q. q.pos + q.len < 2 ^ 63) }
+    {
+        let search = Search {
+            up: true,
+            from: self.progress.cursor,
+            front: true,
+            size: self.settings.sector,
+        };
+        self.request_by(search, Status::NonTrimmed)
+    }
 }

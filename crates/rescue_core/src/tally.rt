@@ -6,48 +6,48 @@ ghost use Rattle.rescue_rules.specs.Passes.{current_of};
 ghost use Rattle.rescue_rules.specs.Machine.{Machine};
 ghost use Rattle.rescue_rules.specs.Said.{is_line_due as line_due};
 ghost use Rattle.rescue_rules.specs.Step.{Event, is_timely, earlier, step};
-ghost use Rattle.rescue_core.specs.RunState.{RunState, setting_in};
+ghost use Rattle.rescue_core.specs.RunState.{RunState, setting_in, run_of};
 ghost use Rattle.rescue_core.specs.Turning.{turn_of};
 ghost use Rattle.rescue_core.specs.TurnParts.{IsReadOf, end_met};
 
 use crate::due::{Due, pass_event};
+use crate::running::Running;
 use crate::turn::Turn;
+use block_list::tiles::Tiles;
 use faulty_source::source::Got;
 use mapfile_text::state::{Current, MapState};
 use rescue_rules::phase::Phase;
 use rescue_rules::progress::Progress;
 use rescue_rules::tally::Tally;
-use run_options::settings::Settings;
 use transfer_token::token::Request;
 
-/// What a turn answers of what a read gave between two times, of which `kept` bytes were kept.
-pub(crate) fn turn_after(
-    settings: &Settings,
-    request: Request,
-    got: Got,
-    kept: u64,
-    before: u64,
-    after: u64,
-) -> Turn
-    requires { count_of got < 2 ^ 32 }
-    ensures { (r : RunState) (e : Event) → r.settings ≡ settings.now
-        → IsReadOf request (count_of got) (is_end got) e.reading
-        → kept ≡ kept_by r.settings.sector e.reading → e.before ≡ before → e.after ≡ after → result ≡ turn_of r e }
-{
-    let whole = got.count() == request.len;
-    let given = got.count() as u64;
-    let slow = settings.skips.min_rate > 0
-        && given * 1000
-            < settings
-                .skips
-                .min_rate
-                .saturating_mul(after.saturating_sub(before));
-    Turn {
-        kept,
-        given,
-        whole,
-        slow: whole && slow,
-        ended: got.is_end(),
+impl<T: Tiles> Running<T> {
+    /// What a turn answers of what a read gave between two times, of which `kept` bytes were kept.
+    pub(crate) fn turn_after(
+        &self,
+        request: Request,
+        got: Got,
+        kept: u64,
+        before: u64,
+        after: u64,
+    ) -> Turn
+        requires { count_of got < 2 ^ 32 }
+        ensures { (e : Event) → IsReadOf request (count_of got) (is_end got) e.reading
+            → kept ≡ kept_by self.now.settings.sector e.reading → e.before ≡ before → e.after ≡ after
+            → result ≡ turn_of (run_of T.Tiles self.now) e }
+    {
+        let whole = got.count() == request.len;
+        let given = got.count() as u64;
+        let min_rate = self.settings.skips.min_rate;
+        let slow = min_rate > 0
+            && given * 1000 < min_rate.saturating_mul(after.saturating_sub(before));
+        Turn {
+            kept,
+            given,
+            whole,
+            slow: whole && slow,
+            ended: got.is_end(),
+        }
     }
 }
 

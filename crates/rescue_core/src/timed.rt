@@ -7,12 +7,12 @@ ghost use Rattle.rescue_core.specs.TurnParts.{IsTimed};
 
 use faulty_source::source::{Got, Source, SourceLost};
 use rescue_console::clock::Clock;
-use transfer_token::fetch::{Fetched, fetch};
-use transfer_token::token::Request;
+use transfer_token::fetch::{Cut, fetch};
+use transfer_token::token::{Loaded, Request};
 
 /// What came of a request.
 pub(crate) struct Timed {
-    pub fetched: Fetched,
+    pub fetched: Cut<Loaded>,
     /// What the read gave.
     pub got: Got,
     /// The times before it and after it, in milliseconds since 1970.

@@ -10,8 +10,8 @@ use Rattle.faulty_source.specs.Journal.{Reading, is_whole, floor, kept}
 use Rattle.faulty_source.specs.SourceState.{SourceState}
 use Rattle.faulty_source.specs.SourceChanges.{Reads}
 use Rattle.transfer_token.specs.declared.token.Request.{Request}
-use Rattle.transfer_token.specs.declared.fetch.Fetched.{Fetched}
-use Rattle.transfer_token.specs.declared.fetch.Fetched.TheVariants.{Whole, Part, Nothing, Ended, Empty}
+use Rattle.transfer_token.specs.declared.fetch.Cut.{Cut}
+use Rattle.transfer_token.specs.declared.fetch.Cut.TheVariants.{Whole, Part, Nothing, Ended, Empty}
 use Rattle.transfer_token.specs.Tokens.{between, size_of, IsCut, Spans, IfLoaded, HoldsLoaded, Fetches}
 
 -- the range is the part of the read that is kept
@@ -30,7 +30,7 @@ kept_ended sector r part ended =
     ∙ cond-true r.ended (length r.given) rest ended
 
 -- what was loaded is that part
-loaded_is_kept : (sector : ℕ) (r : Reading) (fetched : Fetched) → IsCut sector r fetched → IfLoaded fetched (IsKept sector r)
+loaded_is_kept : (sector : ℕ) (r : Reading) (fetched : Cut Range) → IsCut sector r fetched → IfLoaded fetched (IsKept sector r)
 loaded_is_kept sector r (Whole loaded) cut = rw cut.0 cut.2
 loaded_is_kept sector r (Part loaded missed) cut = cut.2
 loaded_is_kept sector r (Nothing missed) cut = tt
@@ -39,7 +39,7 @@ loaded_is_kept sector r (Ended loaded over) cut =
 loaded_is_kept sector r (Empty over) cut = tt
 
 -- what follows of each range follows of the loaded one
-if_loaded : (fetched : Fetched) (P Q : Range → Type 0) → ((loaded : Range) → P loaded → Q loaded) → IfLoaded fetched P → IfLoaded fetched Q
+if_loaded : (fetched : Cut Range) (P Q : Range → Type 0) → ((loaded : Range) → P loaded → Q loaded) → IfLoaded fetched P → IfLoaded fetched Q
 if_loaded (Whole loaded) P Q step h = step loaded h
 if_loaded (Part loaded missed) P Q step h = step loaded h
 if_loaded (Nothing missed) P Q step h = tt
@@ -64,7 +64,7 @@ kept_right sector r bytes loaded right is =
     all ∙ ap (λ n. take n (drop r.pos bytes)) size ∙ sym (ap (λ (range : Range). slice_range bytes range.from range.to) is)
 
 -- so the buffer's front holds what was loaded
-loaded_holds : (sector : ℕ) (r : Reading) (fetched : Fetched) (buf : List ℕ) (source : SourceState) → IsCut sector r fetched
+loaded_holds : (sector : ℕ) (r : Reading) (fetched : Cut Range) (buf : List ℕ) (source : SourceState) → IsCut sector r fetched
     → take (length r.given) buf ≡ r.given → (IsTrue source.tells → r.given ≡ slice_range source.bytes r.pos (r.pos + length r.given))
     → IfLoaded fetched (HoldsLoaded sector r source buf)
 loaded_holds sector r fetched buf source cut front right =
@@ -75,7 +75,7 @@ loaded_holds sector r fetched buf source cut front right =
     if_loaded fetched (IsKept sector r) (HoldsLoaded sector r source buf) holds (loaded_is_kept sector r fetched cut)
 
 -- what a read gave into the front of a buffer was fetched, and cut
-pub fetched_so : (request : Request) (sector : ℕ) (got : Got) (fetched : Fetched) (part rest : List ℕ) (old new : SourceState)
+pub fetched_so : (request : Request) (sector : ℕ) (got : Got) (fetched : Cut Range) (part rest : List ℕ) (old new : SourceState)
     → count_of got ≤ length part → count_of got ≤ request.len → (is_end got ≡ true → count_of got < request.len)
     → (IsTrue old.tells → take (count_of got) part ≡ slice_range old.bytes request.pos (request.pos + count_of got))
     → Reads (record { pos = request.pos; asked = request.len; given = take (count_of got) part; ended = is_end got } ∷ []) old new

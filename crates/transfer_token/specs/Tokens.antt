@@ -9,8 +9,8 @@ use Rattle.faulty_source.specs.Journal.{Reading, is_whole, is_failed, kept}
 use Rattle.faulty_source.specs.SourceState.{SourceState}
 use Rattle.faulty_source.specs.SourceChanges.{Reads}
 use Rattle.transfer_token.specs.declared.token.Request.{Request}
-use Rattle.transfer_token.specs.declared.fetch.Fetched.{Fetched}
-use Rattle.transfer_token.specs.declared.fetch.Fetched.TheVariants.{Whole, Part, Nothing, Ended, Empty}
+use Rattle.transfer_token.specs.declared.fetch.Cut.{Cut}
+use Rattle.transfer_token.specs.declared.fetch.Cut.TheVariants.{Whole, Part, Nothing, Ended, Empty}
 
 -- the positions from p up to q
 abbrev pub between : ℕ → ℕ → Range
@@ -22,7 +22,7 @@ size_of r = r.to - r.from
 
 -- What a read is cut into: its kept part, and the rest. A whole read has no rest, and one that failed may have no kept
 -- part. Of one that met the end all is kept that it gave, if it gave something, and the rest is over.
-abbrev pub IsCut : (sector : ℕ) → Reading → Fetched → Type 0
+abbrev pub IsCut : (sector : ℕ) → Reading → Cut Range → Type 0
 IsCut sector r (Whole loaded) =
     (is_whole r ≡ true) × (r.ended ≡ false) × (loaded ≡ between r.pos (r.pos + r.asked))
 IsCut sector r (Part loaded missed) =
@@ -37,7 +37,7 @@ IsCut sector r (Empty over) =
     (is_whole r ≡ false) × (r.ended ≡ true) × (length r.given ≡ 0) × (over ≡ r.pos)
 
 -- what a read from here to the input's end is cut into
-abbrev pub IsEndedCut : (from end : ℕ) → Fetched → Type 0
+abbrev pub IsEndedCut : (from end : ℕ) → Cut Range → Type 0
 IsEndedCut from end (Whole loaded) = ⊥
 IsEndedCut from end (Part loaded missed) = ⊥
 IsEndedCut from end (Nothing missed) = ⊥
@@ -46,7 +46,7 @@ IsEndedCut from end (Empty over) = (from ≡ end) × (over ≡ end)
 
 -- What came of a request spans it: its parts join, and none is empty. If the input ended within it, they span what lies
 -- before the end.
-abbrev pub Spans : Request → Fetched → Type 0
+abbrev pub Spans : Request → Cut Range → Type 0
 Spans request (Whole loaded) = loaded ≡ between request.pos (request.pos + request.len)
 Spans request (Part loaded missed) =
     (loaded.from ≡ request.pos) × (loaded.from < loaded.to) × (missed.from ≡ loaded.to) × (missed.from < missed.to)
@@ -57,7 +57,7 @@ Spans request (Ended loaded over) =
 Spans request (Empty over) = over ≡ request.pos
 
 -- if something was loaded, its range has this property
-abbrev pub IfLoaded : Fetched → (Range → Type 0) → Type 0
+abbrev pub IfLoaded : Cut Range → (Range → Type 0) → Type 0
 IfLoaded (Whole loaded) holds = holds loaded
 IfLoaded (Part loaded missed) holds = holds loaded
 IfLoaded (Nothing missed) holds = ⊤
@@ -71,7 +71,7 @@ pub record HoldsLoaded (sector : ℕ) (r : Reading) (source : SourceState) (buf 
   pub own : IsTrue source.tells → take (size_of loaded) buf ≡ slice_range source.bytes loaded.from loaded.to
 
 -- One read was made of what was requested, which answered this, and cut; what it gave is at the buffer's front.
-pub record Fetches (request : Request) (sector : ℕ) (got : Got) (fetched : Fetched) (buf : List ℕ)
+pub record Fetches (request : Request) (sector : ℕ) (got : Got) (fetched : Cut Range) (buf : List ℕ)
     (old new : SourceState) : Type 0 where
   pub reading : Reading
   pub pos : reading.pos ≡ request.pos

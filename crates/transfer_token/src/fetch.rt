@@ -9,16 +9,16 @@ use crate::token::{Loaded, Missed, Over, Request};
 use block_list::block::Range;
 use faulty_source::source::{Got, Source, SourceLost};
 
-/// What came of a request.
-pub enum Fetched {
+/// What came of a request. What is kept of it is a `T`: `Loaded`, or `Landed` once it is in the output.
+pub enum Cut<T> {
     /// All of it was read.
-    Whole(Loaded),
+    Whole(T),
     /// Whole sectors at its front were kept, and the rest was missed.
-    Part(Loaded, Missed),
+    Part(T, Missed),
     /// Nothing of it was kept.
     Nothing(Missed),
     /// The input ended after what was read, all of which is kept.
-    Ended(Loaded, Over),
+    Ended(T, Over),
     /// The input ended at its front or before.
     Empty(Over),
 }
@@ -30,7 +30,7 @@ pub fn fetch<S: Source>(
     buf: &mut [u8],
     request: Request,
     sector: u64,
-) -> Result<(Got, Fetched), SourceLost>
+) -> Result<(Got, Cut<Loaded>), SourceLost>
     requires some { 0 < request.len }
     requires fits { request.len ≤ length buf.old }
     requires sector { 0 < sector }
@@ -43,11 +43,11 @@ pub fn fetch<S: Source>(
     ensures source { Stays (S.state source.old) (S.state source.new) }
 {
     let got = source.read_at(request.pos, &mut buf[..request.len])?;
-    Ok((got, cut(request, got, sector)))
+    Ok((got, cut_read(request, got, sector)))
 }
 
 /// Cuts what a read gave.
-fn cut(request: Request, got: Got, sector: u64) -> Fetched
+fn cut_read(request: Request, got: Got, sector: u64) -> Cut<Loaded>
     requires some { 0 < request.len }
     requires few { count_of got ≤ request.len }
     requires ends { is_end got ≡ true → count_of got < request.len }
@@ -64,26 +64,26 @@ fn cut(request: Request, got: Got, sector: u64) -> Fetched
     }
     let at = stop / sector * sector;
     if stop == to {
-        Fetched::Whole(Loaded::of(Range { from, to }))
+        Cut::Whole(Loaded::of(Range { from, to }))
     } else if from < at {
         let loaded = Loaded::of(Range { from, to: at });
         let missed = Missed::of(Range { from: at, to });
-        Fetched::Part(loaded, missed)
+        Cut::Part(loaded, missed)
     } else {
-        Fetched::Nothing(Missed::of(Range { from, to }))
+        Cut::Nothing(Missed::of(Range { from, to }))
     }
 }
 
 /// Cuts what a read gave that met the input's end.
-fn cut_ended(from: u64, end: u64) -> Fetched
+fn cut_ended(from: u64, end: u64) -> Cut<Loaded>
     requires { from ≤ end }
     ensures { IsEndedCut from end result }
 {
     let over = Over { end };
     if from < end {
         let loaded = Loaded::of(Range { from, to: end });
-        Fetched::Ended(loaded, over)
+        Cut::Ended(loaded, over)
     } else {
-        Fetched::Empty(over)
+        Cut::Empty(over)
     }
 }

@@ -9,7 +9,7 @@ use Rattle.rescue_core.proofs.counts.fail_after.Goals as goal
 pub returns-then-failed : goal.returns-then-failed
 returns-then-failed g c = λ r e was is.
     let map = g.T.Tiles.statuses c.args.tiles.now in
-    let reads = reads_of r e c.args.phase c.args.request c.args.turn c.args.live map is in
+    let reads = reads_of r e c.args.phase c.args.read.request c.args.read.turn c.args.live map is in
     let small = small_counts (is_live (setting_in r) r.machine) map reads.short in
     let on : is_copying r.machine ≡ true = reads.copies_is ∙ sym c.copies.ensures ∙ c.if-copies.true in
     let fails : is_failed e.reading ≡ true = reads.fails ∙ sym c.failed.ensures ∙ c.if-failed.true in
@@ -21,7 +21,7 @@ returns-then-failed g c = λ r e was is.
 pub returns-else-failed : goal.returns-else-failed
 returns-else-failed g c = λ r e was is.
     let map = g.T.Tiles.statuses c.args.tiles.now in
-    let reads = reads_of r e c.args.phase c.args.request c.args.turn c.args.live map is in
+    let reads = reads_of r e c.args.phase c.args.read.request c.args.read.turn c.args.live map is in
     let on : is_copying r.machine ≡ true = reads.copies_is ∙ sym c.copies.ensures ∙ c.if-copies.true in
     let good : is_failed e.reading ≡ false = reads.fails ∙ sym c.failed.ensures ∙ c.if-failed.false in
     was ∙ sym (reads.marks.copied on good)
@@ -29,7 +29,7 @@ returns-else-failed g c = λ r e was is.
 pub returns-then-turn-gt0 : goal.returns-then-turn-gt0
 returns-then-turn-gt0 g c = λ r e was is.
     let map = g.T.Tiles.statuses c.args.tiles.now in
-    let reads = reads_of r e c.args.phase c.args.request c.args.turn c.args.live map is in
+    let reads = reads_of r e c.args.phase c.args.read.request c.args.read.turn c.args.live map is in
     let small = small_counts (is_live (setting_in r) r.machine) map reads.short in
     let off : is_copying r.machine ≡ false = reads.copies_is ∙ sym c.copies.ensures ∙ c.if-copies.false in
     c.failed_less.ensures _
@@ -41,6 +41,6 @@ returns-then-turn-gt0 g c = λ r e was is.
 pub returns-else-turn-gt0 : goal.returns-else-turn-gt0
 returns-else-turn-gt0 g c = λ r e was is.
     let map = g.T.Tiles.statuses c.args.tiles.now in
-    let reads = reads_of r e c.args.phase c.args.request c.args.turn c.args.live map is in
+    let reads = reads_of r e c.args.phase c.args.read.request c.args.read.turn c.args.live map is in
     let off : is_copying r.machine ≡ false = reads.copies_is ∙ sym c.copies.ensures ∙ c.if-copies.false in
     was ∙ sym (reads.marks.nothing off (omega (arith, reads.kept_is, c.if-turn-gt0.false)))

@@ -4,6 +4,6 @@ use Rattle.transfer_token.proofs.fetch.fetch.Goals as goal
 
 pub returns-clause-fetched : goal.returns-clause-fetched
 returns-clause-fetched g c =
-    fetched_so c.args.request c.args.sector c.in_ok-got.got c.cut.result c.read_at.new.buf (drop c.args.request.len c.args.buf.now)
+    fetched_so c.args.request c.args.sector c.in_ok-got.got c.cut_read.result c.read_at.new.buf (drop c.args.request.len c.args.buf.now)
     (g.S.Source.state c.args.source.now) (g.S.Source.state c.read_at.new.self)
-    (search rules) (search rules) (search rules) (search rules) (search rules) (search rules) c.cut.ensures.spans
+    (search rules) (search rules) (search rules) (search rules) (search rules) (search rules) c.cut_read.ensures.spans

@@ -1,103 +1,21 @@
-use Rattle.std.proofs.Common.{length, refl, ap, sym, subst, arith, rules}
+use Rattle.std.proofs.Common.{◌≡◌, ap, refl, subst, sym, ◌∙◌, rules}
 use Rattle.std.proofs.lemmas.Result.{err_from_is_err_and}
-use Rattle.rescue_core.specs.declared.turn.Turn.{Turn}
-use Rattle.rescue_core.specs.RunState.{IsRunning}
-use Rattle.rescue_core.proofs.TurnedLemmas.{Parts, parts_of, parts_after, run_of, begins_of, begins_fits, Does, does_running, does_counted, does_advance, halts_same, holds_same, counted_same, room_same}
 use Rattle.faulty_source.proofs.Keeping.{stays_self}
+use Rattle.rescue_core.specs.declared.running.Running.{Running}
+use Rattle.rescue_core.specs.RunState.{RunState, run_of, IsNext}
+use Rattle.rescue_core.specs.Turning.{Starved}
+use Rattle.rescue_core.proofs.KeeperLemmas.{alike_run}
+use Rattle.rescue_core.proofs.TurnedLemmas.{gives_few, map_stays, advances, halts_same}
 use Rattle.rescue_core.proofs.running.Running.advance.Goals as goal
 
-pub gather-requires : goal.gather-requires
-gather-requires g c =
-    let begins = begins_of _ g.T.Tiles.statuses c.self.inside c.args.self.now c.args.request c.self.view_is c.self.invariant.0
-    c.requires.places c.requires.request in
-    let fits = begins_fits _ _ _ _ begins in
-    record {
-      sound = search rules;
-      some = fits.some;
-      fits = omega arith;
-      cluster = omega arith;
-      short = fits.short;
-      place = fits.place;
-      «open» = c.requires.«open»;
-    }
+pub returns-then-is_err-clause-halted : goal.returns-then-is_err-clause-halted
+returns-then-is_err-clause-halted g c =
+    Starved refl (map_stays g.T.Tiles c.args.self.now _ c.reserve.ensures.statuses) refl refl refl refl
 
-pub returns-in_err-gathered-clause-halted : goal.returns-in_err-gathered-clause-halted
-returns-in_err-gathered-clause-halted g c =
-    let p : Parts = parts_of _ g.T.Tiles.statuses c.self.inside in
-    let stop = err_from_is_err_and c.from_residual.result c.from_residual.ensures.1 in
-    rw (stop.1, stop.2)
-    (halts_same p c.args.self.now c.args.request _ (g.T.Tiles.statuses c.reserve.new.self) _ c.self.view_is
-    c.reserve.ensures.statuses (c.in_err-gathered.ensures.halted (run_of p) refl))
-
-pub invariant_of-self : goal.invariant_of-self
-invariant_of-self g c =
-    let p : Parts = parts_of _ g.T.Tiles.statuses c.self.inside in (
-      holds_same p _ _ (g.T.Tiles.statuses c.reserve.new.self) c.reserve.ensures.statuses refl c.self.invariant.0,
-      c.self.invariant.1,
-      counted_same p (g.T.Tiles.statuses c.reserve.new.self) _ c.reserve.ensures.statuses c.self.invariant.2,
-    )
-
-pub invariant_of-self-in_err-gathered : goal.invariant_of-self-in_err-gathered
-invariant_of-self-in_err-gathered g c =
-    let p : Parts = parts_of _ g.T.Tiles.statuses c.self.inside in
-    let room = room_same c.self.inside.buf.len c.gather.new.buf _ c.self.inside.buf.items c.deref_mut.ensures.len
-    c.deref_mut.ensures.value c.gather.ensures.same in (
-      holds_same p _ _ (g.T.Tiles.statuses c.reserve.new.self) c.reserve.ensures.statuses room c.self.invariant.0,
-      c.self.invariant.1,
-      counted_same p (g.T.Tiles.statuses c.reserve.new.self) _ c.reserve.ensures.statuses c.self.invariant.2,
-    )
-
-pub go_on_by_kind-requires-clause-within : goal.go_on_by_kind-requires-clause-within
-go_on_by_kind-requires-clause-within g c =
-    let begins = begins_of _ g.T.Tiles.statuses c.self.inside c.args.self.now c.args.request c.self.view_is c.self.invariant.0
-    c.requires.places c.requires.request in
-    let fits = begins_fits _ _ _ _ begins in
-    omega (arith, ap length c.reserve.ensures.statuses)
-
-pub go_on_by_kind-requires-clause-given : goal.go_on_by_kind-requires-clause-given
-go_on_by_kind-requires-clause-given g c =
-    let p : Parts = parts_of _ g.T.Tiles.statuses c.self.inside in
-    let got = c.in_ok-gathered.ensures.gathered in
-    omega (arith, ap (λ (turn : Turn). turn.given) (got.turn (run_of p) refl), got.is.few)
-
-pub invariant_of-self-2 : goal.invariant_of-self-2
-invariant_of-self-2 g c =
-    let p : Parts = parts_of _ g.T.Tiles.statuses c.self.inside in
-    let begins = begins_of _ g.T.Tiles.statuses c.self.inside c.args.self.now c.args.request c.self.view_is c.self.invariant.0
-    c.requires.places c.requires.request in
-    let does : Does p c.args.request c.in_ok-gathered.gathered (g.T.Tiles.statuses c.go_on_by_kind.new.tiles)
-    c.go_on_by_kind.new.progress c.go_on_by_kind.new.tally c.self.inside.counts c.go_on_by_kind.new.counts
-    c.go_on_by_kind.result = record {
-      old = g.T.Tiles.statuses c.reserve.new.self;
-      old_is = c.reserve.ensures.statuses;
-      goes = c.go_on_by_kind.ensures;
-    } in
-    let got = c.in_ok-gathered.ensures.gathered in
-    let running = does_running p c.args.self.now _ c.args.request c.in_ok-gathered.gathered _ _ _ _ _ _ _ begins
-    got does in
-    let room = room_same c.self.inside.buf.len c.gather.new.buf _ c.self.inside.buf.items c.deref_mut.ensures.len
-    c.deref_mut.ensures.value c.gather.ensures.same in (
-      subst (λ n. IsRunning (run_of (parts_after p (g.T.Tiles.statuses c.go_on_by_kind.new.tiles)
-          c.go_on_by_kind.new.progress c.go_on_by_kind.new.tally)) n) (sym room) running,
-      c.self.invariant.1,
-      does_counted p c.args.self.now _ c.args.request c.in_ok-gathered.gathered _ _ _ _ _ _ _ begins got does
-          c.self.invariant.2,
-    )
-
-pub returns-clause-advanced : goal.returns-clause-advanced
-returns-clause-advanced g c =
-    let p : Parts = parts_of _ g.T.Tiles.statuses c.self.inside in
-    let begins = begins_of _ g.T.Tiles.statuses c.self.inside c.args.self.now c.args.request c.self.view_is c.self.invariant.0
-    c.requires.places c.requires.request in
-    let does : Does p c.args.request c.in_ok-gathered.gathered (g.T.Tiles.statuses c.go_on_by_kind.new.tiles)
-    c.go_on_by_kind.new.progress c.go_on_by_kind.new.tally c.self.inside.counts c.go_on_by_kind.new.counts
-    c.go_on_by_kind.result = record {
-      old = g.T.Tiles.statuses c.reserve.new.self;
-      old_is = c.reserve.ensures.statuses;
-      goes = c.go_on_by_kind.ensures;
-    } in
-    does_advance p c.args.self.now _ c.args.request c.in_ok-gathered.gathered _ _ _ _ _ _ _ begins
-    c.in_ok-gathered.ensures.gathered does
+pub returns-then-is_err-clause-run : goal.returns-then-is_err-clause-run
+returns-then-is_err-clause-run g c =
+    alike_run g.T.Tiles c.args.self.now _ (map_stays g.T.Tiles c.args.self.now _ c.reserve.ensures.statuses) refl
+    c.requires.run.program refl c.requires.run
 
 pub returns-then-is_err-clause-stays : goal.returns-then-is_err-clause-stays
 returns-then-is_err-clause-stays g c = record {
@@ -106,3 +24,54 @@ returns-then-is_err-clause-stays g c = record {
   clock = search rules;
   console = refl;
 }
+
+pub gather-requires : goal.gather-requires
+gather-requires g c =
+    let same = map_stays g.T.Tiles c.args.self.now _ c.reserve.ensures.statuses in record {
+      run = alike_run g.T.Tiles c.args.self.now _ same refl c.requires.run.program refl c.requires.run;
+      request = subst (λ (q : RunState). IsNext q c.args.request) (sym same) c.requires.request;
+      places = c.requires.places;
+      «open» = c.requires.«open»;
+    }
+
+pub returns-in_err-gathered-clause-halted : goal.returns-in_err-gathered-clause-halted
+returns-in_err-gathered-clause-halted g c =
+    let same = map_stays g.T.Tiles c.args.self.now _ c.reserve.ensures.statuses in
+    let stop = err_from_is_err_and c.from_residual.result c.from_residual.ensures.1 in
+    rw (stop.1, stop.2)
+    (halts_same c.args.request _ _ _ _ _ same (ap (run_of g.T.Tiles) c.gather.ensures.buffer ∙ same)
+    c.in_err-gathered.ensures.halted)
+
+pub returns-in_err-gathered-clause-run : goal.returns-in_err-gathered-clause-run
+returns-in_err-gathered-clause-run g c =
+    let same = map_stays g.T.Tiles c.args.self.now _ c.reserve.ensures.statuses in
+    alike_run g.T.Tiles c.args.self.now c.gather.new.self (ap (run_of g.T.Tiles) c.gather.ensures.buffer ∙ same)
+    c.gather.ensures.room
+    (ap (λ (q : Running _). q.keeper.heading.program) c.gather.ensures.buffer ∙ c.requires.run.program)
+    (ap (λ (q : Running _). q.counts) c.gather.ensures.buffer) c.requires.run
+
+pub go_on_by_kind-requires-clause-gathered : goal.go_on_by_kind-requires-clause-gathered
+go_on_by_kind-requires-clause-gathered g c =
+    let same = map_stays g.T.Tiles c.args.self.now _ c.reserve.ensures.statuses in
+    let after : run_of g.T.Tiles c.gather.new.self ≡ run_of g.T.Tiles c.args.self.now
+    = ap (run_of g.T.Tiles) c.gather.ensures.buffer ∙ same in
+    let got = c.in_ok-gathered.ensures.gathered in record {
+      run = alike_run g.T.Tiles c.args.self.now c.gather.new.self after c.gather.ensures.room
+          (ap (λ (q : Running _). q.keeper.heading.program) c.gather.ensures.buffer ∙ c.requires.run.program)
+          (ap (λ (q : Running _). q.counts) c.gather.ensures.buffer) c.requires.run;
+      next = subst (λ (q : RunState). IsNext q c.args.request) (sym after) c.requires.request;
+      spans = c.in_ok-gathered.ensures.parts;
+      given = gives_few c.args.request _ _ got.event got.gathered;
+    }
+
+pub returns-clause-advanced : goal.returns-clause-advanced
+returns-clause-advanced g c =
+    let same = map_stays g.T.Tiles c.args.self.now _ c.reserve.ensures.statuses in
+    (advances c.args.request _ _ _ _ _ _ _ _ same (ap (run_of g.T.Tiles) c.gather.ensures.buffer ∙ same)
+    c.in_ok-gathered.ensures.gathered c.go_on_by_kind.ensures).0
+
+pub returns-clause-run : goal.returns-clause-run
+returns-clause-run g c =
+    let same = map_stays g.T.Tiles c.args.self.now _ c.reserve.ensures.statuses in
+    (advances c.args.request _ _ _ _ _ _ _ _ same (ap (run_of g.T.Tiles) c.gather.ensures.buffer ∙ same)
+    c.in_ok-gathered.ensures.gathered c.go_on_by_kind.ensures).1
