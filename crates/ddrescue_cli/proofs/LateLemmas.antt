@@ -89,11 +89,8 @@ call_late call earlier own = record {
 }
 
 stop_late : (stop : Option Stop) (s : Setting) (m : Machine) → EndsBy stop s m → IsLate (answer_of (end_of stop))
-stop_late None s m by = record { names = λ call earlier is. absurd (cc) }
-stop_late (Some InputLost) s m by = record { names = λ call earlier is. absurd (cc) }
 stop_late (Some (Site call)) s m by = absurd by
-stop_late (Some (Limited limit)) s m by = record { names = λ call earlier is. absurd (cc) }
-stop_late (Some NoRoom) s m by = record { names = λ call earlier is. absurd (cc) }
+stop_late _ s m by = record { names = λ call earlier is. absurd (cc) }
 
 ends_late : (s : Setting) (m : Machine) (es : List Event) (calls : List Entry) (end : RunEnd)
     → Ends s m es calls end → IsLate (answer_of end)

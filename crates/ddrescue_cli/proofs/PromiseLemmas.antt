@@ -20,7 +20,7 @@ use Rattle.program_promise.specs.Promise.{DoneFor}
 use Rattle.task_files.specs.declared.ending.Ending.{Ending}
 use Rattle.task_files.specs.Asked.{Maps, setting_of}
 use Rattle.task_files.specs.Maps.{Found, AreAskedFor, found_in}
-use Rattle.task_files.specs.Outside.{Outside, Agrees}
+use Rattle.task_files.specs.Findings.{Findings, Agrees}
 use Rattle.task_files.specs.Work.{Rescues, rescue_faults, worked_rows}
 use Rattle.task_files.specs.Steps.{IsOnlyMaps, Worked}
 use Rattle.task_sweeps.specs.Modes.{Fills, GenerateStops, Generates, IsMapEnd, fill_setting}
@@ -38,7 +38,7 @@ use Rattle.ddrescue_cli.proofs.SweepSafely.{fill_stops, generate_stops, only_map
 use Rattle.ddrescue_cli.proofs.SweepWay.{fill_way, generate_way}
 
 -- what was outside, with what a sweep knows besides
-abbrev outside_with : Outside → (top : ℕ) → (buffer : List ℕ) → List Swept → RunEnd → TaskOutside
+abbrev outside_with : Findings → (top : ℕ) → (buffer : List ℕ) → List Swept → RunEnd → TaskOutside
 outside_with o top buffer pieces swept = record {
   found = o.found;
   end = o.end;
@@ -51,7 +51,7 @@ outside_with o top buffer pieces swept = record {
 }
 
 -- the console is no matter of what is outside
-pub over_beside : (c : Command) (AreMaps : Found → Maps → Type 0) (old new : WorldState) (o : Outside) (top : ℕ)
+pub over_beside : (c : Command) (AreMaps : Found → Maps → Type 0) (old new : WorldState) (o : Findings) (top : ℕ)
     (buffer : List ℕ) (pieces : List Swept) (swept : RunEnd) → Agrees c (across old new) o.found o.end o.maps o.did
     → AreAskedFor c o.maps → AreMaps o.found o.maps → IsMapEnd o.found.mapfile top
     → AgreesOver c AreMaps (outside_with o top buffer pieces swept) o.did old (with_console new old.console)
@@ -82,12 +82,12 @@ module _ (c : Command) (line : List ℕ) (e : Ending) (old new : WorldState) (di
   -- ---- a rescue
 
   -- what was done by then, among files
-  abbrev WorksIn : Outside → Found → Type 0
+  abbrev WorksIn : Findings → Found → Type 0
   WorksIn o found =
       Works rescue_faults (worked_rows c found o.end) (Rescues (setting_of c line o.end o.maps) found.mapfile o.lines) e
       o.did
 
-  pub rescue_stops : (o : Outside) → AreInLimits c.options → (setting_of c line o.end o.maps).has_mapfile ≡ true
+  pub rescue_stops : (o : Findings) → AreInLimits c.options → (setting_of c line o.end o.maps).has_mapfile ≡ true
       → WorksIn o (found_in c (files_in old.site)) → AreTimes o.did.gain.times
       → IsOnlyMaps o.did.gain ⊎ (o.end < 2 ^ 63)
       → TaskStops (Rescue c) line (outside_with o 0 [] [] (RunStopped NoRoom)) o.did old.site
@@ -101,7 +101,7 @@ module _ (c : Command) (line : List ℕ) (e : Ending) (old new : WorldState) (di
   abbrev pub rescue_done : (heard heard' : Bool) → AreInLimits c.options → Worked c line heard heard' e (across old new)
       → DoneFor rescue_program (Rescue c) line e old (with_console new old.console)
   rescue_done heard heard' limits w =
-      let o : Outside = w.outside in
+      let o : Findings = w.outside in
       let top : ℕ = (one_listing o.found.mapfile).end in
       record {
         outside = outside_with o top [] [] (RunStopped NoRoom);
@@ -118,7 +118,7 @@ module _ (c : Command) (line : List ℕ) (e : Ending) (old new : WorldState) (di
 
   -- ---- a filling
 
-  pub fill_three : (o : Outside) (top : ℕ) → is_some c.mapfile ≡ true → AreThreeNames (fill_setting c line top o.maps)
+  pub fill_three : (o : Findings) (top : ℕ) → is_some c.mapfile ≡ true → AreThreeNames (fill_setting c line top o.maps)
   fill_three o top on =
       let three : AreThreeNames (setting_of c line top o.maps) =
       three_names c line top o.maps (named_on c.mapfile on) different in
@@ -128,7 +128,7 @@ module _ (c : Command) (line : List ℕ) (e : Ending) (old new : WorldState) (di
       → WorkedFill types c line heard heard' e (across old new)
       → DoneFor rescue_program (Fill types c) line e old (with_console new old.console)
   fill_done types heard heard' has w =
-      let o : Outside = w.outside in
+      let o : Findings = w.outside in
       record {
         outside = outside_with o w.top w.buffer w.pieces w.end;
         did = o.did;
@@ -153,11 +153,11 @@ module _ (c : Command) (line : List ℕ) (e : Ending) (old new : WorldState) (di
   -- ---- a generating
 
   -- how a generating works, among files
-  abbrev GeneratesIn : Outside → List Swept → RunEnd → Found → Type 0
+  abbrev GeneratesIn : Findings → List Swept → RunEnd → Found → Type 0
   GeneratesIn o pieces end found =
       Generates c found o.end (setting_of c line o.end o.maps) pieces end o.lines e o.did
 
-  pub generates_safely : (o : Outside) (pieces : List Swept) (end : RunEnd) → HasMapfile c → AreTimes o.did.gain.times
+  pub generates_safely : (o : Findings) (pieces : List Swept) (end : RunEnd) → HasMapfile c → AreTimes o.did.gain.times
       → AreGiven (setting_of c line o.end o.maps) (bytes_of (files_in old.site c.outfile)) pieces
       → GeneratesIn o pieces end (found_in c (files_in old.site)) → IsOnlyMaps o.did.gain ⊎ (o.end < 2 ^ 63)
       → GenerateStops (calls_of old.site) (setting_of c line o.end o.maps) pieces end o.did.gain
@@ -172,7 +172,7 @@ module _ (c : Command) (line : List ℕ) (e : Ending) (old new : WorldState) (di
   abbrev pub generate_done : (heard heard' : Bool) → HasMapfile c → WorkedGenerate c line heard heard' e (across old new)
       → DoneFor rescue_program (Generate c) line e old (with_console new old.console)
   generate_done heard heard' has w =
-      let o : Outside = w.outside in
+      let o : Findings = w.outside in
       let top : ℕ = (one_listing o.found.mapfile).end in
       record {
         outside = outside_with o top [] w.pieces w.end;

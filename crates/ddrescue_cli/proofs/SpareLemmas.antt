@@ -74,10 +74,3 @@ unwritten_cut (c ∷ cs) (Failed x steps ∷ es) (suc j) y spare cut =
         → IsUnwritten (Failed x steps ∷ take j []) y
     unwritten_alone x steps zero y off = unwritten_failed x steps y off
     unwritten_alone x steps (suc j) y off = unwritten_failed x steps y off
-
--- nor by all of them, in front of others
-pub unwritten_after : (cs : List Call) (es : List Entry) (y : ℕ) → AreSpare cs → IsUnwritten es y
-    → IsUnwritten (map Done cs ++ es) y
-unwritten_after [] es y spare h = h
-unwritten_after (c ∷ cs) es y spare h =
-    unwritten_done c (map Done cs ++ es) y spare.0 (unwritten_after cs es y spare.1 h)

@@ -40,10 +40,8 @@ RefusesTask (Generate c) e = NamesRefused c e ⊎ (e ≡ NoMemory)
 RefusesTask (Sample kib quiet) e = e ≡ NoMemory
 
 pub starves_task : (task : Task) → RefusesTask task NoMemory
-starves_task (Rescue c) = inr refl
-starves_task (Fill types c) = inr refl
-starves_task (Generate c) = inr refl
 starves_task (Sample kib quiet) = refl
+starves_task _ = inr refl
 
 -- ---- what was outside then
 
@@ -119,10 +117,8 @@ still_works (Generate c) line o e (inr is) = inl (is, nothing)
 still_works (Sample kib quiet) line o e is = inl (is, nothing)
 
 pub still_silent : (task : Task) (e : Ending) (w : WorldState) → TaskIsSilent task (still_outside task w) e (only_calls [])
-still_silent (Rescue c) e w = λ none. (refl, refl)
-still_silent (Fill types c) e w = λ none. (refl, refl)
-still_silent (Generate c) e w = λ none. (refl, refl)
 still_silent (Sample kib quiet) e w = λ starved. refl
+still_silent _ e w = λ none. (refl, refl)
 
 pub still_stops : (task : Task) (line : List ℕ) (w : WorldState)
     → TaskStops task line (still_outside task w) (only_calls []) w.site

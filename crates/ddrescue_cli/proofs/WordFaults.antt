@@ -12,12 +12,10 @@ use Rattle.ddrescue_words.specs.Options.{options_in}
 
 command_gives : (words : List (List ℕ)) (m : MapOptions) (o : Options) (operands : List ℕ)
     → Gives (command_with words m o operands)
-command_gives words m o [] = tt
-command_gives words m o (i ∷ []) = tt
 command_gives words m o (i ∷ out ∷ []) =
     cond_both (wants_mapfile o) (Err (Operands 2)) _ (Gives {C = Command}) (λ on. tt) (λ off. tt)
 command_gives words m o (i ∷ out ∷ map ∷ []) = tt
-command_gives words m o (i ∷ out ∷ map ∷ n ∷ more) = tt
+command_gives words m o _ = tt
 
 files_give : (o : Options) (r : Result Command UsageFault) → Gives r
     → Gives (files_task o r)

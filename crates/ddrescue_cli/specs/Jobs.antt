@@ -3,6 +3,7 @@
 use Rattle.std.specs.Prelude.{◌≡◌, ℕ, false, not, List, None}
 use Rattle.option_words.specs.Words.{command_line}
 use Rattle.rescue_rules.specs.Snapshots.{heading_at}
+use Rattle.rescue_core.specs.declared.outside.Outside.{Outside}
 use Rattle.ddrescue_words.specs.Command.{Sample as SampleTask}
 use Rattle.ddrescue_words.specs.Asking.{IsAsked, told_by}
 use Rattle.program_promise.specs.World.{WorldState}
@@ -35,3 +36,9 @@ IsJobFor words (Sample kib quiet) = IsAsked words (SampleTask kib quiet)
 abbrev pub IsAnswered : (words : List (List ℕ)) → Ended → Type 0
 IsAnswered words ended =
     (w : WorldState) → w.site.is_drafting ≡ false → TaskSaid words ended.ending ended.heard w w
+
+-- the input, the files and the clock are as before
+pub record AreUntouched {S D K C : Type 0} (old new : Outside S D K C) : Type 0 where
+  pub source : new.source.now ≡ old.source.now
+  pub site : new.site.now ≡ old.site.now
+  pub clock : new.clock.now ≡ old.clock.now

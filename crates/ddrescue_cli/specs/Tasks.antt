@@ -15,7 +15,7 @@ use Rattle.task_files.specs.declared.ending.Ending.{Ending}
 use Rattle.task_files.specs.declared.ending.Ending.TheVariants.{NoMemory}
 use Rattle.task_files.specs.Asked.{Maps, setting_of}
 use Rattle.task_files.specs.Maps.{Found, AreAskedFor, AreMapsIn}
-use Rattle.task_files.specs.Outside.{Outside, Agrees}
+use Rattle.task_files.specs.Findings.{Findings, Agrees}
 use Rattle.task_files.specs.Work.{Rescues, rescue_rows}
 use Rattle.task_rescue.specs.Sampled.{Samples, sample_rows}
 use Rattle.task_sweeps.specs.Modes.{AreMapsOfSweep, IsMapEnd, FillStops, GenerateStops, ThenFill, ThenSweep, fill_rows, fill_setting, generate_rows}
@@ -36,7 +36,7 @@ pub record TaskOutside : Type 0 where
   pub swept : RunEnd
 
 -- what was outside of a task, with what was done there
-abbrev pub with_did : TaskOutside → Deeds → Outside
+abbrev pub with_did : TaskOutside → Deeds → Findings
 with_did o did = record { found = o.found; end = o.end; maps = o.maps; did = did; lines = o.lines }
 
 -- what a command asks for, by what was outside

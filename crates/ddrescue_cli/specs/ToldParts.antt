@@ -9,7 +9,7 @@ use Rattle.ddrescue_words.specs.Command.{Command}
 use Rattle.program_promise.specs.World.{WorldState}
 use Rattle.task_files.specs.Names.{program_name}
 use Rattle.task_files.specs.Asked.{setting_of}
-use Rattle.task_files.specs.Outside.{Outside}
+use Rattle.task_files.specs.Findings.{Findings}
 use Rattle.ddrescue_cli.specs.Told.{Told}
 
 -- the objects of a run
@@ -22,5 +22,5 @@ abbrev pub files_of : Told → List ℕ → Option File
 files_of t = files_in t.before.site
 
 -- what a command asks for of what was outside
-abbrev pub asked_of : Command → Told → Outside → Setting
+abbrev pub asked_of : Command → Told → Findings → Setting
 asked_of c t o = setting_of c (command_line program_name t.words) o.end o.maps

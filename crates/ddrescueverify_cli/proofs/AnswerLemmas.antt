@@ -2,31 +2,18 @@
 use Rattle.std.proofs.Common.{◌≡◌, ℕ, nat_eq, Bool, true, false, List, Result, Ok, Err, if◌then◌else◌, refl, sym, ap, inl, inr, subst}
 use Rattle.faulty_source.specs.SourceState.{SourceState}
 use Rattle.crash_site.specs.SiteState.{SiteState}
-use Rattle.rescue_console.specs.ConsoleState.{ConsoleState, Answers as ConsoleAnswers}
-use Rattle.rescue_console.specs.declared.console.Channel.TheVariants.{Out}
-use Rattle.option_words.specs.declared.fault.UsageFault.{UsageFault}
-use Rattle.option_words.specs.declared.fault.UsageFault.TheVariants.{Word, BadValue, Conflict, Modes, Operands, PlaceTooLarge}
-use Rattle.program_promise.specs.Kinds.{AtTake, AtPut, Kind, Asked, Wrong, Failed, is_silent_kind}
+use Rattle.rescue_console.specs.ConsoleState.{ConsoleState}
+use Rattle.program_promise.specs.Kinds.{AtTake, AtPut, Kind, Asked, Wrong, Failed}
 use Rattle.program_promise.specs.Causes.{Changed, changes_of, none_rises}
 use Rattle.program_promise.specs.Printing.{PutsByKind}
-use Rattle.program_promise.specs.Rows.{usage_kind}
 use Rattle.rescue_verify.specs.declared.tally.Tally.{Tally}
 use Rattle.ddrescueverify_cli.specs.declared.ending.VerifyEnding.{VerifyEnding}
-use Rattle.ddrescueverify_cli.specs.declared.ending.VerifyEnding.TheVariants.{Done, Differs, ConsoleFault}
+use Rattle.ddrescueverify_cli.specs.declared.ending.VerifyEnding.TheVariants.{Done, Differs}
 use Rattle.ddrescueverify_cli.specs.Answers.{drafting_left, row_of}
 use Rattle.ddrescueverify_cli.specs.Counting.{CountsRise, IsStopKind, WorkCause, drafting_after}
 use Rattle.ddrescueverify_cli.specs.Ddrescueverify.{PutsAs, handed}
-use Rattle.ddrescueverify_cli.specs.Reporting.{PutsLine, Reports, line_of_tally}
+use Rattle.ddrescueverify_cli.specs.Reporting.{AnswersAs, PutsLine, Reports, line_of_tally}
 use Rattle.ddrescueverify_cli.specs.Work.{IsAnswer, answer_of_tally}
-
--- something is said of words that are refused, and of a place
-pub usage_loud : (fault : UsageFault) → is_silent_kind (usage_kind fault) ≡ false
-usage_loud (Word fault) = refl
-usage_loud (BadValue n) = refl
-usage_loud (Conflict n) = refl
-usage_loud (Modes given) = refl
-usage_loud (Operands given) = refl
-usage_loud PlaceTooLarge = refl
 
 -- ---- a stop before the save
 
@@ -68,18 +55,6 @@ of_tally tally P done differs = each_answer (nat_eq tally.differing 0) tally.dif
 answers_by : (tally : Tally) (e : VerifyEnding) (P : VerifyEnding → Type 0) → P Done → ((k : ℕ) → P (Differs k))
     → e ≡ answer_of_tally tally → P e
 answers_by tally e P done differs is = subst P (sym is) (of_tally tally P done differs)
-
--- the line was put, or that failed
-pub put_line : {T E : Type 0} (tally : Tally) (piece : List ℕ) (x : T) (p q : ConsoleState)
-    → ConsoleAnswers {E = E} Out piece (Ok x) p q → piece ≡ line_of_tally tally
-    → Reports tally false (answer_of_tally tally) p q
-put_line tally piece x p q a is =
-    inl (refl, (rw (← is) a.puts, λ scheduled. (a.schedule scheduled).schedule))
-
-pub unput_line : {T E : Type 0} (tally : Tally) (piece : List ℕ) (x : E) (p q : ConsoleState)
-    → ConsoleAnswers {T = T} Out piece (Err x) p q → piece ≡ line_of_tally tally → Reports tally false ConsoleFault p q
-unput_line tally piece x p q a is =
-    inr (refl, (refl, rw (← is) a.fails, λ scheduled. (a.schedule scheduled).schedule))
 
 module _ (tally : Tally) (quiet : Bool) (e : VerifyEnding) (p q : ConsoleState) where
   pub reports_answer : Reports tally quiet e p q → IsAnswer quiet tally e
@@ -123,11 +98,6 @@ module _ (tally : Tally) (quiet : Bool) (e : VerifyEnding) (s s' : SourceState) 
       (record { opens = c.faults; reads = c.losses; calls = c.site_faults; takes = refl; puts = r.1.1.rose })
 
 -- ---- both
-
--- what is answered and put by what the work came to
-abbrev pub AnswersAs : (quiet : Bool) → Result Tally VerifyEnding → VerifyEnding → (old new : ConsoleState) → Type 0
-AnswersAs quiet (Ok tally) e old new = Reports tally quiet e old new
-AnswersAs quiet (Err v) e old new = (e ≡ v) × (new ≡ old)
 
 pub answer_puts : (quiet : Bool) (result : Result Tally VerifyEnding) (e : VerifyEnding) (line : List ℕ)
     (s s' : SourceState) (d d' : SiteState) (p q : ConsoleState) → WorkCause result s s' d d'

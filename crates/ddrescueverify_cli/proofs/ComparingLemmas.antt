@@ -10,7 +10,7 @@ use Rattle.rescue_verify.specs.Pieces.{compared_in}
 use Rattle.faulty_source.specs.SourceState.{SourceState}
 use Rattle.crash_site.specs.SiteState.{SiteState}
 use Rattle.rescue_verify.specs.declared.halt.Halt.{Halt}
-use Rattle.rescue_verify.specs.declared.halt.Halt.TheVariants.{NoMemory as NoRoom, SourceLost as InputLost, ImageFault}
+use Rattle.rescue_verify.specs.declared.halt.Halt.TheVariants.{NoMemory as NoRoom}
 use Rattle.rescue_verify.specs.declared.tally.Tally.{Tally}
 use Rattle.rescue_verify.specs.Comparing.{Comparison, Compares, LossesRise as CountsCompared}
 use Rattle.ddrescueverify_words.specs.declared.options.VerifyOptions.{VerifyOptions}
@@ -84,7 +84,5 @@ pub halt_cause : (halt : Halt) (source source' : SourceState) (site site' : Site
     → StopCause (answer_of_halt halt) source source' site site'
 halt_cause NoRoom source source' site site' same counts =
     record { stops = tt; also = tt; counts = record { faults = same; losses = counts.0; site_faults = counts.1 } }
-halt_cause InputLost source source' site site' same counts =
-    record { stops = tt; also = tt; counts = record { faults = same; losses = counts.0; site_faults = counts.1 } }
-halt_cause ImageFault source source' site site' same counts =
+halt_cause _ source source' site site' same counts =
     record { stops = tt; also = tt; counts = record { faults = same; losses = counts.0; site_faults = counts.1 } }

@@ -7,7 +7,7 @@ use Rattle.faulty_source.specs.Journal.{Reading}
 use Rattle.mapfile_text.specs.declared.read.MapError.{MapError}
 use Rattle.mapfile_text.specs.declared.read.Mode.TheVariants.{Tight}
 use Rattle.option_words.specs.declared.fault.UsageFault.{UsageFault}
-use Rattle.option_words.specs.declared.fault.UsageFault.TheVariants.{Word, BadValue, Conflict, Modes, Operands, PlaceTooLarge}
+use Rattle.option_words.specs.declared.fault.UsageFault.TheVariants.{PlaceTooLarge}
 use Rattle.mapfile_save.specs.MapNames.{names_of}
 use Rattle.mapfile_save.specs.Saving.{save_calls}
 use Rattle.mapfile_resume.proofs.AnswerLemmas.{none_says_nothing, refused_for_one}
@@ -104,11 +104,7 @@ has_one_verdict c o e e' d d' w w' v v' =
 -- one answer says that memory wasn't there
 usage_room : (fault : UsageFault) → usage_kind fault ≢ Starved
 usage_room PlaceTooLarge is = cc
-usage_room (Word fault) is = cc
-usage_room (BadValue n) is = cc
-usage_room (Conflict n) is = cc
-usage_room (Modes given) is = cc
-usage_room (Operands given) is = cc
+usage_room _ is = cc
 
 starved_is : (e : VerifyEnding) → (row_of e).kind ≡ Starved → e ≡ NoMemory
 starved_is NoMemory is = refl

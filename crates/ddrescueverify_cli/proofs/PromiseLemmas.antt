@@ -36,11 +36,8 @@ use Rattle.ddrescueverify_cli.proofs.WorkedLemmas.{starved_done}
 
 operands_give : (words : List (List ℕ)) (o : VerifyOptions) (operands : List ℕ)
     → Gives (command_with words o operands)
-operands_give words o [] = tt
-operands_give words o (i ∷ []) = tt
-operands_give words o (i ∷ out ∷ []) = tt
 operands_give words o (i ∷ out ∷ name ∷ []) = tt
-operands_give words o (i ∷ out ∷ name ∷ n ∷ more) = tt
+operands_give words o _ = tt
 
 filled_gives : (e : Option ℕ) (r : Result Command UsageFault) → Gives r
     → Gives (unless_empty e r)

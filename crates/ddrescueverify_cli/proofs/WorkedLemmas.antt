@@ -33,11 +33,11 @@ use Rattle.ddrescueverify_cli.specs.Laws.{VerifyWorks}
 use Rattle.program_promise.specs.Operands.{first_same}
 use Rattle.ddrescueverify_cli.specs.Outside.{Outside, found_in}
 use Rattle.ddrescueverify_cli.specs.Refusals.{NamesRefused, same_of}
-use Rattle.ddrescueverify_cli.specs.Reporting.{line_of_tally}
+use Rattle.ddrescueverify_cli.specs.Reporting.{AnswersAs, line_of_tally}
 use Rattle.ddrescueverify_cli.specs.Steps.{DidWork, WentOn}
 use Rattle.ddrescueverify_cli.specs.Stops.{StopsSafely}
 use Rattle.ddrescueverify_cli.specs.Work.{Verifies, opened_rows, verify_faults}
-use Rattle.ddrescueverify_cli.proofs.AnswerLemmas.{AnswersAs, answer_changes, answer_draft, answer_puts, reports_answer}
+use Rattle.ddrescueverify_cli.proofs.AnswerLemmas.{answer_changes, answer_draft, answer_puts, reports_answer}
 use Rattle.ddrescueverify_cli.proofs.OtherLemmas.{others_stand}
 use Rattle.ddrescueverify_cli.proofs.StopsLemmas.{nothing_stops, stops_safely}
 

@@ -1,5 +1,5 @@
 -- The line on a comparison, on standard output, and what is answered once the map is saved.
-use Rattle.std.specs.Prelude.{◌≡◌, ◌⊎◌, ℕ, Bool, true, false, IsTrue, List, ◌++◌, codes}
+use Rattle.std.specs.Prelude.{◌≡◌, ◌⊎◌, ℕ, Bool, true, false, IsTrue, List, ◌++◌, codes, Result, Ok, Err}
 use Rattle.std.specs.Fmt.{decimal}
 use Rattle.fault_count.specs.Schedule.{with_call}
 use Rattle.mapfile_text.specs.Printed.{with_newline}
@@ -35,3 +35,8 @@ abbrev pub Reports : Tally → (quiet : Bool) → VerifyEnding → (old new : Co
 Reports t quiet e old new =
     ((e ≡ answer_of_tally t) × PutsLine quiet (line_of_tally t) old new)
     ⊎ ((e ≡ ConsoleFault) × FailsLine quiet (line_of_tally t) old new)
+
+-- what is answered and put by what the work came to
+abbrev pub AnswersAs : (quiet : Bool) → Result Tally VerifyEnding → VerifyEnding → (old new : ConsoleState) → Type 0
+AnswersAs quiet (Ok tally) e old new = Reports tally quiet e old new
+AnswersAs quiet (Err v) e old new = (e ≡ v) × (new ≡ old)

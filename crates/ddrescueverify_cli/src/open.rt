@@ -6,13 +6,13 @@ ghost use Rattle.ddrescueverify_cli.specs.declared.ending.VerifyEnding.TheVarian
 ghost use Rattle.ddrescueverify_cli.specs.Steps.{LoadCause, Loads, OpensOutput, OutputCause};
 
 use crate::ending::{VerifyEnding, Which};
-use block_list::plain_tiles::PlainTiles;
 use crash_site::site::{ImageKind, Site, SiteCall};
 use mapfile_reader::read::ReadMap;
 use mapfile_resume::load::ResumeFault;
 use mapfile_resume::resume::{Resumed, extend_map, resume};
 use mapfile_save::names::Names;
 use mapfile_text::state::MapState;
+use plain_blocks::plain_tiles::PlainTiles;
 use std::alloc::Global;
 
 /// The map of a comparison.

@@ -2,7 +2,7 @@
 ghost use Rattle.std.specs.Prelude.{◌≡◌, ◌+◌, ◌≤◌, ◌++◌, length};
 ghost use Rattle.std.specs.Fmt.{decimal};
 ghost use Rattle.arrayvec.specs.ArrayVec.{array_vec_len};
-ghost use Rattle.ddrescueverify_cli.specs.Reporting.{Reports, line_of_tally};
+ghost use Rattle.ddrescueverify_cli.specs.Reporting.{AnswersAs, Reports, line_of_tally};
 ghost use Rattle.ddrescueverify_cli.specs.Work.{answer_of_tally};
 
 use crate::ending::VerifyEnding;
@@ -48,7 +48,7 @@ fn make_line(tally: Tally) -> Message
 }
 
 /// Puts the line on how much was compared, unless nothing is to be said, and answers.
-pub(crate) fn report<P: Console>(tally: Tally, quiet: bool, console: &mut P) -> VerifyEnding
+fn report<P: Console>(tally: Tally, quiet: bool, console: &mut P) -> VerifyEnding
     ensures { Reports tally quiet result (P.state console.old) (P.state console.new) }
 {
     if quiet {
@@ -57,5 +57,20 @@ pub(crate) fn report<P: Console>(tally: Tally, quiet: bool, console: &mut P) -> 
     match console.put(Channel::Out, &make_line(tally)) {
         Ok(()) => answer_of(tally),
         Err(ConsoleFault) => VerifyEnding::ConsoleFault,
+    }
+}
+
+/// Answers for what the work came to. If it came to its end, the line says how much was compared, unless nothing is to
+/// be said.
+pub(crate) fn answer<P: Console>(
+    came: Result<Tally, VerifyEnding>,
+    quiet: bool,
+    console: &mut P,
+) -> VerifyEnding
+    ensures { AnswersAs quiet came result (P.state console.old) (P.state console.new) }
+{
+    match came {
+        Ok(tally) => report(tally, quiet, console),
+        Err(refusal) => refusal,
     }
 }

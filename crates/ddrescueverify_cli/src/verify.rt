@@ -1,27 +1,30 @@
 //! `ddrescueverify`: the top call.
-ghost use Rattle.std.specs.Prelude.{◌≡◌, ◌<◌, ◌≤◌, ◌^◌, true, false, length, Some, OnOk, IfOk, IfErr, Ok};
+ghost use Rattle.std.specs.Prelude.{◌≡◌, ◌<◌, ◌≤◌, ◌^◌, true, false, length, OnOk, IfOk, IfErr, Ok};
 ghost use Rattle.option_words.specs.declared.fault.UsageFault.{UsageFault as Fault};
 ghost use Rattle.faulty_source.specs.SourceChanges.{Keeps as SourceKeeps, Stays as SourceStays};
 ghost use Rattle.crash_site.specs.SiteChanges.{Keeps as SiteKeeps, Stays as SiteStays};
+ghost use Rattle.rescue_console.specs.ConsoleState.{ConsoleState};
 ghost use Rattle.rescue_verify.specs.Across.{across};
 ghost use Rattle.rescue_verify.specs.Comparing.{Compares};
 ghost use Rattle.ddrescueverify_words.specs.Command.{AreInLimits, AreRefused, told_by};
 ghost use Rattle.program_promise.specs.World.{told};
 ghost use Rattle.program_promise.specs.declared.operand.Operand.{Operand};
+ghost use Rattle.ddrescueverify_cli.specs.declared.ending.VerifyEnding.{VerifyEnding as Answer};
 ghost use Rattle.ddrescueverify_cli.specs.Asked.{IsBeyond, comparison_of};
 ghost use Rattle.ddrescueverify_cli.specs.Counting.{WorkCause, drafting_after};
-ghost use Rattle.ddrescueverify_cli.specs.Ddrescueverify.{Ddrescueverify, VerifyDone, VerifyWorked, handed};
-ghost use Rattle.ddrescueverify_cli.specs.Refusals.{NameOneFileTwice, same_of};
+ghost use Rattle.ddrescueverify_cli.specs.Ddrescueverify.{Ddrescueverify, VerifyDone, handed};
+ghost use Rattle.ddrescueverify_cli.specs.Refusals.{NameOneFileTwice};
+ghost use Rattle.ddrescueverify_cli.specs.Reporting.{AnswersAs};
 ghost use Rattle.ddrescueverify_cli.specs.Steps.{IsChecked, StopsComparing, WentOn};
 ghost use Rattle.ddrescueverify_cli.specs.Work.{answer_of_halt};
 
 use crate::checked::{CheckedCommand, check_command};
 use crate::ending::VerifyEnding;
 use crate::open::{LoadedMap, load, open_output};
-use crate::out::report;
+use crate::out::answer;
 use crate::save::save_map;
 use crash_site::site::{Site, SiteCall};
-use ddrescueverify_words::command::{Command, read_command};
+use ddrescueverify_words::command::read_command;
 use ddrescueverify_words::options::VerifyOptions;
 use faulty_source::source::Source;
 use option_words::command_error::CommandError;
@@ -122,44 +125,18 @@ fn verify<S: Source, D: Site>(
     Ok(tally)
 }
 
-/// Does what a command asks for: looks at the names, compares, and puts the line.
-fn run<S: Source, D: Site, P: Console>(
-    alloc: Global,
-    words: &Words,
-    command: &Command<'_>,
-    source: &mut S,
-    site: &mut D,
-    console: &mut P,
-) -> VerifyEnding
-    requires no_draft { (D.state site.old).is_drafting ≡ false }
-    requires limits { AreInLimits command.now.options }
-    ensures worked { VerifyWorked (told_by command.now) words.now result (handed (S.state source.old)
-        (D.state site.old) (P.state console.old)) (handed (S.state source.new) (D.state site.new)
-        (P.state console.new)) }
-    ensures unopened { (first second : Operand) → same_of (told_by command.now) ≡ Some (first, second)
-        → (source.new ≡ source.old) × (site.new ≡ site.old) }
-{
-    let checked = match check_command(alloc, words, *command) {
-        Ok(checked) => checked,
-        Err(refusal) => return refusal,
-    };
-    match verify(alloc, &checked, source, site) {
-        Ok(tally) => report(tally, command.options.quiet, console),
-        Err(refusal) => refusal,
-    }
-}
-
-/// Does what the words ask for. Says how that ended, and whether nothing is to be said of it.
-fn work<S: Source, D: Site, P: Console>(
+/// Does what the words ask for: looks at the names, and compares. Says what that came to, and whether nothing is to be
+/// said of it.
+fn work<S: Source, D: Site>(
     alloc: Global,
     words: &Words,
     source: &mut S,
     site: &mut D,
-    console: &mut P,
-) -> (VerifyEnding, bool)
+) -> (Result<Tally, VerifyEnding>, bool)
     requires { (D.state site.old).is_drafting ≡ false }
-    ensures done { VerifyDone words.now result.0 result.1 (handed (S.state source.old) (D.state site.old)
-        (P.state console.old)) (handed (S.state source.new) (D.state site.new) (P.state console.new)) }
+    ensures done { (answer : Answer) (before after : ConsoleState) → AnswersAs result.1 result.0 answer before after
+        → VerifyDone words.now answer result.1 (handed (S.state source.old) (D.state site.old) before)
+        (handed (S.state source.new) (D.state site.new) after) }
     ensures untouched { (fault : Fault) → AreRefused words.now fault
         → (source.new ≡ source.old) × (site.new ≡ site.old) }
     ensures unopened { (first second : Operand) → NameOneFileTwice words.now first second
@@ -167,11 +144,17 @@ fn work<S: Source, D: Site, P: Console>(
 {
     let command = match read_command(alloc, words) {
         Ok(command) => command,
-        Err(CommandError::NoMemory) => return (VerifyEnding::NoMemory, false),
-        Err(CommandError::Usage { fault, quiet }) => return (VerifyEnding::Usage(fault), quiet),
+        Err(CommandError::NoMemory) => return (Err(VerifyEnding::NoMemory), false),
+        Err(CommandError::Usage { fault, quiet }) => return (
+            Err(VerifyEnding::Usage(fault)),
+            quiet,
+        ),
     };
-    let ending = run(alloc, words, &command, source, site, console);
-    (ending, command.options.quiet)
+    let quiet = command.options.quiet;
+    match check_command(alloc, words, command) {
+        Ok(checked) => (verify(alloc, &checked, source, site), quiet),
+        Err(refusal) => (Err(refusal), quiet),
+    }
 }
 
 /// Compares what a mapfile calls finished with the infile, once more: `[options] infile outfile mapfile`, with the
@@ -206,7 +189,8 @@ pub fn ddrescueverify<S: Source, D: Site, P: Console>(
     ensures unopened { (first second : Operand) → NameOneFileTwice words.now first second
         → (source.new ≡ source.old) × (site.new ≡ site.old) }
 {
-    let (ending, quiet) = work(alloc, words, source, site, console);
+    let (came, quiet) = work(alloc, words, source, site);
+    let ending = answer(came, quiet, console);
     say_ending(console, ending, quiet);
     ending
 }

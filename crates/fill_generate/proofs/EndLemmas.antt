@@ -1,6 +1,7 @@
 -- The end of a sweep.
 use Rattle.std.specs.Prelude.{⊤}
-use Rattle.std.proofs.Common.{map, ◌≡◌, ℕ, Bool, List, [], ◌∷◌, ◌++◌, All, Option, Some, None, is_none, Ok, Err, refl, sym, ap, subst, ◌∙◌, append_assoc, inl, inr}
+use Rattle.std.proofs.Common.{map, ◌≡◌, ℕ, Bool, List, [], ◌∷◌, ◌++◌, All, Option, Some, None, is_none, Result, Ok, Err, refl, sym, ap, subst, ◌∙◌, append_assoc, inl, inr}
+use Rattle.std.specs.Result.{result_err}
 use Rattle.block_list.specs.declared.types.TypeSet.{TypeSet}
 use Rattle.crash_site.specs.declared.site.SiteCall.{SiteCall}
 use Rattle.crash_site.specs.Calls.{Call, Entry, Done, Failed}
@@ -22,7 +23,8 @@ use Rattle.sweep_rules.specs.Sweep.{filler, generator, Sweeper, Sweep, Swept, Is
 use Rattle.sweep_rules.specs.SweepWork.{SweepEndsBy, IsSaved, IsUnsaved, IsCut as WorkIsCut, IsBroken as WorkIsBroken, sweep_report, sweep_calls, pieces_lines, lost_call}
 use Rattle.rescue_core.specs.Closing.{LastCalls, Saved as LastSaved, Unsaved as LastFailed}
 use Rattle.rescue_core.proofs.ObjectLemmas.{makes_more, says_more}
-use Rattle.fill_generate.specs.Sweeping.{Around, around, BreaksAfter, EndsSweep, Saved, Unsaved, Cut, Broken, SweepTold, LookupTold, EndsAreTold, SweepStopsAt, IsStarved, IsCut, IsBroken}
+use Rattle.rescue_rules.specs.Across.{Across}
+use Rattle.fill_generate.specs.Sweeping.{around, BreaksAfter, EndsSweep, Saved, Unsaved, Cut, Broken, SweepTold, LookupTold, EndsAreTold, SweepStopsAt, IsStarved, IsCut, IsBroken}
 use Rattle.fill_generate.specs.SweepState.{SweepState, setting_of}
 use Rattle.fill_generate.specs.Steps.{SweepWent, WentOn, WentUpTo, ClosesFiles, PiecesEnd, IsLookedUp}
 use Rattle.fill_generate.proofs.TellLemmas.{breaks_after}
@@ -90,7 +92,7 @@ ends_last s w m es stop end d e f tells made by (LastFailed call is named breaks
     (closing_calls s (sweep_end (is_none stop) (after_pieces w m es))) d e f tells made named breaks)
 
 -- A sweep as the objects tell it, and what holds of its pieces besides.
-pub record ToldWith (G : Swept → Type 0) (s : Setting) (w : Sweeper) (m : Sweep) (h h' : Bool) (end : RunEnd) (o : Around)
+pub record ToldWith (G : Swept → Type 0) (s : Setting) (w : Sweeper) (m : Sweep) (h h' : Bool) (end : RunEnd) (o : Across)
     : Type 0 where
   pub told : SweepTold s w m h h' end o
   pub given : All G told.events
@@ -153,79 +155,53 @@ told_stopped G s w m m1 h h1 h2 stop end d e f k l x y z tells g closes says =
     told_by G s w m m1 h h1 h2 end g.events d e f k l x y z g.went
     (ends_stopped s w m m1 g.events stop end d e f tells g.went.state g.stops closes) says
 
--- A sweep from its beginning to its end: no piece was left,
-pub run_whole : {T : Type 0} (G : Swept → Type 0) (w : Sweeper) (r r1 : SweepState) (v : T) (h2 : Bool) (end : RunEnd)
-    (d e f : SiteState) (k l : ClockState) (x y z : ConsoleState) → PiecesEnd {T = T} G (Ok v) w r r1 (around d e k l x y)
-    → ClosesFiles (setting_of r1) r1.sweep None end e f
+-- A sweep from its beginning to its end: no piece was left, or it stopped.
+run_ended : {T : Type 0} (G : Swept → Type 0) (result : Result T Stop) (w : Sweeper) (r r1 : SweepState) (h2 : Bool)
+    (end : RunEnd) (d e f : SiteState) (k l : ClockState) (x y z : ConsoleState)
+    → PiecesEnd G result w r r1 (around d e k l x y)
+    → ClosesFiles (setting_of r1) r1.sweep (result_err result) end e f
     → SpeaksOn (out_pieces (last_of (setting_of r1) r1.sweep end)) r1.heard h2 y z
     → ToldWith G (setting_of r) w r.sweep r.heard h2 end (around d f k l x z)
-run_whole G w r r1 v h2 end d e f k l x y z p closes says =
+run_ended G (Ok v) w r r1 h2 end d e f k l x y z p closes says =
     let same : setting_of r1 ≡ setting_of r = ap setting_of p.stands in
     told_whole G (setting_of r) w r.sweep r1.sweep r.heard r1.heard h2 end d e f k l x y z p.objects.site.tells p.went p.out
     (subst (λ (s : Setting). ClosesFiles s r1.sweep None end e f) same closes)
     (subst (λ (s : Setting). SpeaksOn (out_pieces (last_of s r1.sweep end)) r1.heard h2 y z) same says)
-
--- or it stopped
-pub run_stopped : {T : Type 0} (G : Swept → Type 0) (w : Sweeper) (r r1 : SweepState) (stop : Stop) (h2 : Bool) (end : RunEnd)
-    (d e f : SiteState) (k l : ClockState) (x y z : ConsoleState) → PiecesEnd {T = T} G (Err stop) w r r1 (around d e k l x y)
-    → ClosesFiles (setting_of r1) r1.sweep (Some stop) end e f
-    → SpeaksOn (out_pieces (last_of (setting_of r1) r1.sweep end)) r1.heard h2 y z
-    → ToldWith G (setting_of r) w r.sweep r.heard h2 end (around d f k l x z)
-run_stopped G w r r1 stop h2 end d e f k l x y z p closes says =
+run_ended G (Err stop) w r r1 h2 end d e f k l x y z p closes says =
     let same : setting_of r1 ≡ setting_of r = ap setting_of p.stands in
     told_stopped G (setting_of r) w r.sweep r1.sweep r.heard r1.heard h2 stop end d e f k l x y z p.objects.site.tells p.halted
     (subst (λ (s : Setting). ClosesFiles s r1.sweep (Some stop) end e f) same closes)
     (subst (λ (s : Setting). SpeaksOn (out_pieces (last_of s r1.sweep end)) r1.heard h2 y z) same says)
 
 -- what was looked up is what the output held
-pub looked_so : (s : Setting) (w : Sweeper) (m : Sweep) (h h' : Bool) (end : RunEnd) (o : Around)
+pub looked_so : (s : Setting) (w : Sweeper) (m : Sweep) (h h' : Bool) (end : RunEnd) (o : Across)
     → ToldWith (IsLookedUp s o.site) s w m h h' end o → LookupTold s w m h h' end o
 looked_so s w m h h' end o t =
     record { sweeps = t.told; given = λ tells apart. all_given s o.site t.told.events t.given tells apart }
 
 -- the same of the two modes, by the state that they begin with
-pub fill_whole : {T : Type 0} (types : TypeSet) (buffer : List ℕ) (q r r1 : SweepState) (v : T) (h2 : Bool) (end : RunEnd)
-    (d e f : SiteState) (k l : ClockState) (x y z : ConsoleState) → r ≡ q
-    → PiecesEnd {T = T} (λ e. ⊤) (Ok v) (filler (setting_of r) types buffer) r r1 (around d e k l x y)
-    → ClosesFiles (setting_of r1) r1.sweep None end e f
+pub fill_ended : {T : Type 0} (types : TypeSet) (buffer : List ℕ) (result : Result T Stop) (stop : Option Stop)
+    (q r r1 : SweepState) (h2 : Bool) (end : RunEnd) (d e f : SiteState) (k l : ClockState) (x y z : ConsoleState)
+    → stop ≡ result_err result → r ≡ q
+    → PiecesEnd (λ e. ⊤) result (filler (setting_of r) types buffer) r r1 (around d e k l x y)
+    → ClosesFiles (setting_of r1) r1.sweep stop end e f
     → SpeaksOn (out_pieces (last_of (setting_of r1) r1.sweep end)) r1.heard h2 y z
     → SweepTold (setting_of q) (filler (setting_of q) types buffer) q.sweep q.heard h2 end (around d f k l x z)
-fill_whole types buffer q r r1 v h2 end d e f k l x y z same p closes says =
+fill_ended types buffer result stop q r r1 h2 end d e f k l x y z is same p closes says =
     (subst (λ (t : SweepState). ToldWith (λ e. ⊤) (setting_of t) (filler (setting_of t) types buffer) t.sweep t.heard h2 end
     (around d f k l x z)) same
-    (run_whole (λ e. ⊤) (filler (setting_of r) types buffer) r r1 v h2 end d e f k l x y z p closes says)).told
+    (run_ended (λ e. ⊤) result (filler (setting_of r) types buffer) r r1 h2 end d e f k l x y z p
+    (subst (λ (s : Option Stop). ClosesFiles (setting_of r1) r1.sweep s end e f) is closes) says)).told
 
-pub looked_whole : {T : Type 0} (q r r1 : SweepState) (v : T) (h2 : Bool) (end : RunEnd)
-    (d e f : SiteState) (k l : ClockState) (x y z : ConsoleState) → r ≡ q
-    → PiecesEnd {T = T} (IsLookedUp (setting_of r) d) (Ok v) (generator (setting_of r)) r r1 (around d e k l x y)
-    → ClosesFiles (setting_of r1) r1.sweep None end e f
+pub looked_ended : {T : Type 0} (result : Result T Stop) (stop : Option Stop) (q r r1 : SweepState) (h2 : Bool) (end : RunEnd)
+    (d e f : SiteState) (k l : ClockState) (x y z : ConsoleState) → stop ≡ result_err result → r ≡ q
+    → PiecesEnd (IsLookedUp (setting_of r) d) result (generator (setting_of r)) r r1 (around d e k l x y)
+    → ClosesFiles (setting_of r1) r1.sweep stop end e f
     → SpeaksOn (out_pieces (last_of (setting_of r1) r1.sweep end)) r1.heard h2 y z
     → LookupTold (setting_of q) (generator (setting_of q)) q.sweep q.heard h2 end (around d f k l x z)
-looked_whole q r r1 v h2 end d e f k l x y z same p closes says =
+looked_ended result stop q r r1 h2 end d e f k l x y z is same p closes says =
     looked_so (setting_of q) (generator (setting_of q)) q.sweep q.heard h2 end (around d f k l x z)
     (subst (λ (t : SweepState). ToldWith (IsLookedUp (setting_of t) d) (setting_of t) (generator (setting_of t)) t.sweep t.heard h2 end
     (around d f k l x z)) same
-    (run_whole (IsLookedUp (setting_of r) d) (generator (setting_of r)) r r1 v h2 end d e f k l x y z p closes says))
-
-pub fill_stopped : {T : Type 0} (types : TypeSet) (buffer : List ℕ) (q r r1 : SweepState) (stop : Stop) (h2 : Bool) (end : RunEnd)
-    (d e f : SiteState) (k l : ClockState) (x y z : ConsoleState) → r ≡ q
-    → PiecesEnd {T = T} (λ e. ⊤) (Err stop) (filler (setting_of r) types buffer) r r1 (around d e k l x y)
-    → ClosesFiles (setting_of r1) r1.sweep (Some stop) end e f
-    → SpeaksOn (out_pieces (last_of (setting_of r1) r1.sweep end)) r1.heard h2 y z
-    → SweepTold (setting_of q) (filler (setting_of q) types buffer) q.sweep q.heard h2 end (around d f k l x z)
-fill_stopped types buffer q r r1 stop h2 end d e f k l x y z same p closes says =
-    (subst (λ (t : SweepState). ToldWith (λ e. ⊤) (setting_of t) (filler (setting_of t) types buffer) t.sweep t.heard h2 end
-    (around d f k l x z)) same
-    (run_stopped (λ e. ⊤) (filler (setting_of r) types buffer) r r1 stop h2 end d e f k l x y z p closes says)).told
-
-pub looked_stopped : {T : Type 0} (q r r1 : SweepState) (stop : Stop) (h2 : Bool) (end : RunEnd)
-    (d e f : SiteState) (k l : ClockState) (x y z : ConsoleState) → r ≡ q
-    → PiecesEnd {T = T} (IsLookedUp (setting_of r) d) (Err stop) (generator (setting_of r)) r r1 (around d e k l x y)
-    → ClosesFiles (setting_of r1) r1.sweep (Some stop) end e f
-    → SpeaksOn (out_pieces (last_of (setting_of r1) r1.sweep end)) r1.heard h2 y z
-    → LookupTold (setting_of q) (generator (setting_of q)) q.sweep q.heard h2 end (around d f k l x z)
-looked_stopped q r r1 stop h2 end d e f k l x y z same p closes says =
-    looked_so (setting_of q) (generator (setting_of q)) q.sweep q.heard h2 end (around d f k l x z)
-    (subst (λ (t : SweepState). ToldWith (IsLookedUp (setting_of t) d) (setting_of t) (generator (setting_of t)) t.sweep t.heard h2 end
-    (around d f k l x z)) same
-    (run_stopped (IsLookedUp (setting_of r) d) (generator (setting_of r)) r r1 stop h2 end d e f k l x y z p closes says))
+    (run_ended (IsLookedUp (setting_of r) d) result (generator (setting_of r)) r r1 h2 end d e f k l x y z p
+    (subst (λ (s : Option Stop). ClosesFiles (setting_of r1) r1.sweep s end e f) is closes) says))

@@ -30,10 +30,11 @@ use Rattle.rescue_core.specs.Closing.{closing_with}
 use Rattle.rescue_core.proofs.ClosingLemmas.{said_with, last_with}
 use Rattle.sweep_rules.specs.Sweep.{Sweep, sweep_snapshot, sweep_end}
 use Rattle.sweep_rules.specs.SweepWork.{sweep_report}
+use Rattle.rescue_rules.specs.Across.{Across}
 use Rattle.fill_generate.specs.declared.sweeping.Piece.{Piece}
 use Rattle.fill_generate.specs.Modes.{current_in}
 use Rattle.fill_generate.specs.SweepState.{SweepState, setting_for, setting_of, sweep_at, standing, moved}
-use Rattle.fill_generate.specs.Sweeping.{Around, around}
+use Rattle.fill_generate.specs.Sweeping.{around}
 use Rattle.fill_generate.specs.Steps.{heard_as, line_after, save_after, StepsPastPiece, EndsPiece}
 
 -- the line of a sweep, if it is due
@@ -44,7 +45,7 @@ abbrev pub save_if : SweepState → Bool → List Call
 save_if r due = if due then save_calls r.names (text_of r.line (sweep_snapshot r.sweep)) else []
 
 -- The state after a piece, what is said of it and whether it is heard.
-pub record After (piece : Piece) (written after : ℕ) (line : Bool) (r r1 r2 r3 : SweepState) (o : Around) : Type 0 where
+pub record After (piece : Piece) (written after : ℕ) (line : Bool) (r r1 r2 r3 : SweepState) (o : Across) : Type 0 where
   pub timed : ReadsClock (after ∷ []) o.clock o.clock'
   pub fit : after < 2 ^ 64
   pub moves : r1 ≡ standing r (moved (current_in r.mode) r.sweep piece.pos piece.len written after)
@@ -53,13 +54,13 @@ pub record After (piece : Piece) (written after : ℕ) (line : Bool) (r r1 r2 r3
   pub says : SpeaksOn (out_pieces (line_if r1 line)) r1.heard r2.heard o.console o.console'
   pub stays : r3 ≡ r2
 
-after_is : (piece : Piece) (written after : ℕ) (line : Bool) (r r1 r2 r3 : SweepState) (o : Around)
+after_is : (piece : Piece) (written after : ℕ) (line : Bool) (r r1 r2 r3 : SweepState) (o : Across)
     → After piece written after line r r1 r2 r3 o
     → r2 ≡ heard_as (standing r (moved (current_in r.mode) r.sweep piece.pos piece.len written after)) r2.heard
 after_is piece written after line r r1 r2 r3 o b =
     b.hears ∙ ap (λ (q : SweepState). heard_as q r2.heard) b.moves
 
-pub passes : (piece : Piece) (written after : ℕ) (line : Bool) (r r1 r2 r3 : SweepState) (o : Around)
+pub passes : (piece : Piece) (written after : ℕ) (line : Bool) (r r1 r2 r3 : SweepState) (o : Across)
     → After piece written after line r r1 r2 r3 o → StepsPastPiece piece written after r r3 o
 passes piece written after line r r1 r2 r3 o b =
     let m : Sweep = moved (current_in r.mode) r.sweep piece.pos piece.len written after in
@@ -77,7 +78,7 @@ passes piece written after line r r1 r2 r3 o b =
     })
 
 -- the save that is due
-pub due_is : (piece : Piece) (written after : ℕ) (line save : Bool) (r r1 r2 r3 : SweepState) (o : Around)
+pub due_is : (piece : Piece) (written after : ℕ) (line save : Bool) (r r1 r2 r3 : SweepState) (o : Across)
     → After piece written after line r r1 r2 r3 o → save ≡ nat_le (r.sweep.tally.due_at + save_interval) after
     → save_if r2 save ≡ save_after r r3 after
 due_is piece written after line save r r1 r2 r3 o b is =

@@ -4,6 +4,7 @@ use Rattle.std.proofs.lemmas.Bool.{le-leb}
 use Rattle.crash_site.specs.Calls.{image_read}
 use Rattle.crash_site.specs.SiteState.{SiteState}
 use Rattle.crash_site.specs.SiteChanges.{Keeps as SiteKeeps, Stays as SiteStays, Makes}
+use Rattle.faulty_source.proofs.Keeping.{stays_self}
 use Rattle.mapfile_save.proofs.FillLemmas.{keeps_more}
 use Rattle.rescue_console.specs.ClockState.{ClockState, Keeps as ClockKeeps}
 use Rattle.rescue_console.specs.ConsoleState.{ConsoleState}
@@ -12,12 +13,13 @@ use Rattle.rescue_rules.specs.Setting.{Setting, place}
 use Rattle.rescue_core.specs.Closing.{drafting_at_stop}
 use Rattle.sweep_rules.specs.Sweep.{Sweeper, Sweep, Swept, generator}
 use Rattle.rescue_core.proofs.ObjectLemmas.{clock_self}
+use Rattle.rescue_rules.specs.Across.{Across, ObjectsStay, no_source}
 use Rattle.fill_generate.specs.declared.mode.SweepMode.TheVariants.{Generate}
 use Rattle.fill_generate.specs.declared.sweeping.Piece.{Piece}
 use Rattle.fill_generate.specs.Modes.{IsSweeperOf, current_in}
 use Rattle.fill_generate.specs.SweepState.{SweepState, setting_of, standing, moved}
-use Rattle.fill_generate.specs.Sweeping.{Around, around}
-use Rattle.fill_generate.specs.Steps.{IsFound, EndsPiece, PieceEnds, ObjectsStay, LooksUp, LooksNot, NoRoom, NoRead, Halted, Starved, IsLookedUp, gone_to, heard_as}
+use Rattle.fill_generate.specs.Sweeping.{around}
+use Rattle.fill_generate.specs.Steps.{IsFound, EndsPiece, PieceEnds, LooksUp, LooksNot, NoRoom, NoRead, Halted, Starved, IsLookedUp, gone_to, heard_as}
 use Rattle.fill_generate.proofs.PieceLemmas.{done_at, marked_with, took, unsaved, uncalled, lost_read, generates_is}
 
 -- after a piece the same sweep is elsewhere
@@ -27,7 +29,7 @@ gone_after w r r1 r2 e m h marked is =
     let there : r2 ≡ heard_as (standing r m) h = is ∙ ap (λ (q : SweepState). heard_as (standing q m) h) marked in
     there ∙ ap (λ (q : SweepState). gone_to r q) (sym there)
 
-pub goes_after : {T : Type 0} (result : Result T Stop) (piece : Piece) (written : ℕ) (r r2 : SweepState) (o : Around)
+pub goes_after : {T : Type 0} (result : Result T Stop) (piece : Piece) (written : ℕ) (r r2 : SweepState) (o : Across)
     → EndsPiece result piece written r r2 o → r2 ≡ gone_to r r2
 goes_after result piece written r r2 o ends =
     ends.passes.stands ∙ ap (λ (q : SweepState). gone_to r q) (sym ends.passes.stands)
@@ -36,7 +38,7 @@ ok_so : {T : Type 0} (result : Result T Stop) (P : Type 0) → P → OnOk result
 ok_so (Ok v) P holds = holds
 ok_so (Err stop) P holds = tt
 
-pub passes_after : {T : Type 0} (result : Result T Stop) (piece : Piece) (written : ℕ) (r r2 : SweepState) (o : Around)
+pub passes_after : {T : Type 0} (result : Result T Stop) (piece : Piece) (written : ℕ) (r r2 : SweepState) (o : Across)
     → EndsPiece result piece written r r2 o → OnOk result (r2.sweep.cursor ≡ piece.pos + piece.len)
 passes_after result piece written r r2 o ends =
     ok_so result (r2.sweep.cursor ≡ piece.pos + piece.len) (ap (λ (q : SweepState). q.sweep.cursor) ends.passes.stands)
@@ -85,7 +87,12 @@ looks r r1 r2 piece result a b c k l x y mode found looked stays keeps same open
     piece_ends (IsLookedUp s a) (generator s) r r1 r2 piece looked.got 0 result a b c k l x y stays.keeps.tells
     (generates_is r s mode) found (λ t. le-leb (length looked.got) piece.len looked.few) (λ t tells apart. looked.told tells)
     (λ t. looked.marks) (λ t. refl) (λ t. looked.calls) ends no_draft left
-    (record { site = keeps_more a b c stays.keeps keeps; image = same ∙ stays.image ∙ opened; clock = clock })
+    (record {
+      source = stays_self no_source;
+      site = keeps_more a b c stays.keeps keeps;
+      image = same ∙ stays.image ∙ opened;
+      clock = clock;
+    })
 
 -- or wasn't.
 looks_nowhere : (G : Swept → Type 0) (r r1 : SweepState) (piece : Piece) (stop : Stop) (a c : SiteState) (k : ClockState)
@@ -115,5 +122,10 @@ looks_not {T} G r r1 piece stop result a c k x mode found stands not stays no_dr
       halted = looks_nowhere G r r1 piece stop a c k x mode found stands not;
       no_draft = tt;
       draft_left = left_then r piece stop a c not (stays.draft ∙ no_draft);
-      objects = record { site = stays.keeps; image = stays.image ∙ opened; clock = clock_self k };
+      objects = record {
+        source = stays_self no_source;
+        site = stays.keeps;
+        image = stays.image ∙ opened;
+        clock = clock_self k;
+      };
     })

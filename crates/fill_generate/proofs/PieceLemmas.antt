@@ -22,11 +22,12 @@ use Rattle.rescue_rules.specs.Deeds.{save_of}
 use Rattle.sweep_rules.specs.Sweep.{Sweeper, Sweep, Swept, after_piece, due_save, sweep_snapshot, filler, generator}
 use Rattle.sweep_rules.specs.SweepWork.{piece_lines, lost_call, sweep_report}
 use Rattle.rescue_core.proofs.ObjectLemmas.{makes_more}
+use Rattle.rescue_rules.specs.Across.{Across}
 use Rattle.fill_generate.specs.declared.sweeping.Piece.{Piece}
 use Rattle.fill_generate.specs.declared.mode.SweepMode.TheVariants.{Fill, Generate}
 use Rattle.fill_generate.specs.Modes.{IsSweeperOf, current_in}
 use Rattle.fill_generate.specs.SweepState.{SweepState, setting_of, standing, moved}
-use Rattle.fill_generate.specs.Sweeping.{Around, around}
+use Rattle.fill_generate.specs.Sweeping.{around}
 use Rattle.fill_generate.specs.Steps.{IsFound, heard_as, line_after, save_after, DoesPiece, DidPiece, StepsPastPiece, BreaksSave, Halted, Uncalled, Unsaved}
 use Rattle.fill_generate.proofs.TellLemmas.{breaks_after}
 
@@ -39,7 +40,7 @@ abbrev pub marked_with : Sweeper → SweepState → Swept → SweepState
 marked_with w r e = standing r (record r.sweep { map = w.marks r.sweep.map e })
 
 -- the state after it
-stands_after : (w : Sweeper) (r r1 r2 : SweepState) (piece : Piece) (got : List ℕ) (written after : ℕ) (o : Around)
+stands_after : (w : Sweeper) (r r1 r2 : SweepState) (piece : Piece) (got : List ℕ) (written after : ℕ) (o : Across)
     → IsSweeperOf r.mode w → r1 ≡ marked_with w r (done_at piece got after) → w.writes (done_at piece got after) ≡ written
     → StepsPastPiece piece written after r1 r2 o → r2 ≡ heard_as (standing r (after_piece w r.sweep (done_at piece got after))) r2.heard
 stands_after w r r1 r2 piece got written after o of marked writes p =
@@ -56,7 +57,7 @@ lines_with s w m e current =
     then report_text (phase_front (after_piece w m e).tally.shown) (sweep_report s (after_piece w m e)) ∷ []
     else []
 
-pub takes : (G : Swept → Type 0) (w : Sweeper) (r r1 r2 : SweepState) (piece : Piece) (got : List ℕ) (written after : ℕ) (o : Around)
+pub takes : (G : Swept → Type 0) (w : Sweeper) (r r1 r2 : SweepState) (piece : Piece) (got : List ℕ) (written after : ℕ) (o : Across)
     → IsSweeperOf r.mode w → IsFound r piece → w.gives (done_at piece got after) ≡ true → G (done_at piece got after)
     → r1 ≡ marked_with w r (done_at piece got after) → w.writes (done_at piece got after) ≡ written
     → StepsPastPiece piece written after r1 r2 o
@@ -88,7 +89,7 @@ save_if : (s : Setting) (due : Bool) (p : Snapshot)
 save_if s true p = refl
 save_if s false p = refl
 
-pub save_is : (w : Sweeper) (r r1 r2 : SweepState) (piece : Piece) (got : List ℕ) (written after : ℕ) (o : Around)
+pub save_is : (w : Sweeper) (r r1 r2 : SweepState) (piece : Piece) (got : List ℕ) (written after : ℕ) (o : Across)
     → IsSweeperOf r.mode w → r1 ≡ marked_with w r (done_at piece got after) → w.writes (done_at piece got after) ≡ written
     → StepsPastPiece piece written after r1 r2 o
     → save_after r1 r2 after ≡ save_of (setting_of r) (due_save w r.sweep (done_at piece got after))

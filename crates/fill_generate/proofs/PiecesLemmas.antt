@@ -7,13 +7,14 @@ use Rattle.rescue_rules.specs.declared.stop.Stop.{Stop}
 use Rattle.rescue_rules.specs.Setting.{Setting}
 use Rattle.sweep_rules.specs.Sweep.{Sweeper, Sweep, Swept, IsPiece, IsSweptOut, filler, generator}
 use Rattle.block_list.specs.declared.types.TypeSet.{TypeSet}
+use Rattle.rescue_rules.specs.Across.{Across, ObjectsStay}
 use Rattle.fill_generate.specs.declared.mode.SweepMode.{SweepMode}
 use Rattle.fill_generate.specs.declared.mode.SweepMode.TheVariants.{Fill, Generate}
 use Rattle.fill_generate.specs.declared.sweeping.Piece.{Piece}
 use Rattle.fill_generate.specs.Modes.{IsSweeperOf}
 use Rattle.fill_generate.specs.SweepState.{SweepState, setting_of}
-use Rattle.fill_generate.specs.Sweeping.{Around, around}
-use Rattle.fill_generate.specs.Steps.{IsFound, DoesPiece, DidPiece, Halted, Starved, Uncalled, Unsaved, WentOn, PieceEnds, PiecesEnd, ObjectsStay, IsLookedUp, gone_to}
+use Rattle.fill_generate.specs.Sweeping.{around}
+use Rattle.fill_generate.specs.Steps.{IsFound, DoesPiece, DidPiece, Halted, Starved, Uncalled, Unsaved, WentOn, PieceEnds, PiecesEnd, IsLookedUp, gone_to}
 use Rattle.fill_generate.proofs.TellLemmas.{objects_stay}
 use Rattle.fill_generate.proofs.LoopLemmas.{goes_on, halts}
 use Rattle.fill_generate.proofs.ImageLemmas.{looked_before}
@@ -89,8 +90,17 @@ pieces_out G w r r1 v d e k l x y stands of none went no_draft objects = record 
   objects = objects;
 }
 
+-- the objects are handed back as they are
+pub pieces_as : {T : Type 0} {G : Swept → Type 0} {result : Result T Stop} {w : Sweeper} {r r1 : SweepState} {d e f : SiteState}
+    {k l n : ClockState} {x y z : ConsoleState} → e ≡ f → l ≡ n → y ≡ z → PiecesEnd G result w r r1 (around d e k l x y)
+    → PiecesEnd G result w r r1 (around d f k n x z)
+pieces_as {T} {G} {result} {w} {r} {r1} {d} {e} {f} {k} {l} {n} {x} {y} {z} site clock console ends =
+    subst (λ (a : SiteState). PiecesEnd G result w r r1 (around d a k n x z)) site
+    (subst (λ (b : ClockState). PiecesEnd G result w r r1 (around d e k b x z)) clock
+    (subst (λ (c : ConsoleState). PiecesEnd G result w r r1 (around d e k l x c)) console ends))
+
 -- what holds of a piece's event besides may be weaker
-takes_weaker : (G H : Swept → Type 0) (s : Setting) (w : Sweeper) (m m' : Sweep) (h h' : Bool) (e : Swept) (o : Around)
+takes_weaker : (G H : Swept → Type 0) (s : Setting) (w : Sweeper) (m m' : Sweep) (h h' : Bool) (e : Swept) (o : Across)
     → ((e : Swept) → G e → H e) → DoesPiece G s w m m' h h' e o → DoesPiece H s w m m' h h' e o
 takes_weaker G H s w m m' h h' e o weaker t = record {
   asks = t.asks;
@@ -102,12 +112,12 @@ takes_weaker G H s w m m' h h' e o weaker t = record {
   says = t.says;
 }
 
-took_weaker : (G H : Swept → Type 0) (s : Setting) (w : Sweeper) (m m' : Sweep) (h h' : Bool) (o : Around)
+took_weaker : (G H : Swept → Type 0) (s : Setting) (w : Sweeper) (m m' : Sweep) (h h' : Bool) (o : Across)
     → ((e : Swept) → G e → H e) → DidPiece G s w m m' h h' o → DidPiece H s w m m' h h' o
 took_weaker G H s w m m' h h' o weaker t =
     record { event = t.event; takes = takes_weaker G H s w m m' h h' t.event o weaker t.takes; calls = t.calls }
 
-halted_weaker : (G H : Swept → Type 0) (s : Setting) (w : Sweeper) (m m' : Sweep) (h h' : Bool) (stop : Stop) (o : Around)
+halted_weaker : (G H : Swept → Type 0) (s : Setting) (w : Sweeper) (m m' : Sweep) (h h' : Bool) (stop : Stop) (o : Across)
     → ((e : Swept) → G e → H e) → Halted G s w m m' h h' stop o → Halted H s w m m' h h' stop o
 halted_weaker G H s w m m' h h' stop o weaker (Starved a b c d e f g) = Starved a b c d e f g
 halted_weaker G H s w m m' h h' stop o weaker (Uncalled p q a b c d e f g) = Uncalled p q a b c d e f g
@@ -115,7 +125,7 @@ halted_weaker G H s w m m' h h' stop o weaker (Unsaved event takes call is broke
     Unsaved event (takes_weaker G H s w m m' h h' event o weaker takes) call is broke
 
 piece_weaker : {T : Type 0} (G H : Swept → Type 0) (result : Result T Stop) (w : Sweeper) (piece : Piece) (r r' : SweepState)
-    (o : Around) → ((e : Swept) → G e → H e) → PieceEnds G result w piece r r' o → PieceEnds H result w piece r r' o
+    (o : Across) → ((e : Swept) → G e → H e) → PieceEnds G result w piece r r' o → PieceEnds H result w piece r r' o
 piece_weaker G H (Ok v) w piece r r' o weaker p = record {
   stands = p.stands;
   took = took_weaker G H (setting_of r) w r.sweep r'.sweep r.heard r'.heard o weaker p.took;
@@ -136,7 +146,7 @@ piece_weaker G H (Err stop) w piece r r' o weaker p = record {
 }
 
 pub fills_since : {T : Type 0} (types : TypeSet) (buffer : List ℕ) (G : Swept → Type 0) (result : Result T Stop) (piece : Piece)
-    (r r1 r2 : SweepState) (o : Around) → r1 ≡ gone_to r r1
+    (r r1 r2 : SweepState) (o : Across) → r1 ≡ gone_to r r1
     → PieceEnds G result (filler (setting_of r1) types buffer) piece r1 r2 o
     → PieceEnds G result (filler (setting_of r) types buffer) piece (gone_to r r1) r2 o
 fills_since types buffer G result piece r r1 r2 o stands p =
@@ -144,7 +154,7 @@ fills_since types buffer G result piece r r1 r2 o stands p =
 
 -- and what it looked up is what the output held at the beginning
 pub looks_since : {T : Type 0} (result : Result T Stop) (piece : Piece) (r r1 r2 : SweepState) (d e : SiteState) (k l : ClockState)
-    (x y : ConsoleState) (o : Around) → r1 ≡ gone_to r r1 → ObjectsStay (around d e k l x y)
+    (x y : ConsoleState) (o : Across) → r1 ≡ gone_to r r1 → ObjectsStay (around d e k l x y)
     → WentOn (IsLookedUp (setting_of r) d) (setting_of r) (generator (setting_of r)) r.sweep r1.sweep r.heard r1.heard
     (around d e k l x y)
     → PieceEnds (IsLookedUp (setting_of r1) e) result (generator (setting_of r1)) piece r1 r2 o

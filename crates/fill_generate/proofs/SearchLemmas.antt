@@ -12,17 +12,13 @@ use Rattle.run_options.specs.declared.settings.Settings.{Settings}
 use Rattle.rescue_rules.proofs.RoundLemmas.{floor_beyond}
 use Rattle.rescue_rules.specs.Setting.{Setting}
 use Rattle.rescue_rules.specs.Counts.{passes, passing}
-use Rattle.sweep_rules.specs.Sweep.{Sweeper, Sweep, IsTaken, IsPiece, IsSweptOut}
-use Rattle.block_list.specs.Map.{Has}
+use Rattle.sweep_rules.specs.Sweep.{Sweeper, Sweep, IsTaken, IsPiece}
 use Rattle.run_options.specs.Settings.{IsSound}
 use Rattle.rescue_rules.proofs.SearchLemmas.{true_or_false}
 use Rattle.fill_generate.specs.declared.mode.SweepMode.{SweepMode}
 use Rattle.fill_generate.specs.Modes.{takes_in, is_taken, IsTakenIn, IsSweeperOf}
 use Rattle.fill_generate.specs.SweepState.{SweepState, setting_of, IsSweeping}
 use Rattle.fill_generate.specs.Steps.{IsFound}
-
-passes_none : (test : Status → Bool) (o : Option Status) → o ≡ None → passes test o ≡ false
-passes_none test o is = ap (passes test) is
 
 -- a position that is taken lies in the map
 passes_some : (test : Status → Bool) (o : Option Status) → passes test o ≡ true → (status : Status) × (o ≡ Some status)
@@ -101,21 +97,6 @@ piece_is mode s w m p q limit most of first is cut some few within stops =
     ⊎_elim (λ (lt : q < most). let le : found.0 ≤ q = near lt in omega (arith, le, far, cut, lt))
     (λ (ge : most ≤ q). omega (arith, ge, few, far, last, cut)) (cases_lt q most) in
     record { end = found.0; range = (start, found.1); ends = ends ∙ ap (min found.0) is }
-
--- none is left
-pub swept_out : (mode : SweepMode) (s : Setting) (w : Sweeper) (m : Sweep) → IsSweeperOf mode w
-    → ((x : ℕ) → m.cursor ≤ x → IsTakenIn mode s.domain m.map x → ⊥) → IsSweptOut s w m
-swept_out mode s w m of none x from on = none x from (sym (taken_alike mode w s.domain m.map x of) ∙ on)
-
--- what lies outside the domain isn't taken, and inside it goes by the status
-pub taken_out : (mode : SweepMode) (domain : ℕ → Bool) (map : List Status) (y : ℕ) → domain y ≡ false
-    → is_taken mode domain map y ≡ false
-taken_out mode domain map y out = ap (λ (b : Bool). b && passes (takes_in mode) (slice_get map y)) out
-
-pub taken_in : (mode : SweepMode) (domain : ℕ → Bool) (map : List Status) (y : ℕ) (status : Status) → domain y ≡ true
-    → Has map status y → is_taken mode domain map y ≡ takes_in mode status
-taken_in mode domain map y status in_domain has =
-    ap (λ (b : Bool). b && passes (takes_in mode) (slice_get map y)) in_domain ∙ ap (passes (takes_in mode)) has
 
 -- a cluster has a sector at least
 pub cluster_some : (settings : Settings) → IsSound settings → settings.sector ≤ settings.cluster

@@ -6,12 +6,13 @@ use Rattle.crash_site.specs.Files.{bytes_of}
 use Rattle.crash_site.specs.Calls.{Call, image_read}
 use Rattle.crash_site.specs.CallsMade.{call_name}
 use Rattle.crash_site.specs.SiteState.{SiteState, image_in}
-use Rattle.crash_site.specs.SiteChanges.{Keeps as SiteKeeps, Makes, Breaks}
-use Rattle.rescue_console.specs.ClockState.{Keeps as ClockKeeps, Reads as ReadsClock}
+use Rattle.crash_site.specs.SiteChanges.{Makes, Breaks}
+use Rattle.rescue_console.specs.ClockState.{Reads as ReadsClock}
 use Rattle.rescue_console.specs.Speaking.{SpeaksOn, out_pieces}
 use Rattle.rescue_rules.specs.declared.stop.Stop.{Stop}
 use Rattle.rescue_rules.specs.declared.stop.Stop.TheVariants.{Site, NoMemory}
 use Rattle.rescue_rules.specs.declared.stop.RunEnd.{RunEnd}
+use Rattle.rescue_rules.specs.Across.{Across, ObjectsStay}
 use Rattle.rescue_rules.specs.Setting.{Setting, place}
 use Rattle.rescue_rules.specs.RunCalls.{closing_calls}
 use Rattle.rescue_rules.specs.Said.{is_line_due}
@@ -26,7 +27,7 @@ use Rattle.sweep_rules.specs.SweepWork.{sweep_report, sweep_calls, piece_lines, 
 use Rattle.fill_generate.specs.declared.sweeping.Piece.{Piece}
 use Rattle.fill_generate.specs.SweepState.{SweepState, setting_of, standing, moved}
 use Rattle.fill_generate.specs.Modes.{IsSweeperOf, current_in}
-use Rattle.fill_generate.specs.Sweeping.{Around, BreaksAfter, SweepStopsAt, times_after, IsApart}
+use Rattle.fill_generate.specs.Sweeping.{BreaksAfter, SweepStopsAt, times_after, IsApart}
 use Rattle.fill_generate.specs.Marking.{finished_at, piece_at}
 use Rattle.rescue_core.specs.Closing.{drafting_at_stop, EndsBy}
 
@@ -76,7 +77,7 @@ got_at piece got = piece_at piece.pos piece.len got
 -- What a sweeper does to pieces by a setting, with what holds of each event besides.
 module _ (G : Swept → Type 0) (s : Setting) (w : Sweeper) where
   -- A piece was done: its event, the state after it, the reading of the clock, and its line.
-  pub record DoesPiece (m m' : Sweep) (heard heard' : Bool) (e : Swept) (o : Around) : Type 0 where
+  pub record DoesPiece (m m' : Sweep) (heard heard' : Bool) (e : Swept) (o : Across) : Type 0 where
     pub asks : IsPiece s w m e.pos (e.pos + e.len)
     pub gives : w.gives e ≡ true
     pub given : G e
@@ -86,13 +87,13 @@ module _ (G : Swept → Type 0) (s : Setting) (w : Sweeper) where
     pub says : SpeaksOn (out_pieces (piece_lines s w m e)) heard heard' o.console o.console'
 
   -- A piece was done, with its call and the save that was due.
-  pub record DidPiece (m m' : Sweep) (heard heard' : Bool) (o : Around) : Type 0 where
+  pub record DidPiece (m m' : Sweep) (heard heard' : Bool) (o : Across) : Type 0 where
     pub event : Swept
     pub takes : DoesPiece m m' heard heard' event o
     pub calls : Makes (deed_calls s (deed_of w m event)) o.site o.site'
 
   -- A sweep stopped at a piece:
-  pub data Halted (m m' : Sweep) (heard heard' : Bool) (stop : Stop) (o : Around) : Type 0 where
+  pub data Halted (m m' : Sweep) (heard heard' : Bool) (stop : Stop) (o : Across) : Type 0 where
     -- for lack of memory, before its call
     Starved : stop ≡ NoMemory → w.starves ≡ true → m' ≡ m → heard' ≡ heard → o.site' ≡ o.site → o.clock' ≡ o.clock
         → o.console' ≡ o.console → Halted m m' heard heard' stop o
@@ -106,7 +107,7 @@ module _ (G : Swept → Type 0) (s : Setting) (w : Sweeper) where
         → Halted m m' heard heard' stop o
 
   -- Pieces one after another, without their calls.
-  pub record SweepWent (m m' : Sweep) (heard heard' : Bool) (es : List Swept) (o : Around) : Type 0 where
+  pub record SweepWent (m m' : Sweep) (heard heard' : Bool) (es : List Swept) (o : Across) : Type 0 where
     pub run : IsSweep s w m es
     pub given : All G es
     pub state : m' ≡ after_pieces w m es
@@ -115,22 +116,16 @@ module _ (G : Swept → Type 0) (s : Setting) (w : Sweeper) where
     pub says : SpeaksOn (out_pieces (pieces_lines s w m es)) heard heard' o.console o.console'
 
   -- Whole pieces one after another, with their calls.
-  pub record WentOn (m m' : Sweep) (heard heard' : Bool) (o : Around) : Type 0 where
+  pub record WentOn (m m' : Sweep) (heard heard' : Bool) (o : Across) : Type 0 where
     pub events : List Swept
     pub went : SweepWent m m' heard heard' events o
     pub made : Makes (sweep_calls s w m events) o.site o.site'
 
   -- Pieces one after another, up to one at which the sweep stopped.
-  pub record WentUpTo (m m' : Sweep) (heard heard' : Bool) (stop : Stop) (o : Around) : Type 0 where
+  pub record WentUpTo (m m' : Sweep) (heard heard' : Bool) (stop : Stop) (o : Across) : Type 0 where
     pub events : List Swept
     pub went : SweepWent m m' heard heard' events o
     pub stops : SweepStopsAt s w m events stop o.site o.site'
-
--- what stays of the objects; the output stays open
-pub record ObjectsStay (o : Around) : Type 0 where
-  pub site : SiteKeeps o.site o.site'
-  pub image : o.site'.is_open ≡ true
-  pub clock : ClockKeeps o.clock o.clock'
 
 -- the end of a sweep saves its map; but after a failed call on its files it makes no more
 abbrev pub ClosesFiles : Setting → Sweep → Option Stop → RunEnd → (site site' : SiteState) → Type 0
@@ -138,7 +133,7 @@ ClosesFiles s m stop end site site' =
     EndsBy (closing_calls s (sweep_end (is_none stop) m)) stop end site site'
 
 -- After a piece of which this many bytes were written, at this time: the reading of the clock, the state, and the line.
-pub record StepsPastPiece (piece : Piece) (written after : ℕ) (r r' : SweepState) (o : Around) : Type 0 where
+pub record StepsPastPiece (piece : Piece) (written after : ℕ) (r r' : SweepState) (o : Across) : Type 0 where
   pub timed : ReadsClock (after ∷ []) o.clock o.clock'
   pub fit : after < 2 ^ 64
   pub stands : r' ≡ heard_as (standing r
@@ -147,7 +142,7 @@ pub record StepsPastPiece (piece : Piece) (written after : ℕ) (r r' : SweepSta
 
 -- what follows a piece, with its save, if one is due, or with one that broke off
 pub record EndsPiece {T : Type 0} (result : Result T Stop) (piece : Piece) (written : ℕ) (r r' : SweepState)
-    (o : Around) : Type 0 where
+    (o : Across) : Type 0 where
   pub after : ℕ
   pub passes : StepsPastPiece piece written after r r' o
   pub made : OnOk result (Makes (save_after r r' after) o.site o.site')
@@ -183,7 +178,7 @@ gone_to r r' = record r { sweep = r'.sweep; heard = r'.heard }
 -- By the outcome, with what holds of each event besides:
 module _ {T : Type 0} (G : Swept → Type 0) where
   -- what comes of a piece
-  pub record PieceEnds (result : Result T Stop) (w : Sweeper) (piece : Piece) (r r' : SweepState) (o : Around)
+  pub record PieceEnds (result : Result T Stop) (w : Sweeper) (piece : Piece) (r r' : SweepState) (o : Across)
       : Type 0 where
     pub stands : r' ≡ gone_to r r'
     pub took : OnOk result (DidPiece G (setting_of r) w r.sweep r'.sweep r.heard r'.heard o)
@@ -194,7 +189,7 @@ module _ {T : Type 0} (G : Swept → Type 0) where
     pub objects : ObjectsStay o
 
   -- what comes of all pieces that are left
-  pub record PiecesEnd (result : Result T Stop) (w : Sweeper) (r r' : SweepState) (o : Around) : Type 0 where
+  pub record PiecesEnd (result : Result T Stop) (w : Sweeper) (r r' : SweepState) (o : Across) : Type 0 where
     pub stands : r' ≡ gone_to r r'
     pub went : OnOk result (WentOn G (setting_of r) w r.sweep r'.sweep r.heard r'.heard o)
     pub out : OnOk result (IsSweptOut (setting_of r) w r'.sweep)

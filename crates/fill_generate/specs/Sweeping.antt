@@ -1,6 +1,7 @@
 -- What a sweep does, by what its objects tell. For contracts and proofs: no promise uses it.
 use Rattle.std.specs.Prelude.{◌≡◌, ◌≢◌, ℕ, Bool, true, false, IsTrue, List, [], ◌∷◌, ◌++◌, map, Option, Some, is_none}
 use Rattle.fault_count.specs.Counts.{Rose}
+use Rattle.faulty_source.specs.declared.source.Source.{Ghosts as SourceGhosts}
 use Rattle.crash_site.specs.declared.site.SiteCall.{SiteCall}
 use Rattle.crash_site.specs.Files.{bytes_of}
 use Rattle.crash_site.specs.Calls.{Call, Entry, Done}
@@ -17,6 +18,7 @@ use Rattle.rescue_rules.specs.declared.stop.Stop.{Stop}
 use Rattle.rescue_rules.specs.declared.stop.Stop.TheVariants.{Site, NoMemory}
 use Rattle.rescue_rules.specs.declared.stop.RunEnd.{RunEnd}
 use Rattle.rescue_rules.specs.declared.stop.RunEnd.TheVariants.{Done as Finished, Stopped, SaveFailed}
+use Rattle.rescue_rules.specs.Across.{Across, across, no_source}
 use Rattle.rescue_rules.specs.Setting.{Setting}
 use Rattle.rescue_rules.specs.RunCalls.{closing_calls}
 use Rattle.rescue_rules.specs.Laws.{AreTimes}
@@ -27,25 +29,13 @@ use Rattle.sweep_rules.specs.Sweep.{Sweeper, Sweep, Swept, IsPiece, IsSweep, aft
 use Rattle.sweep_rules.specs.SweepLaws.{AreGiven}
 use Rattle.sweep_rules.specs.SweepWork.{SweepEndsBy, SweepEnds, sweep_calls, sweep_lines, lost_call}
 
--- what the objects of a sweep tell before something was done, and after it
-pub record Around : Type 0 where
-  pub site : SiteState
-  pub site' : SiteState
-  pub clock : ClockState
-  pub clock' : ClockState
-  pub console : ConsoleState
-  pub console' : ConsoleState
+-- the input of a sweep, which is handed none
+abbrev pub no_input : {S : Type 0} → SourceGhosts S
+no_input = record { state = λ s. no_source }
 
 -- the record of the files, the clock and the console, before something was done and after it
-abbrev pub around : SiteState → SiteState → ClockState → ClockState → ConsoleState → ConsoleState → Around
-around site site' clock clock' console console' = record {
-  site = site;
-  site' = site';
-  clock = clock;
-  clock' = clock';
-  console = console;
-  console' = console';
-}
+abbrev pub around : SiteState → SiteState → ClockState → ClockState → ConsoleState → ConsoleState → Across
+around = across no_source no_source
 
 -- after these calls, which all returned, one of others failed, which has this name
 pub record BreaksAfter (at : SiteCall) (made calls : List Call) (old new : SiteState) : Type 0 where
@@ -106,7 +96,7 @@ module _ (s : Setting) (w : Sweeper) (m : Sweep) where
         → SweepStopsAt es stop site site'
 
   -- A sweep from a state, by its pieces: the clock is read after each, and its lines are put.
-  pub record SweepTold (heard heard' : Bool) (end : RunEnd) (o : Around) : Type 0 where
+  pub record SweepTold (heard heard' : Bool) (end : RunEnd) (o : Across) : Type 0 where
     pub events : List Swept
     pub run : IsSweep s w m events
     pub timed : ReadsClock (times_after events) o.clock o.clock'
@@ -116,7 +106,7 @@ module _ (s : Setting) (w : Sweeper) (m : Sweep) where
 
   -- A sweep that looks up pieces in the output, which gave what it held when the sweep began: if the site tells, and
   -- the output isn't overwritten by the saves.
-  pub record LookupTold (heard heard' : Bool) (end : RunEnd) (o : Around) : Type 0 where
+  pub record LookupTold (heard heard' : Bool) (end : RunEnd) (o : Across) : Type 0 where
     pub sweeps : SweepTold heard heard' end o
     pub given : IsTrue o.site.tells → IsApart s.names o.site → AreGiven s (bytes_of (image_in o.site)) sweeps.events
 

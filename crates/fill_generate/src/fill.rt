@@ -6,8 +6,10 @@ ghost use Rattle.mapfile_text.specs.declared.heading.Program.TheVariants.{Ddresc
 ghost use Rattle.sweep_rules.specs.Sweep.{filler, sweep_over};
 ghost use Rattle.fill_generate.specs.declared.mode.SweepMode.TheVariants.{Fill};
 ghost use Rattle.fill_generate.specs.SweepState.{CanSweep, setting_for, setting_of};
-ghost use Rattle.fill_generate.specs.Steps.{IsFound, PieceEnds, PiecesEnd, ObjectsStay, gone_to};
-ghost use Rattle.fill_generate.specs.Sweeping.{SweepTold, drafting_after, around};
+ghost use Rattle.rescue_rules.specs.Across.{ObjectsStay};
+ghost use Rattle.rescue_core.specs.Outside.{between, AreSame};
+ghost use Rattle.fill_generate.specs.Steps.{IsFound, PieceEnds, PiecesEnd, gone_to};
+ghost use Rattle.fill_generate.specs.Sweeping.{SweepTold, drafting_after, no_input, around};
 
 use crate::job::Job;
 use crate::mode::SweepMode;
@@ -18,6 +20,7 @@ use crash_site::site::{Site, SiteCall};
 use rescue_console::clock::Clock;
 use rescue_console::console::Console;
 use rescue_core::closing::Closed;
+use rescue_core::outside::Outside;
 use rescue_rules::stop::Stop;
 
 /// Writes the buffer's front over each piece of the positions with these statuses, from the lowest up, and leaves the
@@ -48,30 +51,35 @@ pub fn run_fill<D: Site, K: Clock, C: Console, T: Tiles>(
     ensures clock { ClockKeeps (K.state clock.old) (K.state clock.new) }
 {
     let mut sweeping = Sweeping::begin(job, SweepMode::Fill(types));
-    match fill_pieces(&mut sweeping, buffer, site, clock, console) {
-        Ok(()) => sweeping.close(None, site, console),
-        Err(stop) => sweeping.close(Some(stop), site, console),
-    }
+    let ended = {
+        // A sweep reads no input.
+        let mut outside = Outside {
+            source: &mut (),
+            site: &mut *site,
+            clock: &mut *clock,
+            console: &mut *console,
+        };
+        fill_pieces(&mut sweeping, buffer, &mut outside)
+    };
+    sweeping.close(ended.err(), site, console)
 }
 
 /// Fills piece by piece, until none is left.
 fn fill_pieces<D: Site, K: Clock, C: Console, T: Tiles>(
     sweeping: &mut Sweeping<T>,
     buffer: &[u8],
-    site: &mut D,
-    clock: &mut K,
-    console: &mut C,
+    outside: &mut Outside<(), D, K, C>,
 ) -> Result<(), Stop>
     requires room { length buffer.now ≡ sweeping.old.settings.cluster }
-    requires image { (D.state site.old).is_open ≡ true }
-    requires no_draft { (D.state site.old).is_drafting ≡ false }
-    ensures { (types : TypeSet) → sweeping.old.mode ≡ Fill types
+    requires image { (D.state outside.old.site.now).is_open ≡ true }
+    requires no_draft { (D.state outside.old.site.now).is_drafting ≡ false }
+    ensures ends { (types : TypeSet) → sweeping.old.mode ≡ Fill types
         → PiecesEnd (λ e. ⊤) result (filler (setting_of sweeping.old) types buffer.now) sweeping.old sweeping.new
-        (around (D.state site.old) (D.state site.new) (K.state clock.old) (K.state clock.new) (C.state console.old)
-        (C.state console.new)) }
+        (between no_input D.Site K.Clock C.Console outside.old outside.new) }
+    ensures same { AreSame outside.old outside.new }
 {
     'pieces: while let Some(piece) = sweeping.next_piece() {
-        fill_piece(sweeping, piece, buffer, site, clock, console)?;
+        fill_piece(sweeping, piece, buffer, outside)?;
     }
     Ok(())
 }
@@ -81,27 +89,24 @@ fn fill_piece<D: Site, K: Clock, C: Console, T: Tiles>(
     sweeping: &mut Sweeping<T>,
     piece: Piece,
     buffer: &[u8],
-    site: &mut D,
-    clock: &mut K,
-    console: &mut C,
+    outside: &mut Outside<(), D, K, C>,
 ) -> Result<(), Stop>
     requires found { IsFound sweeping.old piece }
     requires room { length buffer.now ≡ sweeping.old.settings.cluster }
-    requires image { (D.state site.old).is_open ≡ true }
-    requires no_draft { (D.state site.old).is_drafting ≡ false }
+    requires image { (D.state outside.old.site.now).is_open ≡ true }
+    requires no_draft { (D.state outside.old.site.now).is_drafting ≡ false }
     ensures ends { (types : TypeSet) → sweeping.old.mode ≡ Fill types
         → PieceEnds (λ e. ⊤) result (filler (setting_of sweeping.old) types buffer.now) piece sweeping.old sweeping.new
-        (around (D.state site.old) (D.state site.new) (K.state clock.old) (K.state clock.new) (C.state console.old)
-        (C.state console.new)) }
+        (between no_input D.Site K.Clock C.Console outside.old outside.new) }
     ensures stands { sweeping.new ≡ gone_to sweeping.old sweeping.new }
     ensures passed { OnOk result (sweeping.new.sweep.cursor ≡ piece.pos + piece.len) }
-    ensures draft { OnOk result ((D.state site.new).is_drafting ≡ false) }
-    ensures objects { ObjectsStay (around (D.state site.old) (D.state site.new) (K.state clock.old) (K.state clock.new)
-        (C.state console.old) (C.state console.new)) }
+    ensures draft { OnOk result ((D.state outside.new.site.now).is_drafting ≡ false) }
+    ensures objects { ObjectsStay (between no_input D.Site K.Clock C.Console outside.old outside.new) }
+    ensures same { AreSame outside.old outside.new }
 {
     let place = sweeping.place_of(piece);
-    match site.image_write(place, &buffer[..piece.len]) {
-        Ok(()) => sweeping.end_piece(piece, piece.len as u64, site, clock, console),
+    match outside.site.image_write(place, &buffer[..piece.len]) {
+        Ok(()) => sweeping.end_piece(piece, piece.len as u64, outside),
         Err(_) => Err(Stop::Site(SiteCall::ImageWrite)),
     }
 }

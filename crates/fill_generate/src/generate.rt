@@ -4,10 +4,11 @@ ghost use Rattle.crash_site.specs.SiteChanges.{Keeps as SiteKeeps};
 ghost use Rattle.rescue_console.specs.ClockState.{Keeps as ClockKeeps};
 ghost use Rattle.mapfile_text.specs.declared.heading.Program.TheVariants.{Ddrescue};
 ghost use Rattle.sweep_rules.specs.Sweep.{generator, sweep_over};
+ghost use Rattle.rescue_core.specs.Outside.{between, AreSame};
 ghost use Rattle.fill_generate.specs.declared.mode.SweepMode.TheVariants.{Generate};
 ghost use Rattle.fill_generate.specs.SweepState.{CanSweep, setting_for, setting_of};
 ghost use Rattle.fill_generate.specs.Steps.{IsFound, PieceEnds, PiecesEnd, IsLookedUp};
-ghost use Rattle.fill_generate.specs.Sweeping.{LookupTold, drafting_after, around};
+ghost use Rattle.fill_generate.specs.Sweeping.{LookupTold, drafting_after, no_input, around};
 
 use crate::job::Job;
 use crate::mode::SweepMode;
@@ -17,6 +18,7 @@ use crash_site::site::Site;
 use rescue_console::clock::Clock;
 use rescue_console::console::Console;
 use rescue_core::closing::Closed;
+use rescue_core::outside::Outside;
 use rescue_rules::stop::Stop;
 
 /// Reads each piece of the positions that weren't tried from the output, from the lowest up, and marks as finished what
@@ -46,30 +48,36 @@ pub fn run_generate<D: Site, K: Clock, C: Console, T: Tiles>(
     ensures clock { ClockKeeps (K.state clock.old) (K.state clock.new) }
 {
     let mut sweeping = Sweeping::begin(job, SweepMode::Generate);
-    match generate_pieces(&mut sweeping, buffer, site, clock, console) {
-        Ok(()) => sweeping.close(None, site, console),
-        Err(stop) => sweeping.close(Some(stop), site, console),
-    }
+    let ended = {
+        // A sweep reads no input.
+        let mut outside = Outside {
+            source: &mut (),
+            site: &mut *site,
+            clock: &mut *clock,
+            console: &mut *console,
+        };
+        generate_pieces(&mut sweeping, buffer, &mut outside)
+    };
+    sweeping.close(ended.err(), site, console)
 }
 
 /// Looks up piece by piece, until none is left.
 fn generate_pieces<D: Site, K: Clock, C: Console, T: Tiles>(
     sweeping: &mut Sweeping<T>,
     buffer: &mut [u8],
-    site: &mut D,
-    clock: &mut K,
-    console: &mut C,
+    outside: &mut Outside<(), D, K, C>,
 ) -> Result<(), Stop>
     requires generates { sweeping.old.mode ≡ Generate }
     requires room { length buffer.old ≡ sweeping.old.settings.cluster }
-    requires image { (D.state site.old).is_open ≡ true }
-    requires no_draft { (D.state site.old).is_drafting ≡ false }
-    ensures { PiecesEnd (IsLookedUp (setting_of sweeping.old) (D.state site.old)) result
-        (generator (setting_of sweeping.old)) sweeping.old sweeping.new (around (D.state site.old) (D.state site.new)
-        (K.state clock.old) (K.state clock.new) (C.state console.old) (C.state console.new)) }
+    requires image { (D.state outside.old.site.now).is_open ≡ true }
+    requires no_draft { (D.state outside.old.site.now).is_drafting ≡ false }
+    ensures ends { PiecesEnd (IsLookedUp (setting_of sweeping.old) (D.state outside.old.site.now)) result
+        (generator (setting_of sweeping.old)) sweeping.old sweeping.new
+        (between no_input D.Site K.Clock C.Console outside.old outside.new) }
+    ensures same { AreSame outside.old outside.new }
 {
     'pieces: while let Some(piece) = sweeping.next_piece() {
-        generate_piece(sweeping, piece, buffer, site, clock, console)?;
+        generate_piece(sweeping, piece, buffer, outside)?;
     }
     Ok(())
 }
@@ -79,20 +87,19 @@ fn generate_piece<D: Site, K: Clock, C: Console, T: Tiles>(
     sweeping: &mut Sweeping<T>,
     piece: Piece,
     buffer: &mut [u8],
-    site: &mut D,
-    clock: &mut K,
-    console: &mut C,
+    outside: &mut Outside<(), D, K, C>,
 ) -> Result<(), Stop>
     requires found { IsFound sweeping.old piece }
     requires generates { sweeping.old.mode ≡ Generate }
     requires room { length buffer.old ≡ sweeping.old.settings.cluster }
-    requires image { (D.state site.old).is_open ≡ true }
-    requires no_draft { (D.state site.old).is_drafting ≡ false }
-    ensures ends { PieceEnds (IsLookedUp (setting_of sweeping.old) (D.state site.old)) result
-        (generator (setting_of sweeping.old)) piece sweeping.old sweeping.new (around (D.state site.old)
-        (D.state site.new) (K.state clock.old) (K.state clock.new) (C.state console.old) (C.state console.new)) }
+    requires image { (D.state outside.old.site.now).is_open ≡ true }
+    requires no_draft { (D.state outside.old.site.now).is_drafting ≡ false }
+    ensures ends { PieceEnds (IsLookedUp (setting_of sweeping.old) (D.state outside.old.site.now)) result
+        (generator (setting_of sweeping.old)) piece sweeping.old sweeping.new
+        (between no_input D.Site K.Clock C.Console outside.old outside.new) }
     ensures room { length buffer.new ≡ length buffer.old }
+    ensures same { AreSame outside.old outside.new }
 {
-    sweeping.look_up(piece, buffer, site)?;
-    sweeping.end_piece(piece, 0, site, clock, console)
+    sweeping.look_up(piece, buffer, outside.site)?;
+    sweeping.end_piece(piece, 0, outside)
 }

@@ -13,7 +13,8 @@ ghost use Rattle.rescue_rules.specs.Lines.{phase_front, last_front, report_text,
 ghost use Rattle.rescue_core.specs.Closing.{MayClose, drafting_at_stop};
 ghost use Rattle.sweep_rules.specs.Sweep.{Sweeper, sweep_over, sweep_from, sweep_snapshot, IsSweptOut};
 ghost use Rattle.sweep_rules.specs.SweepWork.{sweep_report};
-ghost use Rattle.fill_generate.specs.Sweeping.{around};
+ghost use Rattle.rescue_core.specs.Outside.{between, AreSame};
+ghost use Rattle.fill_generate.specs.Sweeping.{no_input};
 ghost use Rattle.fill_generate.specs.Modes.{current_in, IsSweeperOf};
 ghost use Rattle.fill_generate.specs.SweepState.{CanSweep, setting_of, standing, moved};
 ghost use Rattle.fill_generate.specs.Steps.{IsFound, ClosesFiles, EndsPiece, LooksUp, LooksNot};
@@ -32,6 +33,7 @@ use rescue_core::closing::Closed;
 use rescue_core::counts::counts_at_first;
 use rescue_core::due::Due;
 use rescue_core::keeper::Keeper;
+use rescue_core::outside::Outside;
 use rescue_domain::domain::Domain;
 use rescue_rules::stop::Stop;
 use rescue_rules::tally::Tally;
@@ -230,24 +232,23 @@ impl<T: Tiles> Sweeping<T> {
         &mut self,
         piece: Piece,
         written: u64,
-        site: &mut D,
-        clock: &mut K,
-        console: &mut C,
+        outside: &mut Outside<(), D, K, C>,
     ) -> Result<(), Stop>
         requires short { piece.pos + piece.len < 2 ^ 63 }
-        requires no_draft { (D.state site.old).is_drafting ≡ false }
-        ensures ends { EndsPiece result piece written self.old self.new (around (D.state site.old) (D.state site.new)
-            (K.state clock.old) (K.state clock.new) (C.state console.old) (C.state console.new)) }
-        ensures draft { OnOk result ((D.state site.new).is_drafting ≡ false) }
-        ensures draft_left { IfErr result (λ stop. (D.state site.new).is_drafting ≡ drafting_at_stop stop) }
-        ensures site { SiteKeeps (D.state site.old) (D.state site.new) }
-        ensures image { (D.state site.new).is_open ≡ (D.state site.old).is_open }
-        ensures clock { ClockKeeps (K.state clock.old) (K.state clock.new) }
+        requires no_draft { (D.state outside.old.site.now).is_drafting ≡ false }
+        ensures ends { EndsPiece result piece written self.old self.new
+            (between no_input D.Site K.Clock C.Console outside.old outside.new) }
+        ensures draft { OnOk result ((D.state outside.new.site.now).is_drafting ≡ false) }
+        ensures draft_left { IfErr result (λ stop. (D.state outside.new.site.now).is_drafting ≡ drafting_at_stop stop) }
+        ensures site { SiteKeeps (D.state outside.old.site.now) (D.state outside.new.site.now) }
+        ensures image { (D.state outside.new.site.now).is_open ≡ (D.state outside.old.site.now).is_open }
+        ensures clock { ClockKeeps (K.state outside.old.clock.now) (K.state outside.new.clock.now) }
+        ensures same { AreSame outside.old outside.new }
     {
-        let after = clock.now_ms();
+        let after = outside.clock.now_ms();
         let due = self.pass(piece, written, after);
-        self.say_due(due.speaks, console);
-        match self.save_due(due.saves, site) {
+        self.say_due(due.speaks, outside.console);
+        match self.save_due(due.saves, outside.site) {
             Ok(()) => Ok(()),
             Err(fault) => Err(Stop::Site(fault.call)),
         }

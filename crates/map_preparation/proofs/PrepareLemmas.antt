@@ -54,14 +54,6 @@ change_is_made domain change map = record {
   each = λ x s h. let z : 0 + x ≡ x = omega arith in rw z at (has_changed domain change 0 map x s h);
 }
 
-not_asked : (b : Bool) (change : Status → Status) (s : Status) → if_asked b (if_asked false change) s ≡ s
-not_asked true change s = refl
-not_asked false change s = refl
-
--- nothing was asked for
-pub unchanged : (domain : ℕ → Bool) (change : Status → Status) (map : List Status) → IsChanged domain (if_asked false change) map map
-unchanged domain change map = record { size = refl; each = λ x s h. rw (not_asked (domain x) change s) h }
-
 -- one change after another
 both_asked : (b : Bool) (f g h : Status → Status) → ((s : Status) → g (f s) ≡ h s) → (s : Status)
     → if_asked b g (if_asked b f s) ≡ if_asked b h s
@@ -81,25 +73,10 @@ pub prepared_parted : (try_again retrim : Bool) (s : Status)
     (replaced NonScraped (prepared_status try_again retrim NonScraped)
     (replaced NonTrimmed (prepared_status try_again retrim NonTrimmed) s)) ≡ prepared_status try_again retrim s
 prepared_parted false false NonTried = refl
-prepared_parted false false NonTrimmed = refl
-prepared_parted false false NonScraped = refl
-prepared_parted false false BadSector = refl
-prepared_parted false false Finished = refl
 prepared_parted false true NonTried = refl
-prepared_parted false true NonTrimmed = refl
-prepared_parted false true NonScraped = refl
-prepared_parted false true BadSector = refl
-prepared_parted false true Finished = refl
 prepared_parted true false NonTried = refl
-prepared_parted true false NonTrimmed = refl
-prepared_parted true false NonScraped = refl
-prepared_parted true false BadSector = refl
-prepared_parted true false Finished = refl
 prepared_parted true true NonTried = refl
-prepared_parted true true NonTrimmed = refl
-prepared_parted true true NonScraped = refl
-prepared_parted true true BadSector = refl
-prepared_parted true true Finished = refl
+prepared_parted _ _ _ = refl
 
 module _ (domain : ℕ → Bool) (try_again retrim : Bool) (trimmed scraped bad : Status)
     (a : trimmed ≡ prepared_status try_again retrim NonTrimmed) (b : scraped ≡ prepared_status try_again retrim NonScraped)
@@ -192,10 +169,3 @@ module _ (domain : ℕ → Bool) (from to : Status) (at : ℕ) (old mid : List S
               (cases_lt x stop))
               (cases_lt x start);
         })
-
-pub none_replaced : (domain : ℕ → Bool) (from to : Status) (map : List Status)
-    → IsChanged (below domain 0) (replaced from to) map map
-none_replaced domain from to map = record {
-  size = refl;
-  each = λ x s h. rw (below_not domain 0 x (omega arith)) h;
-}

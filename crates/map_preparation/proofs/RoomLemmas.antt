@@ -132,14 +132,6 @@ pub record Counted (domain : ℕ → Bool) (map : List Status) (from : Status) (
   pub front : (rest : ℕ) → HasRanges (IsMarked domain map from) at rest → HasRanges (IsMarked domain map from) 0 (ranges + rest)
   pub total : room ≡ others + 2 * ranges
 
-pub counted_none : (domain : ℕ → Bool) (map : List Status) (from : Status) (others : ℕ)
-    → Counted domain map from 0 others others
-counted_none domain map from others = record {
-  ranges = 0;
-  front = λ rest h. let same : 0 + rest ≡ rest = omega arith in rw same h;
-  total = omega arith;
-}
-
 -- a sum that was found
 pub found_sum : {E : Type 0} (P : Type 0) (o : Option ℕ) (sum n : ℕ) (e : E) → SomeIff o P sum → ok_or o e ≡ Ok n
     → n ≡ sum
@@ -169,23 +161,11 @@ module _ (domain : ℕ → Bool) (map : List Status) (from : Status) (at others 
     total = h.total;
   }
 
-pub takes_none : (domain : ℕ → Bool) (map : List Status) (from to : Status) (others : ℕ) → from ≡ to
-    → TakesRoom domain map from to others others
-takes_none domain map from to others is = record {
-  ranges = 0;
-  changes = record { some = λ apart. absurd (apart is); none = λ e. refl };
-  total = omega arith;
-}
-
 -- what is spare after some of the changes, by how many ranges are left
 abbrev pub Spends : (domain : ℕ → Bool) → (old : List Status) → (from : Status) → (at before now : ℕ) → Type 0
 Spends domain old from at before now =
     (ranges : ℕ) → HasRanges (IsMarked domain old from) 0 ranges
     → (left : ℕ) × HasRanges (IsMarked domain old from) at left × (before + 2 * left ≤ now + 2 * ranges)
-
-pub spends_none : (domain : ℕ → Bool) (old : List Status) (from : Status) (before : ℕ)
-    → Spends domain old from 0 before before
-spends_none domain old from before = λ ranges h. (ranges, h, omega arith)
 
 -- of a domain, the positions before one have a status replaced; those past it are as they were
 module _ (domain : ℕ → Bool) (from to : Status) (at : ℕ) (old mid : List Status)
@@ -204,10 +184,6 @@ module _ (domain : ℕ → Bool) (from to : Status) (at : ℕ) (old mid : List S
   were_ahead : (x : ℕ) → at ≤ x → IsMarked domain mid from x → IsMarked domain old from x
   were_ahead x le m =
       found_ahead x (slice_get old x) refl (omega (arith, slice_get_within mid x from m.has, i.size)) le m
-
-  pub spends_all : (before now ranges : ℕ) → Spends domain old from at before now
-      → HasRanges (IsMarked domain old from) 0 ranges → before ≤ now + 2 * ranges
-  spends_all before now ranges h r = omega (arith, (h ranges r).2)
 
   module _ (start end : ℕ) (first : IsFirst (IsMarked domain mid from) at start)
       (range : IsRangeUp (IsMarked domain mid from) start end) where

@@ -125,7 +125,6 @@ follows_failed f a (image_open name make) steps _ h = record {
   image = λ n e. e;
   draft = h.draft;
 }
-follows_failed f a (image_read pos asked answer) steps _ h = h
 follows_failed f a (image_write pos piece) steps some h = record {
   files = any_as steps (with_piece f f.image pos (take steps piece)).files
       (with_piece a a.image pos (take steps piece)).files f.files a.files
@@ -133,8 +132,6 @@ follows_failed f a (image_write pos piece) steps some h = record {
   image = h.image;
   draft = h.draft;
 }
-follows_failed f a image_sync steps _ h = h
-follows_failed f a (map_read name pos asked answer) steps _ h = h
 follows_failed f a (draft_begin name) steps _ h = record {
   files = ap (λ (g : List ℕ → Option File).
       if_any steps (if_any (steps - 1) (put g name (Some empty_file)) (put g name None)) g) h.files;
@@ -147,7 +144,6 @@ follows_failed f a (draft_append piece) steps some h = record {
   image = h.image;
   draft = h.draft;
 }
-follows_failed f a draft_sync steps _ h = h
 follows_failed f a (draft_publish name) steps _ h = record { files = h.files; image = h.image; draft = λ n e. e }
 follows_failed f a (map_settle name) steps _ h = record {
   files = any_as steps (with_draft_of name f) (with_draft_of name a) f.files a.files
@@ -155,21 +151,12 @@ follows_failed f a (map_settle name) steps _ h = record {
   image = h.image;
   draft = h.draft;
 }
-follows_failed f a (map_remove name) steps _ h = h
+follows_failed f a _ steps _ h = h
 
 failed_unanswered : (a : Folder) (call : Call) (steps : ℕ)
     → after_failed a (unanswered call) steps ≡ after_failed a call steps
 failed_unanswered a (image_open name make) steps = refl
-failed_unanswered a (image_read pos asked answer) steps = refl
-failed_unanswered a (image_write pos piece) steps = refl
-failed_unanswered a image_sync steps = refl
-failed_unanswered a (map_read name pos asked answer) steps = refl
-failed_unanswered a (draft_begin name) steps = refl
-failed_unanswered a (draft_append piece) steps = refl
-failed_unanswered a draft_sync steps = refl
-failed_unanswered a (draft_publish name) steps = refl
-failed_unanswered a (map_settle name) steps = refl
-failed_unanswered a (map_remove name) steps = refl
+failed_unanswered a _ steps = refl
 
 -- the invariant after a call that was entered and done
 pub follows_done : (s g : Folder) (es new : List Entry) (call : Call) → new ≡ es ++ Done call ∷ []

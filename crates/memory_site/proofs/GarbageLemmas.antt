@@ -80,17 +80,8 @@ lost_spoilt ranges (Some f) = record {
 -- what a call makes sure
 sure_spoilt : (d : Disk) (call : Call) (n : List ℕ)
     → IsSpoilt (sure_file call Newest d n) (sure_ranges call d n) (sure_file call Garbage d n)
-sure_spoilt d (image_open name make) n = same_file (d.reads.files n)
-sure_spoilt d (image_read pos asked answer) n = same_file (d.reads.files n)
-sure_spoilt d (image_write pos piece) n = same_file (d.reads.files n)
 sure_spoilt d image_sync n = lost_spoilt (lost_in (d.shows n)) (d.reads.files n)
-sure_spoilt d (map_read name pos asked answer) n = same_file (d.reads.files n)
-sure_spoilt d (draft_begin name) n = same_file (d.reads.files n)
-sure_spoilt d (draft_append piece) n = same_file (d.reads.files n)
-sure_spoilt d draft_sync n = same_file (d.reads.files n)
-sure_spoilt d (draft_publish name) n = same_file (d.reads.files n)
-sure_spoilt d (map_settle name) n = same_file (d.reads.files n)
-sure_spoilt d (map_remove name) n = same_file (d.reads.files n)
+sure_spoilt d _ n = same_file (d.reads.files n)
 
 -- A write of both files, of the piece and of other bytes.
 
@@ -262,27 +253,23 @@ part_spoilt (image_open name make) reads firm f g l h =
     put_spoilt f g l name (opened_over make (reads.files name) (f name)) (opened_over make (reads.files name) (g name))
     (opened_ranges make (reads.files name) (f name) (l name))
     (open_spoilt make (reads.files name) (f name) (g name) (l name) (h name)) h
-part_spoilt (image_read pos asked answer) reads firm f g l h = h
 part_spoilt (image_write pos piece) reads firm f g l h =
     some_spoilt reads.image (λ n. written_on false (reads.files n) (f n) pos piece)
     (λ n. written_on true (reads.files n) (g n) pos piece)
     (λ n. written_ranges (reads.files n) (f n) pos piece (l n)) f g l
     (λ n. write_spoilt (reads.files n) (f n) (g n) pos piece (l n) (h n)) h
-part_spoilt image_sync reads firm f g l h = h
-part_spoilt (map_read name pos asked answer) reads firm f g l h = h
 part_spoilt (draft_begin name) reads firm f g l h =
     put_spoilt f g l name (Some empty_file) (Some empty_file) [] (same_file (Some empty_file)) h
 part_spoilt (draft_append piece) reads firm f g l h =
     some_spoilt reads.draft (λ n. Some (record { bytes = bytes_of (reads.files n) ++ piece; regular = true }))
     (λ n. Some (record { bytes = bytes_of (reads.files n) ++ piece; regular = true })) (λ n. []) f g l
     (λ n. same_file (Some (record { bytes = bytes_of (reads.files n) ++ piece; regular = true }))) h
-part_spoilt draft_sync reads firm f g l h = h
 part_spoilt (draft_publish name) reads firm f g l h =
     moved_spoilt reads.draft name (λ n. published_as false firm (reads.files n))
     (λ n. published_as true firm (reads.files n)) (λ n. text_ranges firm (reads.files n)) f g l
     (λ n. text_spoilt firm (reads.files n)) h
-part_spoilt (map_settle name) reads firm f g l h = h
 part_spoilt (map_remove name) reads firm f g l h = put_spoilt f g l name None None [] tt h
+part_spoilt _ reads firm f g l h = h
 
 entry_spoilt : (d : Disk) (e : Entry) (f g : List ℕ → Option File) (l : List ℕ → List (ℕ × ℕ)) → AllSpoilt f l g
     → AllSpoilt (left_entry Newest d e f) (entry_unsynced d e f l) (left_entry Garbage d e g)

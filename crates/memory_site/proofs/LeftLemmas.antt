@@ -114,17 +114,14 @@ made_stands : (garbage : Bool) (d : Disk) (call : Call) (f : List ℕ → Option
     → Leaves (after_part call d) (made_part garbage call d.reads d.firm f)
 made_stands garbage d (image_open name make) f h =
     opened_stands d name make (d.reads.files name) (f name) f refl refl h
-made_stands garbage d (image_read pos asked answer) f h = h
 made_stands garbage d (image_write pos piece) f h = written_stands garbage d d.reads.image f pos piece h
-made_stands garbage d image_sync f h = h
-made_stands garbage d (map_read name pos asked answer) f h = h
 made_stands garbage d (draft_begin name) f h = leaves_put d name with_draft f (Some empty_file) h (λ n is. inl refl)
 made_stands garbage d (draft_append piece) f h = appended_stands d d.reads.draft
     (λ n. Some (record { bytes = bytes_of (d.reads.files n) ++ piece; regular = true })) f h
-made_stands garbage d draft_sync f h = h
 made_stands garbage d (draft_publish name) f h = moved_stands garbage d d.reads.draft name f h
 made_stands garbage d (map_settle name) f h = leaves_part d (map_settle name) f h
 made_stands garbage d (map_remove name) f h = leaves_removed d name f h
+made_stands garbage d _ f h = h
 
 part_stands : (kind : Left) (d : Disk) (call : Call) (f : List ℕ → Option File) → Leaves d f
     → Leaves (after_part call d) (left_part kind call d.reads d.firm f)

@@ -244,19 +244,16 @@ part_unsynced_all : (d : Disk) (call : Call) (f : List ℕ → Option File) (l :
     → AllUnsynced d f l
     → AllUnsynced (after_part call d) (made_part false call d.reads d.firm f) (part_unsynced call d.reads d.firm f l)
 part_unsynced_all d (image_open name make) f l h = open_all d name make f l h
-part_unsynced_all d (image_read pos asked answer) f l h = h
 part_unsynced_all d (image_write pos piece) f l h = write_all d d.reads.image pos piece f l h
-part_unsynced_all d image_sync f l h = h
-part_unsynced_all d (map_read name pos asked answer) f l h = h
 part_unsynced_all d (draft_begin name) f l h =
     put_unsynced d name with_draft f l (Some empty_file) [] (λ n same. inl refl) h
 part_unsynced_all d (draft_append piece) f l h = append_all d d.reads.draft
     (λ n. Some (record { bytes = bytes_of (d.reads.files n) ++ piece; regular = true })) f l h
-part_unsynced_all d draft_sync f l h = h
 part_unsynced_all d (draft_publish name) f l h = publish_all d d.reads.draft name f l h
 part_unsynced_all d (map_settle name) f l h = looked_all d (draft_of name) f l h
 part_unsynced_all d (map_remove name) f l h = put_unsynced d name (λ file s. or_this None s) f l None []
     (λ n same. inr (inr (inr (inl (self_unsynced None))))) h
+part_unsynced_all d _ f l h = h
 
 sure_all : (d : Disk) (o : Option (List ℕ)) (f : List ℕ → Option File) (l : List ℕ → List (ℕ × ℕ))
     → AllUnsynced d f l
@@ -324,35 +321,25 @@ same_unsynced v u file loose was ranges h = record {
 
 lost_all : (d : Disk) (call : Call) (f : List ℕ → Option File) (l : List ℕ → List (ℕ × ℕ)) → AllUnsynced d f l
     → AllUnsynced (lost_by call d) f l
-lost_all d (image_open name make) f l h = h
-lost_all d (image_read pos asked answer) f l h = h
 lost_all d (image_write pos piece) f l h = some_lost d d.reads.image (lose pos (length piece))
     (λ v was ranges. same_unsynced v (lose pos (length piece) v) refl refl was ranges) f l h
 lost_all d image_sync f l h =
     some_lost d d.reads.image lose_all (λ v was ranges. same_unsynced v (lose_all v) refl refl was ranges) f l h
-lost_all d (map_read name pos asked answer) f l h = h
-lost_all d (draft_begin name) f l h = h
-lost_all d (draft_append piece) f l h = h
-lost_all d draft_sync f l h = h
-lost_all d (draft_publish name) f l h = h
-lost_all d (map_settle name) f l h = h
-lost_all d (map_remove name) f l h = h
+lost_all d _ f l h = h
 
 done_all : (d : Disk) (call : Call) (f : List ℕ → Option File) (l : List ℕ → List (ℕ × ℕ))
     → AllUnsynced d f l
     → AllUnsynced (after_return call d) (left_entry Newest d (Done call) f) (entry_unsynced d (Done call) f l)
 done_all d (image_open name make) f l h = part_unsynced_all d (image_open name make) f l h
-done_all d (image_read pos asked answer) f l h = h
 done_all d (image_write pos piece) f l h = part_unsynced_all d (image_write pos piece) f l h
 done_all d image_sync f l h = sync_all d d.reads.image f l h
-done_all d (map_read name pos asked answer) f l h = h
 done_all d (draft_begin name) f l h = part_unsynced_all d (draft_begin name) f l h
 done_all d (draft_append piece) f l h = part_unsynced_all d (draft_append piece) f l h
-done_all d draft_sync f l h = h
 done_all d (draft_publish name) f l h = part_unsynced_all d (draft_publish name) f l h
 done_all d (map_settle name) f l h =
     sure_all (after_part (map_settle name) d) (Some name) f l (looked_all d (draft_of name) f l h)
 done_all d (map_remove name) f l h = part_unsynced_all d (map_remove name) f l h
+done_all d _ f l h = h
 
 failed_all : (d : Disk) (call : Call) (steps : ℕ) (f : List ℕ → Option File) (l : List ℕ → List (ℕ × ℕ))
     → AllUnsynced d f l

@@ -1,10 +1,10 @@
 -- The marks of a site in memory follow what a stop may show.
-use Rattle.std.proofs.Common.{◌≡◌, ◌⊎◌, inl, inr, ⊎_elim, ℕ, ◌+◌, ◌-◌, ◌≤◌, ◌<◌, min, Bool, true, false, cond, nat_lt, if◌then◌else◌, List, ◌∷◌, ◌++◌, length, length-append, take, drop, replicate, set, get_or, Option, Some, None, refl, sym, ◌∙◌, ap, subst, arith}
+use Rattle.std.proofs.Common.{◌≡◌, ◌⊎◌, inl, inr, ⊎_elim, ℕ, ◌+◌, ◌-◌, ◌≤◌, ◌<◌, min, Bool, true, false, cond, nat_lt, if◌then◌else◌, List, ◌∷◌, ◌++◌, length, length-append, take, drop, replicate, get_or, Option, Some, None, refl, sym, ◌∙◌, ap, subst, arith}
 use Rattle.std.specs.List.{flat_map}
 use Rattle.std.specs.Str.{bytes_eq}
 use Rattle.std.proofs.Math.Path.{fun_ext}
 use Rattle.std.proofs.lemmas.Bool.{cases_lt}
-use Rattle.std.proofs.lemmas.List.{get_or-replicate, get_or_past, get_or_append_left, get_or-append_right, get_or-take, get_or-set_same, get_or-set_other, length-set, length-take, length-replicate, ext_get_or}
+use Rattle.std.proofs.lemmas.List.{get_or-replicate, get_or_past, get_or_append_left, get_or-append_right, get_or-take, length-take, length-replicate, ext_get_or}
 use Rattle.memory_site.specs.declared.memory.stop.Left.{Left}
 use Rattle.memory_site.specs.declared.memory.stop.Left.TheVariants.{Oldest, Newest, Garbage}
 use Rattle.crash_site.specs.Files.{File, empty_file, bytes_of, draft_of, put, written, written_file}
@@ -239,17 +239,14 @@ append_marked d (Some draft) m h = same_marked d draft with_draft m (λ n same. 
 part_follows : (d : Disk) (call : Call) (m : Marked) → FollowDisk d m
     → FollowDisk (after_part call d) (part_marked call d.reads m)
 part_follows d (image_open name make) m h = open_marked d name make m h
-part_follows d (image_read pos asked answer) m h = h
 part_follows d (image_write pos piece) m h = some_written d d.reads.image pos (length piece) m h
-part_follows d image_sync m h = h
-part_follows d (map_read name pos asked answer) m h = h
 part_follows d (draft_begin name) m h = same_marked d name with_draft m (λ n same. h n) h
 part_follows d (draft_append piece) m h = append_marked d d.reads.draft m h
-part_follows d draft_sync m h = h
 part_follows d (draft_publish name) m h = publish_marked d d.reads.draft name m h
 part_follows d (map_settle name) m h = absent_marked d (draft_of name) m h
 part_follows d (map_remove name) m h =
     put_marked d name (λ file s. or_this None s) m None None (λ n same. none_marked None) h
+part_follows d _ m h = h
 
 sync_marked : (d : Disk) (image : Option (List ℕ)) (m : Marked) → FollowDisk d m
     → FollowDisk (under_some image synced d) (marked_at image lost_loose m)
@@ -269,19 +266,17 @@ sync_marked d (Some name) m h = λ n. by_one (bytes_eq n name) (synced (d.reads.
 return_follows : (d : Disk) (call : Call) (m : Marked) → FollowDisk d m
     → FollowDisk (after_return call d) (return_marked call d.reads (part_marked call d.reads m))
 return_follows d (image_open name make) m h = part_follows d (image_open name make) m h
-return_follows d (image_read pos asked answer) m h = h
 return_follows d (image_write pos piece) m h = part_follows d (image_write pos piece) m h
 return_follows d image_sync m h = sync_marked d d.reads.image m h
-return_follows d (map_read name pos asked answer) m h = h
 return_follows d (draft_begin name) m h = part_follows d (draft_begin name) m h
 return_follows d (draft_append piece) m h = part_follows d (draft_append piece) m h
-return_follows d draft_sync m h = h
 return_follows d (draft_publish name) m h = part_follows d (draft_publish name) m h
 return_follows d (map_settle name) m h =
     put_marked (under (draft_of name) (with_opened true) d) name (λ file s. only file)
     (part_marked (map_settle name) d.reads m) None None (λ n same. none_marked (d.reads.files n))
     (part_follows d (map_settle name) m h)
 return_follows d (map_remove name) m h = part_follows d (map_remove name) m h
+return_follows d _ m h = h
 
 -- a call that failed
 by_lost : (b : Bool) (x y : Showing) (a c c' : Option File) → (b ≡ true → Follow x a c) → Follow y a c'
@@ -311,17 +306,9 @@ sync_failed d (Some name) m h = λ n. by_lost (bytes_eq n name) (in_each lose_al
 
 lost_follows : (d : Disk) (call : Call) (m : Marked) → FollowDisk d m
     → FollowDisk (lost_by call d) (failed_marked call d.reads m)
-lost_follows d (image_open name make) m h = h
-lost_follows d (image_read pos asked answer) m h = h
 lost_follows d (image_write pos piece) m h = range_failed d d.reads.image pos (length piece) m h
 lost_follows d image_sync m h = sync_failed d d.reads.image m h
-lost_follows d (map_read name pos asked answer) m h = h
-lost_follows d (draft_begin name) m h = h
-lost_follows d (draft_append piece) m h = h
-lost_follows d draft_sync m h = h
-lost_follows d (draft_publish name) m h = h
-lost_follows d (map_settle name) m h = h
-lost_follows d (map_remove name) m h = h
+lost_follows d _ m h = h
 
 some_reads : (o : Option (List ℕ)) (change : Option File → Showing → Showing) (d : Disk)
     → (under_some o change d).reads ≡ d.reads
@@ -333,17 +320,10 @@ publishing_reads None name d = refl
 publishing_reads (Some draft) name d = refl
 
 part_reads : (d : Disk) (call : Call) → (after_part call d).reads ≡ d.reads
-part_reads d (image_open name make) = refl
-part_reads d (image_read pos asked answer) = refl
 part_reads d (image_write pos piece) = some_reads d.reads.image (with_range pos (length piece)) d
-part_reads d image_sync = refl
-part_reads d (map_read name pos asked answer) = refl
-part_reads d (draft_begin name) = refl
 part_reads d (draft_append piece) = some_reads d.reads.draft with_draft d
-part_reads d draft_sync = refl
 part_reads d (draft_publish name) = publishing_reads d.reads.draft name d
-part_reads d (map_settle name) = refl
-part_reads d (map_remove name) = refl
+part_reads d _ = refl
 
 -- The marks that the code keeps.
 
@@ -365,12 +345,6 @@ failed_follow d call steps reads was part now r p e h =
     (failed_marked call x (part_marked call d.reads was))) (part_reads d call)
     (lost_follows (after_part call d) call (part_marked call d.reads was) (part_follows d call was h))))
 
-pub rest_follow : (d : Folder) (m : Marked) → ((n : List ℕ) → m.loose n ≡ None) → ((n : List ℕ) → m.lost n ≡ None)
-    → (n : List ℕ) → AreMarksOf (whole (d.files n)) (m.loose n) (m.lost n)
-rest_follow d m loose lost n =
-    subst (λ (a : Option File). AreMarksOf (whole (d.files n)) a (m.lost n)) (sym (loose n))
-    (subst (λ (c : Option File). AreMarksOf (whole (d.files n)) None c) (sym (lost n)) (none_marked (d.files n)))
-
 -- what is lost, by the marks
 spoilt_follows : (d : Disk) (m : Marked) → FollowDisk d m → (n : List ℕ)
     → spoilt_at (is_marked (m.lost n)) (d.reads.files n) ≡ spoilt_at (lies_in (lost_in (d.shows n))) (d.reads.files n)
@@ -378,19 +352,10 @@ spoilt_follows d m h n = ap (λ (mark : ℕ → Bool). spoilt_at mark (d.reads.f
 
 pub sure_follows : (d : Disk) (m : Marked) (call : Call) (kind : Left) → FollowDisk d m
     → sure_marked call kind d.reads m.lost ≡ sure_file call kind d
-sure_follows d m (image_open name make) kind h = refl
-sure_follows d m (image_read pos asked answer) kind h = refl
-sure_follows d m (image_write pos piece) kind h = refl
 sure_follows d m image_sync Oldest h = refl
 sure_follows d m image_sync Newest h = refl
 sure_follows d m image_sync Garbage h = fun_ext (spoilt_follows d m h)
-sure_follows d m (map_read name pos asked answer) kind h = refl
-sure_follows d m (draft_begin name) kind h = refl
-sure_follows d m (draft_append piece) kind h = refl
-sure_follows d m draft_sync kind h = refl
-sure_follows d m (draft_publish name) kind h = refl
-sure_follows d m (map_settle name) kind h = refl
-sure_follows d m (map_remove name) kind h = refl
+sure_follows d m _ kind h = refl
 
 -- Bytes that are spoilt one after another.
 
@@ -399,38 +364,6 @@ pub record SpoiltTo (mark : ℕ → Bool) (i : ℕ) (was now : List ℕ) : Type 
   pub size : length now ≡ length was
   pub below : (x : ℕ) → x < length was → x < i → get_or now x 0 ≡ (if mark x then any_byte else get_or was x 0)
   pub above : (x : ℕ) → x < length was → i ≤ x → get_or now x 0 ≡ get_or was x 0
-
-pub spoilt_none : (mark : ℕ → Bool) (was : List ℕ) → SpoiltTo mark 0 was was
-spoilt_none mark was = record { size = refl; below = λ x lt to. absurd (omega (arith, to)); above = λ x lt from. refl }
-
-pub spoilt_more : (mark : ℕ → Bool) (i : ℕ) (was now : List ℕ) → i < length was → mark i ≡ true
-    → SpoiltTo mark i was now → SpoiltTo mark (i + 1) was (set now i any_byte)
-spoilt_more mark i was now lt m h = record {
-  size = length-set now i any_byte ∙ h.size;
-  below = λ x within to. elim (cases_lt x i) [
-    | inl low ↦ get_or-set_other now i x any_byte 0 (λ e. omega (arith, low, e)) ∙ h.below x within low
-    | inr from ↦ let e : x ≡ i = omega (arith, from, to) in
-        ap (λ (k : ℕ). get_or (set now i any_byte) k 0) e
-        ∙ get_or-set_same now i any_byte 0 (omega (arith, lt, h.size))
-        ∙ sym (ap (λ (k : ℕ). if mark k then any_byte else get_or was k 0) e
-        ∙ ap (λ (b : Bool). if b then any_byte else get_or was i 0) m)
-  ];
-  above = λ x within from. get_or-set_other now i x any_byte 0 (λ e. omega (arith, from, e))
-      ∙ h.above x within (omega (arith, from));
-}
-
-pub spoilt_same : (mark : ℕ → Bool) (i : ℕ) (was now : List ℕ) → mark i ≡ false
-    → SpoiltTo mark i was now → SpoiltTo mark (i + 1) was now
-spoilt_same mark i was now m h = record {
-  size = h.size;
-  below = λ x within to. elim (cases_lt x i) [
-    | inl low ↦ h.below x within low
-    | inr from ↦ let e : x ≡ i = omega (arith, from, to) in
-        h.above x within from
-        ∙ sym (ap (λ (b : Bool). if b then any_byte else get_or was x 0) (ap mark e ∙ m))
-  ];
-  above = λ x within from. h.above x within (omega (arith, from));
-}
 
 pub spoilt_end : (marks : List ℕ) (i : ℕ) (was now : List ℕ) → min (length was) (length marks) ≤ i
     → SpoiltTo (λ x. nat_lt 0 (get_or marks x 0)) i was now → now ≡ spoilt_from (λ x. nat_lt 0 (get_or marks x 0)) 0 was

@@ -48,16 +48,10 @@ publish_reads d (Some draft) name = refl
 part_reads : (d : Folder) (call : Call) (firm : Bool)
     → made_part false call d firm d.files ≡ (after_done d call).files
 part_reads d (image_open name make) firm = open_reads d name make (d.files name) refl
-part_reads d (image_read pos asked answer) firm = refl
 part_reads d (image_write pos piece) firm = write_reads d d.image pos piece
-part_reads d image_sync firm = refl
-part_reads d (map_read name pos asked answer) firm = refl
-part_reads d (draft_begin name) firm = refl
 part_reads d (draft_append piece) firm = append_reads d d.draft piece
-part_reads d draft_sync firm = refl
 part_reads d (draft_publish name) firm = publish_reads d d.draft name
-part_reads d (map_settle name) firm = refl
-part_reads d (map_remove name) firm = refl
+part_reads d _ firm = refl
 
 -- what a call makes sure reads so already
 sure_reads : (d : Folder) (o : Option (List ℕ)) → with_some o d.files d.files ≡ d.files
@@ -66,16 +60,12 @@ sure_reads d (Some name) = put-same d.files name (d.files name) refl
 
 done_reads : (d : Disk) (call : Call) → left_entry Newest d (Done call) d.reads.files ≡ (after_done d.reads call).files
 done_reads d (image_open name make) = part_reads d.reads (image_open name make) d.firm
-done_reads d (image_read pos asked answer) = refl
 done_reads d (image_write pos piece) = part_reads d.reads (image_write pos piece) d.firm
 done_reads d image_sync = sure_reads d.reads d.reads.image
-done_reads d (map_read name pos asked answer) = refl
-done_reads d (draft_begin name) = refl
 done_reads d (draft_append piece) = part_reads d.reads (draft_append piece) d.firm
-done_reads d draft_sync = refl
 done_reads d (draft_publish name) = part_reads d.reads (draft_publish name) d.firm
 done_reads d (map_settle name) = sure_reads d.reads (Some name)
-done_reads d (map_remove name) = refl
+done_reads d _ = refl
 
 -- the calls of a record
 

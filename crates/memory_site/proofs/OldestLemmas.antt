@@ -46,18 +46,15 @@ published_durable d (Some draft) name n =
 
 pub part_durable : (d : Disk) (call : Call) (n : List ℕ) → durable_files (after_part call d) n ≡ durable_files d n
 part_durable d (image_open name make) n = some_durable d (Some name) (with_opened make) n (made_durable make)
-part_durable d (image_read pos asked answer) n = refl
 part_durable d (image_write pos piece) n =
     some_durable d d.reads.image (with_range pos (length piece)) n (loosened_durable pos (length piece))
-part_durable d image_sync n = refl
-part_durable d (map_read name pos asked answer) n = refl
 part_durable d (draft_begin name) n = some_durable d (Some name) with_draft n (λ file s. refl)
 part_durable d (draft_append piece) n = some_durable d d.reads.draft with_draft n (λ file s. refl)
-part_durable d draft_sync n = refl
 part_durable d (draft_publish name) n = published_durable d d.reads.draft name n
 part_durable d (map_settle name) n =
     some_durable d (Some (draft_of name)) (with_opened true) n (made_durable true)
 part_durable d (map_remove name) n = some_durable d (Some name) (λ file s. or_this None s) n (λ file s. refl)
+part_durable d _ n = refl
 
 sure_some : (d : Disk) (o : Option (List ℕ)) (change : Option File → Showing → Showing) (f : List ℕ → Option File)
     (n : List ℕ) → ((file : Option File) (s : Showing) → (change file s).durable.file ≡ file) → f n ≡ durable_files d n
@@ -76,33 +73,23 @@ sure_some d (Some name) change f n same h = elim (cases_Bool (bytes_eq n name)) 
 pub done_durable : (d : Disk) (call : Call) (f : List ℕ → Option File) (n : List ℕ) → f n ≡ durable_files d n
     → with_some (sure_name call d.reads) (sure_file call Oldest d) f n ≡ durable_files (after_return call d) n
 done_durable d (image_open name make) f n h = h ∙ sym (part_durable d (image_open name make) n)
-done_durable d (image_read pos asked answer) f n h = h
 done_durable d (image_write pos piece) f n h = h ∙ sym (part_durable d (image_write pos piece) n)
 done_durable d image_sync f n h = sure_some d d.reads.image synced f n (λ file s. refl) h
-done_durable d (map_read name pos asked answer) f n h = h
 done_durable d (draft_begin name) f n h = h ∙ sym (part_durable d (draft_begin name) n)
 done_durable d (draft_append piece) f n h = h ∙ sym (part_durable d (draft_append piece) n)
-done_durable d draft_sync f n h = h
 done_durable d (draft_publish name) f n h = h ∙ sym (part_durable d (draft_publish name) n)
 done_durable d (map_settle name) f n h =
     sure_some (after_part (map_settle name) d) (Some name) (λ file s. only file) f n (λ file s. refl)
     (h ∙ sym (part_durable d (map_settle name) n))
 done_durable d (map_remove name) f n h = h ∙ sym (part_durable d (map_remove name) n)
+done_durable d _ f n h = h
 
 -- what is lost is durable still
 lost_durable : (d : Disk) (call : Call) (n : List ℕ) → durable_files (lost_by call d) n ≡ durable_files d n
-lost_durable d (image_open name make) n = refl
-lost_durable d (image_read pos asked answer) n = refl
 lost_durable d (image_write pos piece) n =
     some_durable d d.reads.image (λ file s. in_each (lose pos (length piece)) s) n (λ file s. refl)
 lost_durable d image_sync n = some_durable d d.reads.image (λ file s. in_each lose_all s) n (λ file s. refl)
-lost_durable d (map_read name pos asked answer) n = refl
-lost_durable d (draft_begin name) n = refl
-lost_durable d (draft_append piece) n = refl
-lost_durable d draft_sync n = refl
-lost_durable d (draft_publish name) n = refl
-lost_durable d (map_settle name) n = refl
-lost_durable d (map_remove name) n = refl
+lost_durable d _ n = refl
 
 entry_durable : (d : Disk) (e : Entry) (f : List ℕ → Option File) → ((n : List ℕ) → f n ≡ durable_files d n)
     → (n : List ℕ) → left_entry Oldest d e f n ≡ durable_files (entered d e) n

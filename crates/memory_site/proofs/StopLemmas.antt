@@ -28,16 +28,7 @@ on_ok (Err e) f p = tt
 part_unanswered : (garbage : Bool) (call : Call) (reads : Folder) (firm : Bool) (f : List ℕ → Option File)
     → made_part garbage (unanswered call) reads firm f ≡ made_part garbage call reads firm f
 part_unanswered garbage (image_open name make) reads firm f = refl
-part_unanswered garbage (image_read pos asked answer) reads firm f = refl
-part_unanswered garbage (image_write pos piece) reads firm f = refl
-part_unanswered garbage image_sync reads firm f = refl
-part_unanswered garbage (map_read name pos asked answer) reads firm f = refl
-part_unanswered garbage (draft_begin name) reads firm f = refl
-part_unanswered garbage (draft_append piece) reads firm f = refl
-part_unanswered garbage draft_sync reads firm f = refl
-part_unanswered garbage (draft_publish name) reads firm f = refl
-part_unanswered garbage (map_settle name) reads firm f = refl
-part_unanswered garbage (map_remove name) reads firm f = refl
+part_unanswered garbage _ reads firm f = refl
 
 pub left_unanswered : (kind : Left) (call : Call) (reads : Folder) (firm : Bool) (f : List ℕ → Option File)
     → left_part kind (unanswered call) reads firm f ≡ left_part kind call reads firm f
@@ -48,16 +39,7 @@ left_unanswered Garbage call reads firm f = part_unanswered true call reads firm
 entered_unanswered : (d : Disk) (call : Call) (steps : ℕ)
     → entered d (Failed (unanswered call) steps) ≡ entered d (Failed call steps)
 entered_unanswered d (image_open name make) steps = refl
-entered_unanswered d (image_read pos asked answer) steps = refl
-entered_unanswered d (image_write pos piece) steps = refl
-entered_unanswered d image_sync steps = refl
-entered_unanswered d (map_read name pos asked answer) steps = refl
-entered_unanswered d (draft_begin name) steps = refl
-entered_unanswered d (draft_append piece) steps = refl
-entered_unanswered d draft_sync steps = refl
-entered_unanswered d (draft_publish name) steps = refl
-entered_unanswered d (map_settle name) steps = refl
-entered_unanswered d (map_remove name) steps = refl
+entered_unanswered d _ steps = refl
 
 -- One call made again.
 

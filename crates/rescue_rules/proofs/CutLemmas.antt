@@ -75,29 +75,11 @@ tally_is f es = sym (tally_fold f es 0)
 
 publish_alike : (c : Call) (steps : ℕ) → is_publish (Done c) ≡ is_publish (Failed c steps)
 publish_alike (image_open name make) steps = refl
-publish_alike (image_read pos asked answer) steps = refl
-publish_alike (image_write pos piece) steps = refl
-publish_alike image_sync steps = refl
-publish_alike (map_read name pos asked answer) steps = refl
-publish_alike (draft_begin name) steps = refl
-publish_alike (draft_append piece) steps = refl
-publish_alike draft_sync steps = refl
-publish_alike (draft_publish name) steps = refl
-publish_alike (map_settle name) steps = refl
-publish_alike (map_remove name) steps = refl
+publish_alike _ steps = refl
 
 write_alike : (c : Call) (steps : ℕ) → is_write (Done c) ≡ is_write (Failed c steps)
 write_alike (image_open name make) steps = refl
-write_alike (image_read pos asked answer) steps = refl
-write_alike (image_write pos piece) steps = refl
-write_alike image_sync steps = refl
-write_alike (map_read name pos asked answer) steps = refl
-write_alike (draft_begin name) steps = refl
-write_alike (draft_append piece) steps = refl
-write_alike draft_sync steps = refl
-write_alike (draft_publish name) steps = refl
-write_alike (map_settle name) steps = refl
-write_alike (map_remove name) steps = refl
+write_alike _ steps = refl
 
 -- Something holds of the disk before each of these calls, within it, after it if it failed, and after them all, by
 -- how many settles had returned, and how many publishes and writes had begun.
@@ -125,16 +107,7 @@ at_failed P r p w d c steps (suc (suc k)) h = h
 pub unanswered_disk : (d : Disk) (c : Call) (steps : ℕ)
     → entered d (Failed (unanswered c) steps) ≡ entered d (Failed c steps)
 unanswered_disk d (image_open name make) steps = refl
-unanswered_disk d (image_read pos asked answer) steps = refl
-unanswered_disk d (image_write pos piece) steps = refl
-unanswered_disk d image_sync steps = refl
-unanswered_disk d (map_read name pos asked answer) steps = refl
-unanswered_disk d (draft_begin name) steps = refl
-unanswered_disk d (draft_append piece) steps = refl
-unanswered_disk d draft_sync steps = refl
-unanswered_disk d (draft_publish name) steps = refl
-unanswered_disk d (map_settle name) steps = refl
-unanswered_disk d (map_remove name) steps = refl
+unanswered_disk d _ steps = refl
 
 pub lost_disk : (P : Disk → Type 0) (d : Disk) (c x : Call) (steps : ℕ) → IsOf c x → P (entered d (Failed c steps))
     → P (entered d (Failed x steps))
@@ -147,16 +120,7 @@ unanswered_alike : (P : ℕ → ℕ → ℕ → Disk → Type 0) (r p w : ℕ) (
     → P r (add (is_publish (Done (unanswered c))) p) (add (is_write (Done (unanswered c))) w)
     (entered d (Failed (unanswered c) steps))
 unanswered_alike P r p w d (image_open name make) steps h = h
-unanswered_alike P r p w d (image_read pos asked answer) steps h = h
-unanswered_alike P r p w d (image_write pos piece) steps h = h
-unanswered_alike P r p w d image_sync steps h = h
-unanswered_alike P r p w d (map_read name pos asked answer) steps h = h
-unanswered_alike P r p w d (draft_begin name) steps h = h
-unanswered_alike P r p w d (draft_append piece) steps h = h
-unanswered_alike P r p w d draft_sync steps h = h
-unanswered_alike P r p w d (draft_publish name) steps h = h
-unanswered_alike P r p w d (map_settle name) steps h = h
-unanswered_alike P r p w d (map_remove name) steps h = h
+unanswered_alike P r p w d _ steps h = h
 
 -- the call that failed is listed
 at_own : (P : ℕ → ℕ → ℕ → Disk → Type 0) (r p w : ℕ) (d : Disk) (c : Call) (steps k : ℕ)

@@ -336,15 +336,7 @@ module _ (promise : ℕ → List ℕ → Type 0) (free : ℕ → ℕ → Type 0)
     (λ steps. calm_holds c ok c.number w now d good (omega arith) h),
     each_calls c ok w now d calls rest three good at h go,
   )
-  each_calls c ok w now d (image_open name make ∷ calls) rest three good at h go = absurd at
-  each_calls c ok w now d (image_sync ∷ calls) rest three good at h go = absurd at
-  each_calls c ok w now d (map_read name pos asked answer ∷ calls) rest three good at h go = absurd at
-  each_calls c ok w now d (draft_begin name ∷ calls) rest three good at h go = absurd at
-  each_calls c ok w now d (draft_append piece ∷ calls) rest three good at h go = absurd at
-  each_calls c ok w now d (draft_sync ∷ calls) rest three good at h go = absurd at
-  each_calls c ok w now d (draft_publish name ∷ calls) rest three good at h go = absurd at
-  each_calls c ok w now d (map_settle name ∷ calls) rest three good at h go = absurd at
-  each_calls c ok w now d (map_remove name ∷ calls) rest three good at h go = absurd at
+  each_calls c ok w now d _ rest three good at h go = absurd at
 
   -- the save that is due after them, if one is, and the rest of the run
   each_due : (c : Base) (ok : Outlasts promise free c.a.start) (save : Option Snapshot) (deeds : List Deed)

@@ -28,20 +28,17 @@ use Rattle.rescue_rules.proofs.StopsByLemmas.{reads_before, Past, past}
 of_run_on : (s : Setting) (three : AreThreeNames s) (b : Bool) (d : Folder) (c : Call) → AtRun s b d → IsOfRun s b c
     → IsCallOn s.outfile d c
 of_run_on s three b d (image_open name make) at of = absurd of
-of_run_on s three b d (image_read pos asked answer) at of = λ no. no
 of_run_on s three b d (image_write pos piece) at of = tt
-of_run_on s three b d image_sync at of = λ no. no
-of_run_on s three b d (map_read name pos asked answer) at of = λ no. no
 of_run_on s three b d (draft_begin name) at of = λ ch. three.draft (ch ∙ of)
 of_run_on s three b d (draft_append piece) at of =
     λ ch. image_apart d.draft s.names.draft s.outfile (at.draft of) (λ e. three.draft (sym e)) ch
-of_run_on s three b d draft_sync at of = λ no. no
 of_run_on s three b d (draft_publish name) at of =
     λ ch. ⊎_elim (λ e. image_apart d.draft s.names.draft s.outfile (at.draft of.0) (λ e. three.draft (sym e)) e)
     (λ e. three.map (e ∙ of.1)) ch
 of_run_on s three b d (map_settle name) at of =
     (λ e. three.map (e ∙ of), λ e. three.draft (e ∙ ap draft_of of ∙ sym three.own))
 of_run_on s three b d (map_remove name) at of = absurd of
+of_run_on s three b d _ at of = λ no. no
 
 -- also where the call that failed is listed without an answer
 of_run_failed : (s : Setting) (d : Folder) (c x : Call) → IsOf c x → IsCallOn s.outfile d c → IsCallOn s.outfile d x

@@ -82,17 +82,14 @@ draft_is s d name at other is = other.draft (same_Some name s.names.draft (sym i
 aside : (s : Setting) (b : Bool) (d : Disk) (call : Call) (name : List ℕ) → IsOfRun s b call → AtRun s b d.reads
     → IsOther s name → (entered d (Done call)).shows name ≡ d.shows name
 aside s b d (image_open n make) name of at other = absurd of
-aside s b d (image_read pos asked answer) name of at other = refl
 aside s b d (image_write pos piece) name of at other =
     part_other d (image_write pos piece) name (image_apart d.reads.image s.outfile name at.image (λ e. other.output (sym e)))
 aside s b d image_sync name of at other =
     some_other d d.reads.image name synced
     (image_apart d.reads.image s.outfile name at.image (λ e. other.output (sym e)))
-aside s b d (map_read n pos asked answer) name of at other = refl
 aside s b d (draft_begin n) name of at other = part_other d (draft_begin n) name (λ e. other.draft (e ∙ of))
 aside s b d (draft_append piece) name of at other =
     part_other d (draft_append piece) name (draft_is s d.reads name (at.draft of) other)
-aside s b d draft_sync name of at other = refl
 aside s b d (draft_publish n) name of at other =
     part_other d (draft_publish n) name
     (λ ch. ⊎_elim (λ e. draft_is s d.reads name (at.draft of.0) other e) (λ e. other.map (e ∙ of.1)) ch)
@@ -100,11 +97,11 @@ aside s b d (map_settle n) name of at other =
     at_other (after_part (map_settle n) d) n name (λ f v. only f) (λ e. other.map (e ∙ of))
     ∙ part_other d (map_settle n) name (λ e. other.draft (e ∙ ap draft_of of ∙ sym other.own))
 aside s b d (map_remove n) name of at other = absurd of
+aside s b d _ name of at other = refl
 
 aside_failed : (s : Setting) (b : Bool) (d : Disk) (call : Call) (steps : ℕ) (name : List ℕ) → IsOfRun s b call
     → AtRun s b d.reads → IsOther s name → (entered d (Failed call steps)).shows name ≡ d.shows name
 aside_failed s b d (image_open n make) steps name of at other = absurd of
-aside_failed s b d (image_read pos asked answer) steps name of at other = refl
 aside_failed s b d (image_write pos piece) steps name of at other =
     let mid : Disk = after_part (image_write pos piece) d in
     some_other mid mid.reads.image name (λ f v. in_each (lose pos (length piece)) v)
@@ -114,29 +111,23 @@ aside_failed s b d (image_write pos piece) steps name of at other =
 aside_failed s b d image_sync steps name of at other =
     some_other d d.reads.image name (λ f v. in_each lose_all v)
     (image_apart d.reads.image s.outfile name at.image (λ e. other.output (sym e)))
-aside_failed s b d (map_read n pos asked answer) steps name of at other = refl
 aside_failed s b d (draft_begin n) steps name of at other = aside s b d (draft_begin n) name of at other
 aside_failed s b d (draft_append piece) steps name of at other = aside s b d (draft_append piece) name of at other
-aside_failed s b d draft_sync steps name of at other = refl
 aside_failed s b d (draft_publish n) steps name of at other = aside s b d (draft_publish n) name of at other
 aside_failed s b d (map_settle n) steps name of at other =
     part_other d (map_settle n) name (λ e. other.draft (e ∙ ap draft_of of ∙ sym other.own))
 aside_failed s b d (map_remove n) steps name of at other = absurd of
+aside_failed s b d _ steps name of at other = refl
 
 -- the image and the draft after such a call
 pub run_image : (s : Setting) (b : Bool) (d : Disk) (call : Call) → IsOfRun s b call → AtRun s b d.reads
     → (entered d (Done call)).reads.image ≡ Some s.outfile
 run_image s b d (image_open n make) of at = absurd of
-run_image s b d (image_read pos asked answer) of at = at.image
 run_image s b d (image_write pos piece) of at = image_stays d (Done (image_write pos piece)) tt ∙ at.image
-run_image s b d image_sync of at = at.image
-run_image s b d (map_read n pos asked answer) of at = at.image
-run_image s b d (draft_begin n) of at = at.image
 run_image s b d (draft_append piece) of at = image_stays d (Done (draft_append piece)) tt ∙ at.image
-run_image s b d draft_sync of at = at.image
 run_image s b d (draft_publish n) of at = image_stays d (Done (draft_publish n)) tt ∙ at.image
-run_image s b d (map_settle n) of at = at.image
 run_image s b d (map_remove n) of at = absurd of
+run_image s b d _ of at = at.image
 
 write_draft : (d : Folder) (o : Option (List ℕ)) (pos : ℕ) (piece : List ℕ) → (with_piece d o pos piece).draft ≡ d.draft
 write_draft d None pos piece = refl
@@ -145,16 +136,12 @@ write_draft d (Some n) pos piece = refl
 pub run_draft : (s : Setting) (b : Bool) (d : Disk) (call : Call) → IsOfRun s b call → AtRun s b d.reads → drafts call b ≡ true
     → (entered d (Done call)).reads.draft ≡ Some s.names.draft
 run_draft s b d (image_open n make) of at on = absurd of
-run_draft s b d (image_read pos asked answer) of at on = at.draft on
 run_draft s b d (image_write pos piece) of at on = write_draft d.reads d.reads.image pos piece ∙ at.draft on
-run_draft s b d image_sync of at on = at.draft on
-run_draft s b d (map_read n pos asked answer) of at on = at.draft on
 run_draft s b d (draft_begin n) of at on = ap (λ (m : List ℕ). Some m) of
 run_draft s b d (draft_append piece) of at on = appended_draft d.reads d.reads.draft piece ∙ at.draft on
-run_draft s b d draft_sync of at on = at.draft on
 run_draft s b d (draft_publish n) of at on = absurd (cc)
-run_draft s b d (map_settle n) of at on = at.draft on
 run_draft s b d (map_remove n) of at on = absurd of
+run_draft s b d _ of at on = at.draft on
 
 -- so no list of such calls does
 each_aside : (s : Setting) (b : Bool) (name : List ℕ) (v : Showing) (r p w : ℕ) (d : Disk) (calls : List Call)
@@ -208,15 +195,7 @@ writes_lead : (s : Setting) (free : ℕ → Type 0) (calls : List Call) → Writ
 writes_lead s free [] at b rest go = go b
 writes_lead s free (image_write pos piece ∷ calls) at b rest go = (tt, writes_lead s free calls at.1 b rest go)
 writes_lead s free (image_read pos asked answer ∷ calls) at b rest go = (tt, writes_lead s free calls at b rest go)
-writes_lead s free (image_open name make ∷ calls) at b rest go = absurd at
-writes_lead s free (image_sync ∷ calls) at b rest go = absurd at
-writes_lead s free (map_read name pos asked answer ∷ calls) at b rest go = absurd at
-writes_lead s free (draft_begin name ∷ calls) at b rest go = absurd at
-writes_lead s free (draft_append piece ∷ calls) at b rest go = absurd at
-writes_lead s free (draft_sync ∷ calls) at b rest go = absurd at
-writes_lead s free (draft_publish name ∷ calls) at b rest go = absurd at
-writes_lead s free (map_settle name ∷ calls) at b rest go = absurd at
-writes_lead s free (map_remove name ∷ calls) at b rest go = absurd at
+writes_lead s free _ at b rest go = absurd at
 
 -- how it goes on after a save, or none
 kept_on : (promise : ℕ → List ℕ → Type 0) (n : ℕ) (image : List ℕ) (save : Option Snapshot) (next : ℕ → Type 0)

@@ -62,16 +62,14 @@ pub record Peeled (c : Call) (tail : List Call) (es : List Entry) (k : ℕ) : Ty
 
 pub peel : (c : Call) (tail : List Call) (es : List Entry) (k : ℕ) → Cut (c ∷ tail) es → has_barrier (take k es) ≡ true
     → Peeled c tail es k
-peel c tail [] zero cut is = absurd (cc)
 peel c tail [] (suc k) cut is = absurd (cc)
-peel c tail (Failed x steps ∷ es) zero cut is = absurd (cc)
 peel c tail (Failed x steps ∷ es) (suc zero) cut is = absurd (cc)
 peel c tail (Failed x steps ∷ es) (suc (suc k)) cut is =
     absurd (let none : has_barrier (take (suc k) []) ≡ true = subst
     (λ (l : List Entry). has_barrier (take (suc k) l) ≡ true) cut.1 is in cc)
-peel c tail (Done x ∷ es) zero cut is = absurd (cc)
 peel c tail (Done x ∷ es) (suc k) cut is =
     record { rest = es; j = k; es_is = ap (λ (z : Call). Done z ∷ es) cut.0; k_is = refl; cut = cut.1 }
+peel c tail _ zero cut is = absurd (cc)
 
 other_test : (a b : Bool) → a ≡ false → (a || b) ≡ true → b ≡ true
 other_test true b off is = absurd (cc)

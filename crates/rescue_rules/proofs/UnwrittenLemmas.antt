@@ -52,19 +52,16 @@ module _ (s : Setting) (three : AreThreeNames s) (y byte : ℕ) where
   off : (b : Bool) (d : Folder) (c : Call) → IsOfRun s b c → AtRun s b d → is_write (Done c) ≡ false
       → Changes d c s.outfile → ⊥
   off b d (image_open name make) of at none ch = absurd of
-  off b d (image_read pos asked answer) of at none ch = ch
   off b d (image_write pos piece) of at none ch = absurd (cc)
-  off b d image_sync of at none ch = ch
-  off b d (map_read name pos asked answer) of at none ch = ch
   off b d (draft_begin name) of at none ch = three.draft (ch ∙ of)
   off b d (draft_append piece) of at none ch =
       image_apart d.draft s.names.draft s.outfile (at.draft of) (λ e. three.draft (sym e)) ch
-  off b d draft_sync of at none ch = ch
   off b d (draft_publish name) of at none ch =
       ⊎_elim (λ e. image_apart d.draft s.names.draft s.outfile (at.draft of.0) (λ e. three.draft (sym e)) e)
       (λ e. three.map (e ∙ of.1)) ch
   off b d (map_settle name) of at none ch = three.draft (ch ∙ ap draft_of of ∙ sym three.own)
   off b d (map_remove name) of at none ch = absurd of
+  off b d _ of at none ch = ch
 
   -- a write elsewhere
   abbrev wrote : (b : Bool) (d d' : Disk) (pos : ℕ) (piece : List ℕ) → AtRun s b d.reads
@@ -185,43 +182,16 @@ module _ (s : Setting) (three : AreThreeNames s) (y byte : ℕ) where
 
   -- the first of some entries doesn't write there, nor do those after it
   done_apart : (c : Call) (es : List Entry) → IsUnwritten (Done c ∷ es) y → IsApart c × IsUnwritten es y
-  done_apart (image_open name make) es h = (tt, h)
-  done_apart (image_read pos asked answer) es h = (tt, h)
   done_apart (image_write pos piece) es h = h
-  done_apart image_sync es h = (tt, h)
-  done_apart (map_read name pos asked answer) es h = (tt, h)
-  done_apart (draft_begin name) es h = (tt, h)
-  done_apart (draft_append piece) es h = (tt, h)
-  done_apart draft_sync es h = (tt, h)
-  done_apart (draft_publish name) es h = (tt, h)
-  done_apart (map_settle name) es h = (tt, h)
-  done_apart (map_remove name) es h = (tt, h)
+  done_apart _ es h = (tt, h)
 
   failed_apart : (c : Call) (steps : ℕ) (es : List Entry) → IsUnwritten (Failed c steps ∷ es) y → IsApart c
-  failed_apart (image_open name make) steps es h = tt
-  failed_apart (image_read pos asked answer) steps es h = tt
   failed_apart (image_write pos piece) steps es h = h.0
-  failed_apart image_sync steps es h = tt
-  failed_apart (map_read name pos asked answer) steps es h = tt
-  failed_apart (draft_begin name) steps es h = tt
-  failed_apart (draft_append piece) steps es h = tt
-  failed_apart draft_sync steps es h = tt
-  failed_apart (draft_publish name) steps es h = tt
-  failed_apart (map_settle name) steps es h = tt
-  failed_apart (map_remove name) steps es h = tt
+  failed_apart _ steps es h = tt
 
   unanswered_apart : (c : Call) → IsApart (unanswered c) → IsApart c
-  unanswered_apart (image_open name make) h = tt
-  unanswered_apart (image_read pos asked answer) h = tt
   unanswered_apart (image_write pos piece) h = h
-  unanswered_apart image_sync h = tt
-  unanswered_apart (map_read name pos asked answer) h = tt
-  unanswered_apart (draft_begin name) h = tt
-  unanswered_apart (draft_append piece) h = tt
-  unanswered_apart draft_sync h = tt
-  unanswered_apart (draft_publish name) h = tt
-  unanswered_apart (map_settle name) h = tt
-  unanswered_apart (map_remove name) h = tt
+  unanswered_apart _ h = tt
 
   lost_apart : (c x : Call) → IsOf c x → IsApart x → IsApart c
   lost_apart c x (inl is) h = subst IsApart is h

@@ -11,7 +11,7 @@ use Rattle.rescue_rules.specs.Step.{Event}
 use Rattle.rescue_rules.specs.Moves.{moves, state_after}
 use Rattle.rescue_rules.specs.Beginning.{nothing_shown, machine_of}
 
--- a rescue of an input with this length by sectors of two bytes
+-- a rescue of an input of this length, in sectors of two bytes
 abbrev pub small : (end cluster skip : ℕ) → Setting
 small end cluster skip = record {
   infile = 105 ∷ [];

@@ -33,7 +33,7 @@ use Rattle.task_files.specs.Names.{AreNamedApart}
 use Rattle.task_files.specs.Asked.{names_by, place_by, setting_of, ArePlacedBy, IsBeyond}
 use Rattle.task_files.specs.Maps.{Found, found_in, mapfile_of, seen_through}
 use Rattle.task_files.specs.Refusals.{PlacesRefused}
-use Rattle.task_files.specs.Outside.{HasGainedReads}
+use Rattle.task_files.specs.Findings.{HasGainedReads}
 use Rattle.program_promise.specs.Opens.{AreOpens}
 use Rattle.task_files.specs.Work.{Rescues, rescue_faults, output_rows, load_rows, opened_rows, RunsOver}
 use Rattle.task_files.specs.Steps.{Gains, DidRun, OpensOutput, Loads, mapfile_by, maps_of, DidAfterMaps}

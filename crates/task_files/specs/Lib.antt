@@ -3,7 +3,7 @@ pub mod Asked
 pub mod Maps
 pub mod Settings
 pub mod Refusals
-pub mod Outside
+pub mod Findings
 pub mod Work
 pub mod Answers
 pub mod Steps

@@ -44,7 +44,7 @@ use Rattle.task_files.specs.Answers.{Causes, drafting_left}
 use Rattle.task_files.specs.Names.{AreNamedApart, first_same_with_optional_map}
 use Rattle.task_files.specs.Asked.{ArePlacedBy, Maps, names_by, setting_of}
 use Rattle.task_files.specs.Maps.{Found, AreAskedFor, AreMapsIn, IsListing, MapfileLists, mapfile_of}
-use Rattle.task_files.specs.Outside.{Outside, HasGainedReads, Agrees}
+use Rattle.task_files.specs.Findings.{Findings, HasGainedReads, Agrees}
 use Rattle.program_promise.specs.Opens.{AreOpens}
 use Rattle.task_files.specs.Work.{RunsOver, Rescues, rescue_faults, map_rows, output_rows, load_rows, opened_rows, worked_rows}
 
@@ -217,7 +217,7 @@ pub record DidAfterMaps (c : Command) (line : List ℕ) (domain test : Option (L
 
 -- what a rescue did after the words
 pub record Worked (c : Command) (line : List ℕ) (heard heard' : Bool) (e : Ending) (o : Across) : Type 0 where
-  pub outside : Outside
+  pub outside : Findings
   pub agrees : Agrees c o outside.found outside.end outside.maps outside.did
   pub asked_maps : AreAskedFor c outside.maps
   pub are_maps : AreMapsIn c outside.found outside.maps

@@ -7,7 +7,6 @@ ghost use Rattle.task_files.specs.declared.ending.Ending.TheVariants.{NoMemory a
 ghost use Rattle.task_files.specs.Steps.{SuitsInput, LoadCause, Loads, mapfile_by};
 
 use crate::ending::{Ending, Which};
-use block_list::plain_tiles::PlainTiles;
 use block_list::tiles::Tiles;
 use crash_site::site::Site;
 use mapfile_reader::read::ReadMap;
@@ -16,6 +15,7 @@ use mapfile_resume::resume::{Resumed, extend_map, resume};
 use mapfile_save::names::Names;
 use mapfile_text::state::MapState;
 use paged_blocks::paged_tiles::PagedTiles;
+use plain_blocks::plain_tiles::PlainTiles;
 use std::alloc::Global;
 
 /// The map of a run.

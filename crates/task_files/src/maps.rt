@@ -9,12 +9,12 @@ ghost use Rattle.task_files.specs.Steps.{refusal_of, ReadsMap, MapCause, maps_re
 
 use crate::ending::{Ending, Which};
 use crate::load::LoadedFiles;
-use block_list::plain_tiles::PlainTiles;
 use block_list::tiles::NoMemory;
 use crash_site::site::{Site, SiteCall};
 use ddrescue_words::options::Options;
 use mapfile_reader::read::ReadMap;
 use mapfile_resume::named::{NamedFault, load_named};
+use plain_blocks::plain_tiles::PlainTiles;
 use rescue_domain::domain::Domain;
 use std::alloc::Global;
 

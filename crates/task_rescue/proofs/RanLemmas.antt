@@ -69,11 +69,8 @@ two_times (e ∷ es) = omega (arith, two_times es)
 
 -- how a run ends doesn't depend on those names
 ends_by_named : (stop : Option Stop) (s : Setting) (m : Machine) → EndsBy stop (nameless s) m → EndsBy stop s m
-ends_by_named None s m by = by
 ends_by_named (Some InputLost) s m by = by
-ends_by_named (Some (Site call)) s m by = by
-ends_by_named (Some (Limited limit)) s m by = by
-ends_by_named (Some NoRoom) s m by = by
+ends_by_named _ s m by = by
 
 ends_named : (s : Setting) (m : Machine) (es : List Event) (calls : List Entry) (end : RunEnd)
     → Ends (nameless s) m es calls end → Ends s m es calls end

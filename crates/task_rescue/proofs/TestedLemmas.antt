@@ -16,7 +16,7 @@ use Rattle.rescue_domain.proofs.TestingLemmas.{said_below}
 use Rattle.rescue_rules.specs.Setting.{Setting}
 use Rattle.task_files.specs.declared.ending.Ending.{Ending}
 use Rattle.task_files.specs.Answers.{Causes}
-use Rattle.task_files.specs.Outside.{HasGainedReads}
+use Rattle.task_files.specs.Findings.{HasGainedReads}
 use Rattle.task_files.specs.Steps.{DidRun}
 
 -- Between two states of an input, as they are seen in test mode:

@@ -10,10 +10,10 @@ ghost use Rattle.rescue_core.specs.Outside.{between, AreSame};
 
 use crate::ready::{begin, make_ready};
 use crate::run::run_rescue;
-use block_list::plain_tiles::PlainTiles;
 use crash_site::site::Site;
 use faulty_source::source::Source;
 use option_words::fault::UsageFault;
+use plain_blocks::plain_tiles::PlainTiles;
 use rescue_console::clock::Clock;
 use rescue_console::console::Console;
 use rescue_core::outside::Outside;

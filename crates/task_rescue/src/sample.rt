@@ -56,25 +56,25 @@ fn counts_in<T: Tiles>(domain: &Domain, tiles: &T) -> Counts
 
 /// Makes the phases of a rescue and its last save, and counts its last map. Nothing comes of a rescue that stops.
 // The map is counted between the phases and the last save, which takes it: so this isn't `run_rescue`.
-fn count_run<S: Source, D: Site, K: Clock, C: Console>(
+fn count_run<S: Source, K: Clock>(
     rescue: Rescue<Copying, RunMap>,
     source: &mut S,
-    site: &mut D,
+    site: &mut BlankSite,
     clock: &mut K,
-    console: &mut C,
 ) -> Result<Counts, NoMemory>
     requires copying { MayCopy rescue }
     requires places { HasPlaces rescue.settings (covers rescue.domain) }
-    requires ready { AreReady (S.state source.old) (D.state site.old) }
+    requires ready { AreReady (S.state source.old) (⟦<BlankSite as Site>⟧.state site.old) }
     ensures { IfOk result (λ counts. RanToEnd rescue counts (S.state source.old) (S.state source.new)
         (K.state clock.old) (K.state clock.new)) }
 {
-    let finished = match run_phases(rescue, source, site, clock, console) {
+    let mut console = BlankConsole;
+    let finished = match run_phases(rescue, source, site, clock, &mut console) {
         Ok(finished) => finished,
         Err(_stopped) => return Err(NoMemory),
     };
     let counts = counts_in(finished.domain(), finished.tiles());
-    let closed = finished.close(site, console);
+    let closed = finished.close(site, &mut console);
     if closed.end.is_done() {
         Ok(counts)
     } else {
@@ -92,7 +92,6 @@ fn count_sample<S: Source, K: Clock>(
         (K.state clock.old) (K.state clock.new)) }
 {
     let mut site = BlankSite::new();
-    let mut console = BlankConsole;
     let command = sample_command();
     let names = make_names(alloc, command.mapfile)?;
     let heading = Heading::new(alloc, Program::Ddrescue, COMMAND_LINE)?;
@@ -113,7 +112,7 @@ fn count_sample<S: Source, K: Clock>(
     let ready = make_ready(alloc, command, loaded)?;
     let moment = clock.now_ms();
     let rescue = begin(ready, command, names, heading, moment, false);
-    count_run(rescue, source, &mut site, clock, &mut console)
+    count_run(rescue, source, &mut site, clock)
 }
 
 /// The line of a sample of `kib` KiB. A run with too many readings for the clock to tell them would want more memory

@@ -23,7 +23,6 @@ use Rattle.rescue_rules.specs.Setting.{Setting}
 use Rattle.rescue_rules.specs.Events.{began_at}
 use Rattle.rescue_rules.specs.Work.{Gain}
 use Rattle.rescue_rules.specs.Across.{across}
-use Rattle.fill_generate.specs.Sweeping.{around}
 use Rattle.sweep_rules.specs.Sweep.{Sweeper, Swept, filler}
 use Rattle.program_promise.specs.Work.{Deeds, WorkStep, Take, Look, Open, Works}
 use Rattle.program_promise.specs.Parts.{only_calls}
@@ -35,7 +34,7 @@ use Rattle.task_files.specs.declared.ending.Which.TheVariants.{DomainMap}
 use Rattle.task_files.specs.declared.load.LoadedMap.{LoadedMap}
 use Rattle.task_files.specs.Names.{first_same_with_optional_map}
 use Rattle.task_files.specs.Asked.{names_by, ArePlacedBy, IsBeyond}
-use Rattle.task_files.specs.Outside.{Outside}
+use Rattle.task_files.specs.Findings.{Findings}
 use Rattle.task_files.specs.Refusals.{PatternEmpty}
 use Rattle.task_files.specs.Work.{rescue_faults, files_rows}
 use Rattle.task_files.specs.Steps.{Loads, OpensOutput, ReadsMap, maps_of}
@@ -107,10 +106,6 @@ module _ (c : Command) (end : ℕ) (s1 s2 : SourceState) where
         | inr (inr h) ↦ h
       ]
 
-  pub pattern_long : (buffer : List ℕ) → TakesPattern (cluster_of c.options) end (Ok buffer) s1 s2
-      → length buffer ≡ cluster_of c.options
-  pattern_long buffer p = (taken buffer p).1.4.long
-
   pub pattern_then : (e : Ending) (buffer : List ℕ) (next : Ending → Deeds → Type 0) (calls : List Entry) (times : List ℕ)
       (p : TakesPattern (cluster_of c.options) end (Ok buffer) s1 s2)
       → next e (record { opens = []; gain = record { calls = calls; reads = []; times = times } })
@@ -158,14 +153,14 @@ sweep_unread s w statuses state pieces end lines e g none may =
     subst P none may
 
 -- what follows the pattern
-abbrev pub Onward : (types : TypeSet) → Command → (line : List ℕ) → Outside → (top : ℕ) → (buffer : List ℕ) → List Swept
+abbrev pub Onward : (types : TypeSet) → Command → (line : List ℕ) → Findings → (top : ℕ) → (buffer : List ℕ) → List Swept
     → RunEnd → Ending → Deeds → Type 0
 Onward types c line w top buffer pieces end =
     let s = fill_setting c line top w.maps in
     Works rescue_faults (files_rows true c w.found top)
     (ThenSweep s (filler s types buffer) w.found.mapfile pieces end w.lines)
 
-abbrev Patterned : (types : TypeSet) → Command → (line : List ℕ) → Outside → (top : ℕ) → (buffer : List ℕ) → List Swept
+abbrev Patterned : (types : TypeSet) → Command → (line : List ℕ) → Findings → (top : ℕ) → (buffer : List ℕ) → List Swept
     → RunEnd → Ending → Deeds → Type 0
 Patterned types c line w top buffer pieces end =
     ThenPattern (cluster_of c.options) w.end buffer (Onward types c line w top buffer pieces end)
@@ -177,7 +172,7 @@ module _ (types : TypeSet) (c : Command) (line : List ℕ) (heard : Bool)
       → ReadsMap DomainMap (mode_by c) c.domain_map (Err e) old new
       → WorkedFill types c line heard heard e (across source source old new clock clock x x)
   fill_unread e source old new clock x r =
-      let w : Outside = unread_outside c e source old new clock x r in
+      let w : Findings = unread_outside c e source old new clock x r in
       let some : (top : ℕ) × IsMapEnd w.found.mapfile top = some_end w.found.mapfile in
       record {
         outside = w;
@@ -204,7 +199,7 @@ module _ (types : TypeSet) (c : Command) (line : List ℕ) (heard : Bool)
         → (b.did.gain.times ≡ [] → (b.lines ≡ []) × (pieces ≡ [])) → SpeaksOn (out_pieces b.lines) heard heard' x x'
         → WorkedFill types c line heard heard' e (across s0 s1 old last k k' x x')
     after_map heard' e s1 last k k' x x' b top buffer pieces end tops works silent says =
-        let w : Outside = outside_after c domain s0 s1 old mid last k k' x x' f stays b in
+        let w : Findings = outside_after c domain s0 s1 old mid last k k' x x' f stays b in
         record {
           outside = w;
           is_outside = is_outside c domain s0 s1 old mid last k k' x x' f stays b;
@@ -237,7 +232,7 @@ module _ (types : TypeSet) (c : Command) (line : List ℕ) (heard : Bool)
       fill_unpatterned e p =
           let i : HasRead c.infile end p.reads s0 s2 = then_read c.infile end p.reads s0 s1 s2 input stands p.gained in
           let b : AfterMap c (across s0 s2 mid mid k k x x) = after_input c end p.reads s0 s2 k x i mid in
-          let w : Outside = outside_after c domain s0 s2 old mid mid k k x x f stays b in
+          let w : Findings = outside_after c domain s0 s2 old mid mid k k x x f stays b in
           let some : (top : ℕ) × IsMapEnd b.mapfile top = some_end b.mapfile in
           after_map heard e s2 mid k k x x b some.0 [] [] Finished some.1
           (pattern_stops c end s1 s2 e [] (Onward types c line w some.0 [] [] Finished) p) (λ none. (refl, refl))
@@ -254,7 +249,7 @@ module _ (types : TypeSet) (c : Command) (line : List ℕ) (heard : Bool)
         fill_output e d1 o =
             let b : AfterMap c (across s0 s2 mid d1 k k x x) =
             after_output c end p.reads s0 s2 k x has_read true e mid d1 o in
-            let w : Outside = outside_after c domain s0 s2 old mid d1 k k x x f stays b in
+            let w : Findings = outside_after c domain s0 s2 old mid d1 k k x x f stays b in
             let some : (top : ℕ) × IsMapEnd b.mapfile top = some_end b.mapfile in
             let s : Setting = fill_setting c line some.0 w.maps in
             after_map heard e s2 d1 k k x x b some.0 buffer [] Finished some.1
@@ -270,7 +265,7 @@ module _ (types : TypeSet) (c : Command) (line : List ℕ) (heard : Bool)
             let l : Loads c.mapfile 0 (Err e) d1 d2 = own_loads true c n 0 (Err e) mid d1 d2 h in
             let b : AfterMap c (across s0 s2 mid d2 k k x x) =
             after_load c end p.reads s0 s2 k x has_read true n 0 e mid d1 d2 h in
-            let w : Outside = outside_after c domain s0 s2 old mid d2 k k x x f stays b in
+            let w : Findings = outside_after c domain s0 s2 old mid d2 k k x x f stays b in
             let some : (top : ℕ) × IsMapEnd b.mapfile top = some_end b.mapfile in
             let s : Setting = fill_setting c line some.0 w.maps in
             after_map heard e s2 d2 k k x x b some.0 buffer [] Finished some.1
@@ -291,7 +286,7 @@ module _ (types : TypeSet) (c : Command) (line : List ℕ) (heard : Bool)
               let b : AfterMap c (across s0 s2 mid d2 k k x x) =
               after_files c end p.reads s0 s2 k x has_read true n 0 start mid d1 d2 d2 k x [] [] [] h told
               (λ t. sym (append-nil d2.calls)) (λ t. sym (append-nil k.readings)) (All-nil (λ t. t < 2 ^ 64)) in
-              let w : Outside = outside_after c domain s0 s2 old mid d2 k k x x f stays b in
+              let w : Findings = outside_after c domain s0 s2 old mid d2 k k x x f stays b in
               let s : Setting = fill_setting c line top w.maps in
               after_map heard e s2 d2 k k x x b top buffer [] Finished
               (subst (λ (k : ℕ). IsMapEnd l.file k) (sym long)
@@ -304,21 +299,23 @@ module _ (types : TypeSet) (c : Command) (line : List ℕ) (heard : Bool)
               (λ none. (refl, refl)) (says_none heard x)
 
           -- a sweep came after it, which may not have begun
-          pub fill_goes : (heard' : Bool) (e : Ending) (d3 : SiteState) (k' : ClockState) (x' : ConsoleState)
+          pub fill_goes : (heard' : Bool) (e : Ending) (s3 : SourceState) (d3 : SiteState) (k' : ClockState) (x' : ConsoleState)
               → ArePlacedBy c.options top
               → (let s = fill_setting c line top
               (maps_of (statuses_in domain) None (listed_if c.options.complete_only start.first start.listed_end)) in
-              DidSweep s (filler s types buffer) start.tiles.statuses start.state heard heard' e (around d2 d3 k k' x x'))
-              → WorkedFill types c line heard heard' e (across s0 s2 old d3 k k' x x')
-          fill_goes heard' e d3 k' x' placed ran =
+              DidSweep s (filler s types buffer) start.tiles.statuses start.state heard heard' e (across s2 s3 d2 d3 k k' x x'))
+              → WorkedFill types c line heard heard' e (across s0 s3 old d3 k k' x x')
+          fill_goes heard' e s3 d3 k' x' placed ran =
               let l : Loads c.mapfile 0 (Ok start) d1 d2 = own_loads true c n 0 (Ok start) mid d1 d2 h in
               let b : AfterMap c (across s0 s2 mid d3 k k' x x') =
               after_files c end p.reads s0 s2 k x has_read true n 0 start mid d1 d2 d3 k' x' ran.gain.calls ran.gain.times
               ran.lines h told ran.gains.calls ran.gains.times ran.gains.fit in
-              let w : Outside = outside_after c domain s0 s2 old mid d3 k k' x x' f stays b in
+              let w : Findings = outside_after c domain s0 s2 old mid d3 k k' x x' f stays b in
               let s : Setting = fill_setting c line top w.maps in
               let v : Sweeper = filler s types buffer in
-              after_map heard' e s2 d3 k k' x x' b top buffer ran.pieces ran.end
+              subst (λ (s : SourceState). WorkedFill types c line heard heard' e (across s0 s old d3 k k' x x'))
+              (sym ran.gains.unread)
+              (after_map heard' e s2 d3 k k' x x' b top buffer ran.pieces ran.end
               (subst (λ (k : ℕ). IsMapEnd l.file k) (sym long)
               (own_end l.file start.tiles.statuses start.state l.did.0.stands))
               (pattern_then c end s1 s2 e buffer (Onward types c line w top buffer ran.pieces ran.end)
@@ -338,4 +335,4 @@ module _ (types : TypeSet) (c : Command) (line : List ℕ) (heard : Bool)
                       ran.gains.reads ran.sweeps;
                 },
               ))))
-              (sweep_silent s v start.tiles.statuses start.state ran.pieces ran.end ran.lines e ran.gain ran.sweeps) ran.says
+              (sweep_silent s v start.tiles.statuses start.state ran.pieces ran.end ran.lines e ran.gain ran.sweeps) ran.says)

@@ -22,7 +22,7 @@ use Rattle.rescue_rules.specs.Laws.{AreThreeNames}
 use Rattle.rescue_rules.specs.Across.{across}
 use Rattle.sweep_rules.specs.Sweep.{Sweeper, Swept, generator}
 use Rattle.sweep_rules.specs.SweepLaws.{AreGiven}
-use Rattle.fill_generate.specs.Sweeping.{around, IsApart}
+use Rattle.fill_generate.specs.Sweeping.{IsApart}
 use Rattle.program_promise.specs.Work.{Open, Works}
 use Rattle.program_promise.specs.Parts.{only_calls}
 use Rattle.ddrescue_words.specs.Command.{Command}
@@ -32,7 +32,7 @@ use Rattle.task_files.specs.declared.ending.Which.TheVariants.{DomainMap}
 use Rattle.task_files.specs.declared.load.LoadedMap.{LoadedMap}
 use Rattle.task_files.specs.Names.{first_same_with_optional_map}
 use Rattle.task_files.specs.Asked.{names_by, setting_of, ArePlacedBy, IsBeyond}
-use Rattle.task_files.specs.Outside.{Outside}
+use Rattle.task_files.specs.Findings.{Findings}
 use Rattle.task_files.specs.Work.{rescue_faults, files_rows}
 use Rattle.task_files.specs.Steps.{Loads, OpensOutput, ReadsMap, maps_of}
 use Rattle.task_sweeps.specs.Modes.{ThenSweep}
@@ -103,7 +103,7 @@ module _ (c : Command) (line : List ℕ) (heard : Bool)
       → ReadsMap DomainMap (mode_by c) c.domain_map (Err e) old new
       → WorkedGenerate c line heard heard e (across source source old new clock clock x x)
   generate_unread e source old new clock x r =
-      let w : Outside = unread_outside c e source old new clock x r in
+      let w : Findings = unread_outside c e source old new clock x r in
       let s : Setting = setting_of c line w.end w.maps in
       record {
         outside = w;
@@ -132,7 +132,7 @@ module _ (c : Command) (line : List ℕ) (heard : Bool)
         → (b.did.gain.times ≡ [] → (b.lines ≡ []) × (pieces ≡ [])) → SpeaksOn (out_pieces b.lines) heard heard' x x'
         → WorkedGenerate c line heard heard' e (across s0 s1 old last k k' x x')
     after_map heard' e s1 last k k' x x' b pieces end works given silent says =
-        let w : Outside = outside_after c domain s0 s1 old mid last k k' x x' f stays b in
+        let w : Findings = outside_after c domain s0 s1 old mid last k k' x x' f stays b in
         let s : Setting = setting_of c line w.end w.maps in
         record {
           outside = w;
@@ -167,7 +167,7 @@ module _ (c : Command) (line : List ℕ) (heard : Bool)
           → WorkedGenerate c line heard heard e (across s0 s1 old d1 k k x x)
       generate_output e d1 o =
           let b : AfterMap c (across s0 s1 mid d1 k k x x) = after_output c end [] s0 s1 k x has_read false e mid d1 o in
-          let w : Outside = outside_after c domain s0 s1 old mid d1 k k x x f stays b in
+          let w : Findings = outside_after c domain s0 s1 old mid d1 k k x x f stays b in
           let s : Setting = setting_of c line end w.maps in
           after_map heard e s1 d1 k k x x b [] Finished
           (inr (
@@ -184,7 +184,7 @@ module _ (c : Command) (line : List ℕ) (heard : Bool)
           let l : Loads c.mapfile end (Err e) d1 d2 = own_loads false c n end (Err e) mid d1 d2 h in
           let b : AfterMap c (across s0 s1 mid d2 k k x x) =
           after_load c end [] s0 s1 k x has_read false n end e mid d1 d2 h in
-          let w : Outside = outside_after c domain s0 s1 old mid d2 k k x x f stays b in
+          let w : Findings = outside_after c domain s0 s1 old mid d2 k k x x f stays b in
           let s : Setting = setting_of c line end w.maps in
           after_map heard e s1 d2 k k x x b [] Finished
           (inr (
@@ -206,7 +206,7 @@ module _ (c : Command) (line : List ℕ) (heard : Bool)
             let b : AfterMap c (across s0 s1 mid d2 k k x x) =
             after_files c end [] s0 s1 k x has_read false n end start mid d1 d2 d2 k x [] [] [] h told
             (λ t. sym (append-nil d2.calls)) (λ t. sym (append-nil k.readings)) (All-nil (λ t. t < 2 ^ 64)) in
-            let w : Outside = outside_after c domain s0 s1 old mid d2 k k x x f stays b in
+            let w : Findings = outside_after c domain s0 s1 old mid d2 k k x x f stays b in
             let s : Setting = setting_of c line end w.maps in
             after_map heard e s1 d2 k k x x b [] Finished
             (inr (
@@ -219,22 +219,24 @@ module _ (c : Command) (line : List ℕ) (heard : Bool)
             (λ t. All-nil _) (λ none. (refl, refl)) (says_none heard x)
 
         -- a sweep came after it, which may not have begun
-        pub generate_goes : (heard' : Bool) (e : Ending) (d3 : SiteState) (k' : ClockState) (x' : ConsoleState)
+        pub generate_goes : (heard' : Bool) (e : Ending) (s2 : SourceState) (d3 : SiteState) (k' : ClockState) (x' : ConsoleState)
             → is_some c.mapfile ≡ true → Keeps d1 d2 → ArePlacedBy c.options end
             → DidGenerate (setting_of c line end
             (maps_of (statuses_in domain) None (listed_if c.options.complete_only start.first start.listed_end)))
-            start.tiles.statuses start.state heard heard' e (around d2 d3 k k' x x')
-            → WorkedGenerate c line heard heard' e (across s0 s1 old d3 k k' x x')
-        generate_goes heard' e d3 k' x' named keeps placed did =
+            start.tiles.statuses start.state heard heard' e (across s1 s2 d2 d3 k k' x x')
+            → WorkedGenerate c line heard heard' e (across s0 s2 old d3 k k' x x')
+        generate_goes heard' e s2 d3 k' x' named keeps placed did =
             let ran = did.did in
             let l : Loads c.mapfile end (Ok start) d1 d2 = own_loads false c n end (Ok start) mid d1 d2 h in
             let b : AfterMap c (across s0 s1 mid d3 k k' x x') =
             after_files c end [] s0 s1 k x has_read false n end start mid d1 d2 d3 k' x' ran.gain.calls ran.gain.times
             ran.lines h told ran.gains.calls ran.gains.times ran.gains.fit in
-            let w : Outside = outside_after c domain s0 s1 old mid d3 k k' x x' f stays b in
+            let w : Findings = outside_after c domain s0 s1 old mid d3 k k' x x' f stays b in
             let s : Setting = setting_of c line end w.maps in
             let v : Sweeper = generator s in
-            after_map heard' e s1 d3 k k' x x' b ran.pieces ran.end
+            subst (λ (s : SourceState). WorkedGenerate c line heard heard' e (across s0 s old d3 k k' x x'))
+            (sym ran.gains.unread)
+            (after_map heard' e s1 d3 k k' x x' b ran.pieces ran.end
             (inr (
               [],
               refl,
@@ -260,4 +262,4 @@ module _ (c : Command) (line : List ℕ) (heard : Bool)
             let three : AreThreeNames s = three_names c line end w.maps (has_names c.mapfile named) different in
             subst (λ (o : Option File). AreGiven s (bytes_of o) ran.pieces) file.is
             (did.given (rw told t) (output_apart s d2 three file.image)))
-            (sweep_silent s v start.tiles.statuses start.state ran.pieces ran.end ran.lines e ran.gain ran.sweeps) ran.says
+            (sweep_silent s v start.tiles.statuses start.state ran.pieces ran.end ran.lines e ran.gain ran.sweeps) ran.says)

@@ -17,7 +17,7 @@ use Rattle.crash_site.specs.SiteState.{SiteState}
 use Rattle.task_files.specs.declared.ending.Ending.{Ending}
 use Rattle.task_files.specs.declared.ending.Ending.TheVariants.{EmptyPattern, PatternUnread, NoMemory}
 use Rattle.task_files.specs.Answers.{Causes, drafting_left}
-use Rattle.task_files.specs.Outside.{HasGainedReads}
+use Rattle.task_files.specs.Findings.{HasGainedReads}
 use Rattle.task_sweeps.specs.Pattern.{IsPatternRead, IsRepeated, PatternRead, PatternCause, PatternTaken, ReadsPattern, TakesPattern}
 
 -- a list is filled up to a place by the front of another

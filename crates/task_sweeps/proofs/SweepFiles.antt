@@ -26,7 +26,7 @@ use Rattle.program_promise.proofs.PartLemmas.{grew_both}
 use Rattle.task_files.specs.declared.ending.Ending.{Ending}
 use Rattle.task_files.specs.declared.load.LoadedMap.{LoadedMap}
 use Rattle.task_files.specs.Maps.{NoFile, NoText, Blocks, mapfile_of}
-use Rattle.task_files.specs.Outside.{HasGainedReads}
+use Rattle.task_files.specs.Findings.{HasGainedReads}
 use Rattle.task_files.specs.Steps.{OpensOutput, Loads}
 use Rattle.task_sweeps.specs.Modes.{IsMapEnd}
 use Rattle.task_files.proofs.ListingLemmas.{Listing, OneListing, listed_if, one_listing, own_listing, some_listing}

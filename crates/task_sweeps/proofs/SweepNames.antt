@@ -40,11 +40,8 @@ module _ (s : Setting) (w : Sweeper) where
   doing_named ds last = ap (λ (calls : List Call). calls ++ closing_calls s last) (deeds_named ds)
 
   by_named : (stop : Option Stop) (m : Sweep) → SweepEndsBy stop (nameless s) w m → SweepEndsBy stop s w m
-  by_named None m by = by
-  by_named (Some SourceLost) m by = by
-  by_named (Some (Site call)) m by = by
-  by_named (Some (LimitMet limit)) m by = by
   by_named (Some NoMemory) m by = (by.0, (by.1.0, by.1.1, piece_named m by.1.0 by.1.1 by.1.2))
+  by_named _ m by = by
 
   pub ends_named : (m : Sweep) (es : List Swept) (calls : List Entry) (end : RunEnd)
       → SweepEnds (nameless s) w m es calls end → SweepEnds s w m es calls end

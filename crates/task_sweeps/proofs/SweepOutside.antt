@@ -23,7 +23,7 @@ use Rattle.task_files.specs.declared.ending.Ending.{Ending}
 use Rattle.task_files.specs.Names.{first_same_with_optional_map}
 use Rattle.task_files.specs.Asked.{names_by}
 use Rattle.task_files.specs.Maps.{Found, found_in, mapfile_of}
-use Rattle.task_files.specs.Outside.{Outside}
+use Rattle.task_files.specs.Findings.{Findings}
 use Rattle.program_promise.specs.Opens.{AreOpens}
 use Rattle.task_files.specs.Work.{rescue_faults, map_rows}
 use Rattle.task_files.specs.Steps.{Gains, IsOnlyMaps, ReadsMap, maps_of}
@@ -58,7 +58,7 @@ pub record AfterMap (c : Command) (o : Across) : Type 0 where
 module _ (c : Command) (domain : Option Tiled) (s0 s1 : SourceState) (old mid last : SiteState) (k k' : ClockState)
     (x x' : ConsoleState) (f : ReadsMap DomainMap (mode_by c) c.domain_map (Ok domain) old mid) (stays : Stays old mid)
     (b : AfterMap c (across s0 s1 mid last k k' x x')) where
-  abbrev pub outside_after : Outside
+  abbrev pub outside_after : Findings
   outside_after = record {
     found = record {
       domain = f.file;
@@ -128,7 +128,7 @@ module _ (c : Command) (e : Ending) (source : SourceState) (old new : SiteState)
   abbrev pub unread_found : Found
   unread_found = record (found_in c (files_in old)) { domain = r.file }
 
-  abbrev pub unread_outside : Outside
+  abbrev pub unread_outside : Findings
   unread_outside = record {
     found = unread_found;
     end = length source.bytes;

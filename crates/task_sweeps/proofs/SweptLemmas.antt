@@ -11,6 +11,7 @@ use Rattle.mapfile_text.specs.HeadingLines.{HeadingLines}
 use Rattle.crash_site.specs.declared.site.SiteCall.{SiteCall}
 use Rattle.crash_site.specs.Calls.{Call, Entry, Done as Returned}
 use Rattle.crash_site.specs.CallsMade.{BrokeAt, call_name}
+use Rattle.faulty_source.specs.SourceState.{SourceState}
 use Rattle.crash_site.specs.SiteState.{SiteState}
 use Rattle.mapfile_save.specs.MapNames.{MapNames, names_in}
 use Rattle.rescue_console.specs.ClockState.{ClockState, Reads as ReadsClock}
@@ -19,6 +20,7 @@ use Rattle.rescue_console.specs.Speaking.{SpeaksOn, out_pieces}
 use Rattle.rescue_domain.specs.Parts.{covers}
 use Rattle.rescue_rules.specs.declared.stop.RunEnd.{RunEnd}
 use Rattle.rescue_rules.specs.declared.stop.RunEnd.TheVariants.{Done as Finished}
+use Rattle.rescue_rules.specs.Across.{Across, across}
 use Rattle.rescue_rules.specs.Setting.{Setting}
 use Rattle.rescue_rules.specs.Nameless.{nameless}
 use Rattle.rescue_rules.specs.RunCalls.{closing_calls}
@@ -33,7 +35,7 @@ use Rattle.sweep_rules.specs.SweepWork.{SweepEnds, IsSaved, IsUnsaved, IsCut, Is
 use Rattle.rescue_core.proofs.ObjectLemmas.{timed_more, says_more}
 use Rattle.fill_generate.specs.declared.job.Job.{Job}
 use Rattle.fill_generate.specs.SweepState.{setting_for}
-use Rattle.fill_generate.specs.Sweeping.{Around, around, BreaksAfter, EndsSweep, Saved, Unsaved, Cut, Broken, SweepTold, LookupTold, times_after}
+use Rattle.fill_generate.specs.Sweeping.{BreaksAfter, EndsSweep, Saved, Unsaved, Cut, Broken, SweepTold, LookupTold, times_after}
 use Rattle.program_promise.proofs.GainLemmas.{MayGain, may_gain, broke_after}
 use Rattle.ddrescue_words.specs.declared.options.Options.{Options}
 use Rattle.ddrescue_words.specs.Command.{Command}
@@ -148,13 +150,18 @@ over_job P c n h limit maps statuses state moment heard job named is holds =
 
 -- ---- a sweep after the line of what it began with
 
+-- what is told from before its first reading and that line on; its input stays as it is
+abbrev begun_at : Across → SourceState → ClockState → ConsoleState → Across
+begun_at o source clock console =
+    across source source o.site o.site' clock o.clock' console o.console'
+
 module _ (s : Setting) (w : Sweeper) (statuses : List Status) (state : Option MapState) where
-  did_sweep : (moment : ℕ) (heard between_ heard' : Bool) (end : RunEnd) (e : Ending) (o : Around) (before : ClockState)
-      (unsaid : ConsoleState) → SweepTold (nameless s) w (sweep_over w statuses state moment) between_ heard' end o
+  did_sweep : (moment : ℕ) (heard between_ heard' : Bool) (end : RunEnd) (e : Ending) (o : Across) (source : SourceState)
+      (before : ClockState) (unsaid : ConsoleState) → SweepTold (nameless s) w (sweep_over w statuses state moment) between_ heard' end o
       → e ≡ answer_of end → ReadsClock (moment ∷ []) before o.clock → moment < 2 ^ 64
       → SpeaksOn (out_pieces (opening_lines s (length statuses))) heard between_ unsaid o.console
-      → DidSweep s w statuses state heard heard' e (record o { clock = before; console = unsaid })
-  did_sweep moment heard between_ heard' end e o before unsaid t answered first small opening =
+      → DidSweep s w statuses state heard heard' e (begun_at o source before unsaid)
+  did_sweep moment heard between_ heard' end e o source before unsaid t answered first small opening =
       let m : Sweep = sweep_over w statuses state moment in
       let c : EndsCalls (nameless s) w m t.events end o.site o.site' =
       ends_calls (nameless s) w m t.events end o.site o.site' t.ends in
@@ -163,6 +170,7 @@ module _ (s : Setting) (w : Sweeper) (statuses : List Status) (state : Option Ma
       record {
         gain = record { calls = c.calls; reads = []; times = moment ∷ times_after t.events };
         gains = record {
+          unread = refl;
           calls = c.grew;
           reads = refl;
           times = λ tell. all.told tell;
@@ -190,11 +198,12 @@ module _ (s : Setting) (w : Sweeper) (statuses : List Status) (state : Option Ma
       }
 
   -- memory ran out before it began
-  pub swept_none : (heard : Bool) (d : SiteState) (k : ClockState) (x : ConsoleState)
-      → DidSweep s w statuses state heard heard NoMemory (around d d k k x x)
-  swept_none heard d k x = record {
+  pub swept_none : (heard : Bool) (a : SourceState) (d : SiteState) (k : ClockState) (x : ConsoleState)
+      → DidSweep s w statuses state heard heard NoMemory (across a a d d k k x x)
+  swept_none heard a d k x = record {
     gain = record { calls = []; reads = []; times = [] };
     gains = record {
+      unread = refl;
       calls = λ tell. sym (append-nil d.calls);
       reads = refl;
       times = λ tell. sym (append-nil k.readings);
@@ -210,8 +219,8 @@ module _ (s : Setting) (w : Sweeper) (statuses : List Status) (state : Option Ma
 -- what a filling did that was asked for by a job
 pub filled_so : (c : Command) (n : MapNames) (h : HeadingLines) (top : ℕ) (maps : Maps) (statuses : List Status)
     (state : Option MapState) (moment : ℕ) (heard between_ heard' : Bool) (types : TypeSet) (buffer : List ℕ)
-    (ready : SweepReady) (job : Job Tiled) (end : RunEnd) (e : Ending) (o : Around) (before : ClockState)
-    (unsaid : ConsoleState) → names_by c ≡ Some n → IsSweepReady c top maps statuses state ready
+    (ready : SweepReady) (job : Job Tiled) (end : RunEnd) (e : Ending) (o : Across) (source : SourceState)
+    (before : ClockState) (unsaid : ConsoleState) → names_by c ≡ Some n → IsSweepReady c top maps statuses state ready
     → IsJobOver n h c.options top maps statuses state moment between_ job
     → (let t = setting_for job.settings job.domain job.names job.heading.line in
     let w = filler t types buffer in
@@ -219,13 +228,13 @@ pub filled_so : (c : Command) (n : MapNames) (h : HeadingLines) (top : ℕ) (map
     → e ≡ answer_of end → ReadsClock (moment ∷ []) before o.clock → moment < 2 ^ 64
     → SpeaksOn (out_pieces (lines_in (option_map (λ line. line.items) ready.opening))) heard between_ unsaid o.console
     → DidSweep (fill_setting c h.line top maps) (filler (fill_setting c h.line top maps) types buffer) statuses state heard
-    heard' e (record o { clock = before; console = unsaid })
-filled_so c n h top maps statuses state moment heard between_ heard' types buffer ready job end e o before unsaid named is over
-    told answered first small opening =
+    heard' e (begun_at o source before unsaid)
+filled_so c n h top maps statuses state moment heard between_ heard' types buffer ready job end e o source before unsaid named is
+    over told answered first small opening =
     let P : Setting → List Status → Option MapState → ℕ → Bool → Type 0 = λ t map loaded time listens.
     SweepTold t (filler t types buffer) (sweep_over (filler t types buffer) map loaded time) listens heard' end o in
     let s : Setting = fill_setting c h.line top maps in
-    did_sweep s (filler s types buffer) statuses state moment heard between_ heard' end e o before unsaid
+    did_sweep s (filler s types buffer) statuses state moment heard between_ heard' end e o source before unsaid
     (over_job P c n h top maps statuses state moment between_ job named over told) answered first small
     (subst (λ (lines : List (List ℕ)). SpeaksOn (out_pieces lines) heard between_ unsaid o.console) (is.opening h.line)
     opening)
@@ -233,7 +242,8 @@ filled_so c n h top maps statuses state moment heard between_ heard' types buffe
 -- and a generating
 pub generated_so : (c : Command) (n : MapNames) (h : HeadingLines) (limit : ℕ) (maps : Maps) (statuses : List Status)
     (state : Option MapState) (moment : ℕ) (heard between_ heard' : Bool) (ready : SweepReady) (job : Job Tiled)
-    (end : RunEnd) (e : Ending) (o : Around) (before : ClockState) (unsaid : ConsoleState) → names_by c ≡ Some n
+    (end : RunEnd) (e : Ending) (o : Across) (source : SourceState) (before : ClockState) (unsaid : ConsoleState)
+    → names_by c ≡ Some n
     → IsSweepReady c limit maps statuses state ready
     → IsJobOver n h c.options limit maps statuses state moment between_ job
     → (let t = setting_for job.settings job.domain job.names job.heading.line in
@@ -241,18 +251,17 @@ pub generated_so : (c : Command) (n : MapNames) (h : HeadingLines) (limit : ℕ)
     LookupTold t w (sweep_over w job.tiles.statuses job.loaded job.moment) job.heard heard' end o)
     → e ≡ answer_of end → ReadsClock (moment ∷ []) before o.clock → moment < 2 ^ 64
     → SpeaksOn (out_pieces (lines_in (option_map (λ line. line.items) ready.opening))) heard between_ unsaid o.console
-    → DidGenerate (setting_of c h.line limit maps) statuses state heard heard' e
-    (record o { clock = before; console = unsaid })
+    → DidGenerate (setting_of c h.line limit maps) statuses state heard heard' e (begun_at o source before unsaid)
 unfolding did_sweep
-generated_so c n h limit maps statuses state moment heard between_ heard' ready job end e o before unsaid named is over told
-    answered first small opening =
+generated_so c n h limit maps statuses state moment heard between_ heard' ready job end e o source before unsaid named is over
+    told answered first small opening =
     let P : Setting → List Status → Option MapState → ℕ → Bool → Type 0 = λ t map loaded time listens.
     LookupTold t (generator t) (sweep_over (generator t) map loaded time) listens heard' end o in
     let s : Setting = setting_of c h.line limit maps in
     let l : LookupTold (nameless s) (generator s) (sweep_over (generator s) statuses state moment) between_ heard' end o =
     over_job P c n h limit maps statuses state moment between_ job named over told in
     record {
-      did = did_sweep s (generator s) statuses state moment heard between_ heard' end e o before unsaid l.sweeps answered
+      did = did_sweep s (generator s) statuses state moment heard between_ heard' end e o source before unsaid l.sweeps answered
           first small
           (subst (λ (lines : List (List ℕ)). SpeaksOn (out_pieces lines) heard between_ unsaid o.console)
           (is.opening h.line) opening);
@@ -260,11 +269,11 @@ generated_so c n h limit maps statuses state moment heard between_ heard' ready 
     }
 
 -- memory ran out before it began
-pub generated_none : (s : Setting) (statuses : List Status) (state : Option MapState) (heard : Bool) (d : SiteState)
-    (k : ClockState) (x : ConsoleState)
-    → DidGenerate s statuses state heard heard NoMemory (around d d k k x x)
+pub generated_none : (s : Setting) (statuses : List Status) (state : Option MapState) (heard : Bool) (a : SourceState)
+    (d : SiteState) (k : ClockState) (x : ConsoleState)
+    → DidGenerate s statuses state heard heard NoMemory (across a a d d k k x x)
 unfolding swept_none
-generated_none s statuses state heard d k x = record {
-  did = swept_none s (generator s) statuses state heard d k x;
+generated_none s statuses state heard a d k x = record {
+  did = swept_none s (generator s) statuses state heard a d k x;
   given = λ tells apart. All-nil _;
 }

@@ -6,7 +6,7 @@ use Rattle.faulty_source.specs.SourceState.{SourceState}
 use Rattle.program_promise.specs.Work.{Deeds, IsIdle}
 use Rattle.task_files.specs.declared.ending.Ending.{Ending}
 use Rattle.task_files.specs.declared.ending.Ending.TheVariants.{SourceLost, EmptyPattern, PatternUnread, NoMemory}
-use Rattle.task_files.specs.Outside.{HasGainedReads}
+use Rattle.task_files.specs.Findings.{HasGainedReads}
 
 -- a buffer of a size that a pattern fills, over and over
 pub record IsRepeated (pattern : List ℕ) (size : ℕ) (buffer : List ℕ) : Type 0 where

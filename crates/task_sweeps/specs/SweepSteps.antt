@@ -7,9 +7,8 @@ use Rattle.block_list.specs.declared.types.TypeSet.{TypeSet}
 use Rattle.run_options.specs.Settings.{IsSound, Suits, HasPlaces}
 use Rattle.mapfile_text.specs.declared.state.MapState.{MapState}
 use Rattle.mapfile_text.specs.HeadingLines.{HeadingLines}
-use Rattle.faulty_source.specs.SourceState.{SourceState}
 use Rattle.crash_site.specs.Files.{bytes_of}
-use Rattle.crash_site.specs.SiteState.{SiteState, image_in}
+use Rattle.crash_site.specs.SiteState.{image_in}
 use Rattle.mapfile_save.specs.MapNames.{MapNames}
 use Rattle.rescue_console.specs.Speaking.{SpeaksOn, out_pieces}
 use Rattle.rescue_domain.specs.Parts.{covers}
@@ -22,15 +21,14 @@ use Rattle.rescue_rules.specs.Across.{Across}
 use Rattle.sweep_rules.specs.Sweep.{Sweeper, Swept, generator}
 use Rattle.sweep_rules.specs.SweepLaws.{AreGiven}
 use Rattle.fill_generate.specs.declared.job.Job.{Job}
-use Rattle.fill_generate.specs.Sweeping.{Around, IsApart}
+use Rattle.fill_generate.specs.Sweeping.{IsApart}
 use Rattle.ddrescue_words.specs.declared.options.Options.{Options}
 use Rattle.ddrescue_words.specs.Command.{Command}
 use Rattle.task_sweeps.specs.declared.sweep.SweepReady.{SweepReady}
 use Rattle.task_files.specs.declared.ending.Ending.{Ending}
 use Rattle.task_files.specs.Asked.{Maps, domain_asked, setting_of}
 use Rattle.task_files.specs.Maps.{AreAskedFor}
-use Rattle.task_files.specs.Outside.{Outside, Agrees}
-use Rattle.task_files.specs.Answers.{Causes}
+use Rattle.task_files.specs.Findings.{Findings, Agrees}
 use Rattle.task_files.specs.Steps.{IsOnlyMaps}
 use Rattle.task_files.specs.Settings.{lines_in, settings_by}
 use Rattle.task_sweeps.specs.Modes.{AreMapsOfSweep, IsMapEnd, MaySweep, Fills, Generates, fill_setting}
@@ -62,8 +60,10 @@ pub record IsJobOver (names : MapNames) (heading : HeadingLines) (o : Options) (
   pub moment_is : job.moment ≡ moment
   pub heard_is : job.heard ≡ heard
 
--- The record gained this at its end if the site tells, and the readings if the clock tells; nothing was read.
-pub record GainsAround (o : Around) (g : Gain) : Type 0 where
+-- The record gained this at its end if the site tells, and the readings if the clock tells. Nothing was read: the input
+-- is as it was.
+pub record GainsUnread (o : Across) (g : Gain) : Type 0 where
+  pub unread : o.source' ≡ o.source
   pub calls : IsTrue o.site.tells → o.site'.calls ≡ o.site.calls ++ g.calls
   pub reads : g.reads ≡ []
   pub times : IsTrue o.clock'.tells → o.clock'.readings ≡ o.clock.readings ++ g.times
@@ -71,9 +71,9 @@ pub record GainsAround (o : Around) (g : Gain) : Type 0 where
 
 -- what a sweep did over a map that it began with, up to its end or to where it stopped, and what it said
 pub record DidSweep (s : Setting) (w : Sweeper) (statuses : List Status) (state : Option MapState)
-    (heard heard' : Bool) (e : Ending) (o : Around) : Type 0 where
+    (heard heard' : Bool) (e : Ending) (o : Across) : Type 0 where
   pub gain : Gain
-  pub gains : GainsAround o gain
+  pub gains : GainsUnread o gain
   pub pieces : List Swept
   pub end : RunEnd
   pub lines : List (List ℕ)
@@ -82,16 +82,12 @@ pub record DidSweep (s : Setting) (w : Sweeper) (statuses : List Status) (state 
 
 -- what a generating did: its pieces gave what the open output held, which the saves don't overwrite
 pub record DidGenerate (s : Setting) (statuses : List Status) (state : Option MapState) (heard heard' : Bool)
-    (e : Ending) (o : Around) : Type 0 where
+    (e : Ending) (o : Across) : Type 0 where
   pub did : DidSweep s (generator s) statuses state heard heard' e o
   pub given : IsTrue o.site.tells → IsApart s.names o.site → AreGiven s (bytes_of (image_in o.site)) did.pieces
 
--- the cause of the answer of a sweep, which leaves the input alone
-abbrev pub SweepCause : Ending → (site site' : SiteState) → Type 0
-SweepCause e site site' = (source : SourceState) → Causes e source source site site'
-
 -- What was outside, as far as it agrees with what is told, and what maps say of it.
-pub record IsOutside (c : Command) (o : Across) (w : Outside) : Type 0 where
+pub record IsOutside (c : Command) (o : Across) (w : Findings) : Type 0 where
   pub agrees : Agrees c o w.found w.end w.maps w.did
   pub asked_maps : AreAskedFor c w.maps
   pub are_maps : AreMapsOfSweep c w.found w.maps
@@ -100,7 +96,7 @@ pub record IsOutside (c : Command) (o : Across) (w : Outside) : Type 0 where
 -- what a filling did after the words
 pub record WorkedFill (types : TypeSet) (c : Command) (line : List ℕ) (heard heard' : Bool) (e : Ending) (o : Across)
     : Type 0 where
-  pub outside : Outside
+  pub outside : Findings
   pub is_outside : IsOutside c o outside
   pub top : ℕ
   pub tops : IsMapEnd outside.found.mapfile top
@@ -114,7 +110,7 @@ pub record WorkedFill (types : TypeSet) (c : Command) (line : List ℕ) (heard h
 
 -- what a generating did after the words
 pub record WorkedGenerate (c : Command) (line : List ℕ) (heard heard' : Bool) (e : Ending) (o : Across) : Type 0 where
-  pub outside : Outside
+  pub outside : Findings
   pub is_outside : IsOutside c o outside
   pub pieces : List Swept
   pub end : RunEnd

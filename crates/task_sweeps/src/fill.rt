@@ -1,18 +1,14 @@
 //! Fill mode: a pattern is written to the outfile where the mapfile has some statuses.
 ghost use Rattle.std.specs.Prelude.{◌≡◌, ◌<◌, true, false, is_some, length, Option};
 ghost use Rattle.block_list.specs.Tiled.{Tiled};
-ghost use Rattle.crash_site.specs.SiteChanges.{Keeps as SiteKeeps};
-ghost use Rattle.rescue_console.specs.ClockState.{Keeps as ClockKeeps};
 ghost use Rattle.ddrescue_words.specs.Options.{cluster_of};
 ghost use Rattle.ddrescue_words.specs.Asking.{told_by};
 ghost use Rattle.sweep_rules.specs.Sweep.{filler};
 ghost use Rattle.task_files.specs.Asked.{ArePlacedBy};
-ghost use Rattle.task_files.specs.Answers.{drafting_left};
 ghost use Rattle.task_files.specs.Steps.{ending_of, heard_after, maps_read, Leaves, SuitsInput, IsChecked};
 ghost use Rattle.task_sweeps.specs.Modes.{fill_setting};
-ghost use Rattle.task_sweeps.specs.SweepSteps.{DidSweep, SweepCause, WorkedFill};
+ghost use Rattle.task_sweeps.specs.SweepSteps.{DidSweep, WorkedFill};
 ghost use Rattle.rescue_core.specs.Outside.{between, AreSame};
-ghost use Rattle.fill_generate.specs.Sweeping.{around};
 
 use crate::pattern::read_pattern;
 use crate::sweep::{make_job, make_sweep};
@@ -44,16 +40,14 @@ struct Filling<'a> {
 
 /// Fills over the map that the mapfile stands for. All memory is taken before the clock is read; the first line is put
 /// after that.
-fn run<D: Site, K: Clock, C: Console>(
+fn run<S: Source, D: Site, K: Clock, C: Console>(
     checked: CheckedCommand<'_>,
     filling: Filling<'_>,
     loaded: LoadedFiles,
-    site: &mut D,
-    clock: &mut K,
-    console: &mut C,
+    outside: &mut Outside<S, D, K, C>,
 ) -> Ended
-    requires image { (D.state site.old).is_open ≡ true }
-    requires no_draft { (D.state site.old).is_drafting ≡ false }
+    requires image { (D.state outside.old.site.now).is_open ≡ true }
+    requires no_draft { (D.state outside.old.site.now).is_drafting ≡ false }
     requires checked { IsChecked checked }
     requires named { is_some (told_by checked.command).mapfile ≡ true }
     requires room { length filling.buffer.now ≡ cluster_of (told_by checked.command).options }
@@ -65,12 +59,10 @@ fn run<D: Site, K: Clock, C: Console>(
         let maps = maps_read c.options loaded.domain_map test loaded.map in
         let s = fill_setting c checked.entry.heading.line loaded.end maps in
         DidSweep s (filler s filling.entry.types filling.entry.buffer.now) loaded.map.tiles.statuses loaded.map.state
-        checked.entry.heard result.heard result.ending (around (D.state site.old) (D.state site.new) (K.state clock.old)
-        (K.state clock.new) (C.state console.old) (C.state console.new)) }
-    ensures cause { SweepCause result.ending (D.state site.old) (D.state site.new) }
-    ensures draft { (D.state site.new).is_drafting ≡ drafting_left result.ending }
-    ensures site { SiteKeeps (D.state site.old) (D.state site.new) }
-    ensures clock { ClockKeeps (K.state clock.old) (K.state clock.new) }
+        checked.entry.heard result.heard result.ending
+        (between S.Source D.Site K.Clock C.Console outside.old outside.new) }
+    ensures leaves { Leaves result.ending (between S.Source D.Site K.Clock C.Console outside.old outside.new) }
+    ensures same { AreSame outside.old outside.new }
 {
     let CheckedCommand {
         command,
@@ -84,10 +76,17 @@ fn run<D: Site, K: Clock, C: Console>(
         let ending = Ending::NoMemory;
         return Ended { ending, heard };
     };
-    let moment = clock.now_ms();
-    let heard = say_line(console, &ready.opening, heard);
+    let moment = outside.clock.now_ms();
+    let heard = say_line(outside.console, &ready.opening, heard);
     let job = make_job(ready, command, names, heading, moment, heard);
-    let closed = run_fill(job, filling.types, filling.buffer, site, clock, console);
+    let closed = run_fill(
+        job,
+        filling.types,
+        filling.buffer,
+        outside.site,
+        outside.clock,
+        outside.console,
+    );
     Ended {
         ending: answer(closed.end),
         heard: closed.heard,
@@ -138,12 +137,5 @@ pub fn fill<S: Source, D: Site, K: Clock, C: Console>(
         map,
         end: top,
     };
-    Ok(run(
-        checked,
-        filling,
-        loaded,
-        outside.site,
-        outside.clock,
-        outside.console,
-    ))
+    Ok(run(checked, filling, loaded, outside))
 }

@@ -1,15 +1,11 @@
 //! Generate mode: a mapfile is made of what the outfile holds.
 ghost use Rattle.std.specs.Prelude.{◌≡◌, ◌<◌, ◌^◌, true, false, is_some, Option};
 ghost use Rattle.block_list.specs.Tiled.{Tiled};
-ghost use Rattle.crash_site.specs.SiteChanges.{Keeps as SiteKeeps};
-ghost use Rattle.rescue_console.specs.ClockState.{Keeps as ClockKeeps};
 ghost use Rattle.rescue_core.specs.Outside.{between, AreSame};
-ghost use Rattle.fill_generate.specs.Sweeping.{around};
 ghost use Rattle.ddrescue_words.specs.Asking.{told_by};
 ghost use Rattle.task_files.specs.Asked.{setting_of};
-ghost use Rattle.task_files.specs.Answers.{drafting_left};
 ghost use Rattle.task_files.specs.Steps.{ending_of, heard_after, maps_read, Leaves, CanBegin, IsChecked};
-ghost use Rattle.task_sweeps.specs.SweepSteps.{DidGenerate, SweepCause, WorkedGenerate};
+ghost use Rattle.task_sweeps.specs.SweepSteps.{DidGenerate, WorkedGenerate};
 
 use crate::sweep::{make_job, make_sweep};
 use crash_site::site::Site;
@@ -29,15 +25,13 @@ use task_files::places::places_fit;
 
 /// Looks up in the outfile what the map that the mapfile stands for calls non-tried. All memory except that for marks
 /// is taken before the clock is read; the first line is put after that.
-fn run<D: Site, K: Clock, C: Console>(
+fn run<S: Source, D: Site, K: Clock, C: Console>(
     checked: CheckedCommand<'_>,
     loaded: LoadedFiles,
-    site: &mut D,
-    clock: &mut K,
-    console: &mut C,
+    outside: &mut Outside<S, D, K, C>,
 ) -> Ended
-    requires image { (D.state site.old).is_open ≡ true }
-    requires no_draft { (D.state site.old).is_drafting ≡ false }
+    requires image { (D.state outside.old.site.now).is_open ≡ true }
+    requires no_draft { (D.state outside.old.site.now).is_drafting ≡ false }
     requires checked { IsChecked checked }
     requires named { is_some (told_by checked.command).mapfile ≡ true }
     requires begins { CanBegin (told_by checked.command).options loaded.end loaded.map.tiles.statuses loaded.map.state }
@@ -45,13 +39,10 @@ fn run<D: Site, K: Clock, C: Console>(
         let c = told_by checked.entry.command in
         let maps = maps_read c.options loaded.domain_map test loaded.map in
         let s = setting_of c checked.entry.heading.line loaded.end maps in
-        DidGenerate s loaded.map.tiles.statuses loaded.map.state checked.entry.heard result.heard result.ending (around
-        (D.state site.old) (D.state site.new) (K.state clock.old) (K.state clock.new) (C.state console.old)
-        (C.state console.new)) }
-    ensures cause { SweepCause result.ending (D.state site.old) (D.state site.new) }
-    ensures draft { (D.state site.new).is_drafting ≡ drafting_left result.ending }
-    ensures site { SiteKeeps (D.state site.old) (D.state site.new) }
-    ensures clock { ClockKeeps (K.state clock.old) (K.state clock.new) }
+        DidGenerate s loaded.map.tiles.statuses loaded.map.state checked.entry.heard result.heard result.ending
+        (between S.Source D.Site K.Clock C.Console outside.old outside.new) }
+    ensures leaves { Leaves result.ending (between S.Source D.Site K.Clock C.Console outside.old outside.new) }
+    ensures same { AreSame outside.old outside.new }
 {
     let CheckedCommand {
         command,
@@ -69,10 +60,16 @@ fn run<D: Site, K: Clock, C: Console>(
         let ending = Ending::NoMemory;
         return Ended { ending, heard };
     };
-    let moment = clock.now_ms();
-    let heard = say_line(console, &ready.opening, heard);
+    let moment = outside.clock.now_ms();
+    let heard = say_line(outside.console, &ready.opening, heard);
     let job = make_job(ready, command, names, heading, moment, heard);
-    let closed = run_generate(job, &mut buffer, site, clock, console);
+    let closed = run_generate(
+        job,
+        &mut buffer,
+        outside.site,
+        outside.clock,
+        outside.console,
+    );
     Ended {
         ending: answer(closed.end),
         heard: closed.heard,
@@ -116,11 +113,5 @@ pub fn generate<S: Source, D: Site, K: Clock, C: Console>(
         map,
         end,
     };
-    Ok(run(
-        checked,
-        loaded,
-        outside.site,
-        outside.clock,
-        outside.console,
-    ))
+    Ok(run(checked, loaded, outside))
 }

@@ -32,6 +32,13 @@ pub enum Left {
 /// The byte that is found where any may be.
 const ANY: u8 = 0x5A;
 
+/// Bytes that are written at a position.
+#[derive(Clone, Copy)]
+struct Written<'a> {
+    pos: u64,
+    piece: &'a [u8],
+}
+
 /// An absent file is made.
 fn open(
     left: &mut MemoryFolder,
@@ -79,18 +86,18 @@ fn write_on(
     reads: &MemoryFolder,
     alloc: Global,
     image: &[u8],
-    pos: u64,
-    piece: &[u8],
+    written: Written<'_>,
     garbage: bool,
 ) -> Result<(), AllocError>
     ensures { OnOk result ((folder_of left.new).files ≡ put (folder_of left.old).files image.now
         (written_on garbage ((folder_of reads.now).files image.now) ((folder_of left.old).files image.now)
-        pos piece.now)) }
+        written.entry.pos written.entry.piece.now)) }
 {
     let Some(size) = size_to_write(left, reads, image) else {
         return Ok(());
     };
-    let pos = pos as usize;
+    let pos = written.pos as usize;
+    let piece = written.piece;
     if !fits(pos, piece.len()) {
         return Err(AllocError);
     }
@@ -107,18 +114,18 @@ fn write(
     left: &mut MemoryFolder,
     reads: &MemoryFolder,
     alloc: Global,
-    pos: u64,
-    piece: &[u8],
+    written: Written<'_>,
     garbage: bool,
 ) -> Result<(), AllocError>
     ensures { OnOk result ((folder_of left.new).files ≡ with_some (folder_of reads.now).image
-        (λ n. written_on garbage ((folder_of reads.now).files n) ((folder_of left.old).files n) pos piece.now)
+        (λ n. written_on garbage ((folder_of reads.now).files n) ((folder_of left.old).files n)
+        written.entry.pos written.entry.piece.now)
         (folder_of left.old).files) }
 {
     let Some(image) = &reads.image else {
         return Ok(());
     };
-    write_on(left, reads, alloc, image.as_slice(), pos, piece, garbage)
+    write_on(left, reads, alloc, image.as_slice(), written, garbage)
 }
 
 /// The draft's file with one more piece.
@@ -228,7 +235,13 @@ fn leave_made(
 {
     match act {
         Act::ImageOpen(name, make) => open(left, reads, alloc, name.as_slice(), *make),
-        Act::ImageWrite(pos, piece) => write(left, reads, alloc, *pos, piece.as_slice(), garbage),
+        Act::ImageWrite(pos, piece) => {
+            let written = Written {
+                pos: *pos,
+                piece: piece.as_slice(),
+            };
+            write(left, reads, alloc, written, garbage)
+        }
         Act::DraftBegin(name) => begin(left, alloc, name.as_slice()),
         Act::DraftAppend(piece) => append(left, reads, alloc, piece.as_slice()),
         Act::DraftPublish(name) => publish(left, reads, alloc, firm, name.as_slice(), garbage),

@@ -1,6 +1,5 @@
-use Rattle.std.proofs.Common.{ap, rules}
 use Rattle.ddrescue_cli.proofs.MadeLemmas.{sample_said}
-use Rattle.ddrescue_cli.proofs.TaskLemmas.{said_after, files_job, sample_job, is_checked, named_by_checked, never_sampled, never_twice}
+use Rattle.ddrescue_cli.proofs.TaskLemmas.{files_job, sample_job, is_checked, named_by_checked, never_sampled, never_twice}
 use Rattle.ddrescue_cli.proofs.rescue.work.Goals as goal
 
 pub work_on-requires-clause-checked : goal.work_on-requires-clause-checked
@@ -13,12 +12,8 @@ work_on-requires-clause-named g c =
 
 pub returns-in-Ok-Files-clause-said : goal.returns-in-Ok-Files-clause-said
 returns-in-Ok-Files-clause-said g c =
-    let new = c.work_on.new.outside in
-    said_after c.args.words.now _ _ _ _ _ _ _ _ _ _ _ (ap g.S.Source.state {x = new.source.now} (search rules))
-    (ap g.D.Site.state {x = new.site.now} (search rules)) (ap g.K.Clock.state {x = new.clock.now} (search rules))
-    (ap g.C.Console.state {x = new.console.now} (search rules))
-    (c.work_on.ensures.said c.args.words.now
-    (files_job c.args.words.now _ _ _ c.in-Ok-Files.field-0-is c.in-Ok-Files.ensures.job))
+    c.work_on.ensures.said c.args.words.now
+    (files_job c.args.words.now _ _ _ c.in-Ok-Files.field-0-is c.in-Ok-Files.ensures.job)
 
 pub returns-in-Ok-Files-clause-untouched : goal.returns-in-Ok-Files-clause-untouched
 returns-in-Ok-Files-clause-untouched g c = λ fault refused.

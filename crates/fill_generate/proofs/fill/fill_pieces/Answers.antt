@@ -2,6 +2,7 @@ use Rattle.std.specs.Prelude.{⊤}
 use Rattle.std.proofs.Common.{Err, refl, sym, ap, ◌∙◌}
 use Rattle.std.proofs.lemmas.Result.{err_from_is_err_and}
 use Rattle.sweep_rules.specs.Sweep.{filler}
+use Rattle.rescue_core.proofs.ObjectLemmas.{same_on}
 use Rattle.fill_generate.specs.SweepState.{SweepState, setting_of}
 use Rattle.fill_generate.proofs.TellLemmas.{objects_self, objects_stay}
 use Rattle.fill_generate.proofs.PieceLemmas.{fills_is}
@@ -15,6 +16,7 @@ pieces-init g c = (
   λ types is. begins _ _ _ _ _ _ _ _,
   c.requires.no_draft,
   objects_self _ _ _ c.requires.image,
+  record { source = refl; site = refl; clock = refl; console = refl },
 )
 
 pub fill_piece-requires-clause-room : goal.fill_piece-requires-clause-room
@@ -30,13 +32,14 @@ pieces-preserved g c = (
       (c.in_ok-fill_piece.ensures.ends types (ap (λ (q : SweepState). q.mode) c.pieces.invariant.0 ∙ is))),
   c.in_ok-fill_piece.ensures.draft,
   objects_stay _ _ _ _ _ _ _ _ _ c.pieces.invariant.3 c.in_ok-fill_piece.ensures.objects,
+  same_on c.pieces.invariant.4 c.fill_piece.ensures.same,
 )
 
 pub pieces-smaller : goal.pieces-smaller
 pieces-smaller g c = less_ahead _ c.fill_piece.new.sweeping _ c.in-Some.ensures.some c.in_ok-fill_piece.ensures.passed
 
-pub returns-in_err-fill_piece : goal.returns-in_err-fill_piece
-returns-in_err-fill_piece g c types is =
+pub returns-in_err-fill_piece-clause-ends : goal.returns-in_err-fill_piece-clause-ends
+returns-in_err-fill_piece-clause-ends g c types is =
     let r = c.args.sweeping.now in
     let buffer = c.args.buffer.now in
     let q = err_from_is_err_and c.from_residual.result c.from_residual.ensures.1 in
@@ -48,8 +51,8 @@ returns-in_err-fill_piece g c types is =
     (c.in_err-fill_piece.ensures.ends types (ap (λ (q : SweepState). q.mode) c.pieces.invariant.0 ∙ is)))
     (q.1 ∙ ap (λ e. Err e) q.2)
 
-pub returns : goal.returns
-returns g c types is =
+pub returns-clause-ends : goal.returns-clause-ends
+returns-clause-ends g c types is =
     let r = c.args.sweeping.now in
     let buffer = c.args.buffer.now in
     pieces_out (λ e. ⊤) (filler (setting_of r) types buffer) r _ _ _ _ _ _ _ _ c.pieces.invariant.0

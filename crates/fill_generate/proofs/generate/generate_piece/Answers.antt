@@ -15,7 +15,7 @@ returns-clause-ends g c =
 pub returns-in_err-look_up-clause-ends : goal.returns-in_err-look_up-clause-ends
 returns-in_err-look_up-clause-ends g c =
     let q = err_from_is_err_and c.from_residual.result c.from_residual.ensures.1 in
-    looks_not (IsLookedUp (setting_of c.args.sweeping.now) (g.D.Site.state c.args.site.now)) c.args.sweeping.now _ c.args.piece _
+    looks_not (IsLookedUp (setting_of c.args.sweeping.now) (g.D.Site.state c.args.outside.now.site.now)) c.args.sweeping.now _ c.args.piece _
     c.from_residual.result _ _ _ _ c.requires.generates c.requires.found c.in_err-look_up.ensures.failed
     c.in_err-look_up.ensures.stopped c.in_err-look_up.ensures.site c.requires.no_draft c.requires.image
     (q.1 ∙ ap (λ e. Err e) q.2)

@@ -1,6 +1,7 @@
 use Rattle.std.proofs.Common.{Err, refl, sym, ap, ◌∙◌}
 use Rattle.std.proofs.lemmas.Result.{err_from_is_err_and}
 use Rattle.sweep_rules.specs.Sweep.{generator}
+use Rattle.rescue_core.proofs.ObjectLemmas.{same_on}
 use Rattle.fill_generate.specs.SweepState.{SweepState, setting_of}
 use Rattle.fill_generate.specs.Steps.{IsLookedUp}
 use Rattle.fill_generate.proofs.TellLemmas.{objects_self, objects_stay}
@@ -16,6 +17,7 @@ pieces-init g c = (
   begins _ _ _ _ _ _ _ _,
   c.requires.no_draft,
   objects_self _ _ _ c.requires.image,
+  record { source = refl; site = refl; clock = refl; console = refl },
 )
 
 pub generate_piece-requires-clause-generates : goal.generate_piece-requires-clause-generates
@@ -29,7 +31,7 @@ generate_piece-requires-clause-room g c =
 pub pieces-preserved : goal.pieces-preserved
 pieces-preserved g c =
     let r = c.args.sweeping.now in
-    let site = g.D.Site.state c.args.site.now in
+    let site = g.D.Site.state c.args.outside.now.site.now in
     let ends = c.in_ok-generate_piece.ensures.ends in (
       gone_on c.args.sweeping.now _ _ c.pieces.invariant.0 ends.stands,
       c.in_ok-generate_piece.ensures.room ∙ c.pieces.invariant.1,
@@ -39,15 +41,16 @@ pieces-preserved g c =
           ends),
       ends.no_draft,
       objects_stay _ _ _ _ _ _ _ _ _ c.pieces.invariant.4 ends.objects,
+      same_on c.pieces.invariant.5 c.generate_piece.ensures.same,
     )
 
 pub pieces-smaller : goal.pieces-smaller
 pieces-smaller g c = less_ahead _ c.generate_piece.new.sweeping _ c.in-Some.ensures.some c.in_ok-generate_piece.ensures.ends.passed
 
-pub returns-in_err-generate_piece : goal.returns-in_err-generate_piece
-returns-in_err-generate_piece g c =
+pub returns-in_err-generate_piece-clause-ends : goal.returns-in_err-generate_piece-clause-ends
+returns-in_err-generate_piece-clause-ends g c =
     let r = c.args.sweeping.now in
-    let site = g.D.Site.state c.args.site.now in
+    let site = g.D.Site.state c.args.outside.now.site.now in
     let q = err_from_is_err_and c.from_residual.result c.from_residual.ensures.1 in
     pieces_halt (IsLookedUp (setting_of r) site) (generator (setting_of r)) r _ c.generate_piece.new.sweeping _ _ _ _ _ _ _ _ _ _ _ _
     c.pieces.invariant.0 c.pieces.invariant.4
@@ -56,10 +59,10 @@ returns-in_err-generate_piece g c =
     (looks_since _ _ r _ _ _ _ _ _ _ _ _ c.pieces.invariant.0 c.pieces.invariant.4 c.pieces.invariant.2
     c.in_err-generate_piece.ensures.ends) (q.1 ∙ ap (λ e. Err e) q.2)
 
-pub returns : goal.returns
-returns g c =
+pub returns-clause-ends : goal.returns-clause-ends
+returns-clause-ends g c =
     let r = c.args.sweeping.now in
-    let site = g.D.Site.state c.args.site.now in
+    let site = g.D.Site.state c.args.outside.now.site.now in
     pieces_out (IsLookedUp (setting_of r) site) (generator (setting_of r)) r _ _ _ _ _ _ _ _ c.pieces.invariant.0
     (generates_is r (setting_of r) c.requires.generates) c.in_default.ensures.none c.pieces.invariant.2 c.pieces.invariant.3
     c.pieces.invariant.4

@@ -7,7 +7,6 @@ use Rattle.task_files.specs.declared.ending.Which.TheVariants.{DomainMap}
 use Rattle.task_files.proofs.CauseLemmas.{causes_after, load_causes, load_leaves, map_causes, map_drafts, output_causes, output_leaves}
 use Rattle.task_files.proofs.OpenedLemmas.{not_opened}
 use Rattle.task_sweeps.proofs.PatternLemmas.{pattern_causes, pattern_leaves}
-use Rattle.task_sweeps.proofs.SweptEnds.{cause_after}
 use Rattle.task_sweeps.proofs.FilledLemmas.{takes_as, takes_into, fill_unread, fill_unopened, fill_unpatterned, fill_output, fill_load, fill_unplaced, fill_goes}
 use Rattle.task_sweeps.proofs.fill.fill.Goals as goal
 
@@ -143,7 +142,8 @@ returns-clause-worked g c =
     })
     (c.load.ensures.site.keeps.tells ∙ c.open_output.ensures.keeps.tells) c.end-top.result c.end-top.ensures.end
     c.run.result.heard c.run.result.ending
-    (g.D.Site.state c.run.new.site) (g.K.Clock.state c.run.new.clock) (g.C.Console.state c.run.new.console)
+    (g.S.Source.state c.run.new.outside.source.now) (g.D.Site.state c.run.new.outside.site.now)
+    (g.K.Clock.state c.run.new.outside.clock.now) (g.C.Console.state c.run.new.outside.console.now)
     (c.if-not-places_fit.ensures.fit refl) (c.run.ensures.ran None)
 
 pub returns-in_err-domain_map-clause-leaves : goal.returns-in_err-domain_map-clause-leaves
@@ -235,15 +235,16 @@ returns-then-not-places_fit-clause-leaves g c = record {
 
 pub returns-clause-leaves : goal.returns-clause-leaves
 returns-clause-leaves g c = record {
-  cause = cause_after _ (g.S.Source.state c.args.outside.now.source.now) (g.S.Source.state c.read_pattern.new.source)
-      (g.D.Site.state c.args.outside.now.site.now) (g.D.Site.state c.load.new.site) (g.D.Site.state c.run.new.site)
-      (c.read_pattern.ensures.source.faults ∙ c.in-Ok.ensures.call.kept) (c.in_ok-buffer.ensures.cause.losses ∙
-      c.open_input.ensures.call.losses) (c.in_ok-map.ensures.kept ∙ c.in_ok-open_output.ensures.kept ∙
-      c.in_ok-domain_map.ensures.kept) c.run.ensures.cause;
-  draft = c.run.ensures.draft;
-  source = keeps_more (g.S.Source.state c.args.outside.now.source.now) (g.S.Source.state c.open_input.new.self)
-      (g.S.Source.state c.read_pattern.new.source) c.open_input.ensures.call.keeps c.read_pattern.ensures.source.keeps;
+  cause = causes_after _ _ _ _ _ _ _ (c.read_pattern.ensures.source.faults ∙ c.in-Ok.ensures.call.kept)
+      (c.in_ok-buffer.ensures.cause.losses ∙ c.open_input.ensures.call.losses)
+      (c.in_ok-map.ensures.kept ∙ c.in_ok-open_output.ensures.kept ∙ c.in_ok-domain_map.ensures.kept)
+      c.run.ensures.leaves.cause;
+  draft = c.run.ensures.leaves.draft;
+  source = keeps_more (g.S.Source.state c.args.outside.now.source.now) (g.S.Source.state c.open_input.new.self) _
+      c.open_input.ensures.call.keeps
+      (keeps_more _ (g.S.Source.state c.read_pattern.new.source) _ c.read_pattern.ensures.source.keeps
+      c.run.ensures.leaves.source);
   site = site_keeps_more _ _ _ c.in_ok-domain_map.ensures.site.keeps (site_keeps_more _ _ _ c.open_output.ensures.keeps
-      (site_keeps_more _ _ _ c.load.ensures.site.keeps c.run.ensures.site));
-  clock = c.run.ensures.clock;
+      (site_keeps_more _ _ _ c.load.ensures.site.keeps c.run.ensures.leaves.site));
+  clock = c.run.ensures.leaves.clock;
 }

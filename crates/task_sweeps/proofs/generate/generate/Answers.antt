@@ -1,12 +1,11 @@
 use Rattle.std.proofs.Common.{None, refl, sym, ◌∙◌}
 use Rattle.std.proofs.lemmas.Result.{err_from_is_err_and}
-use Rattle.faulty_source.proofs.Keeping.{keeps_self}
+use Rattle.faulty_source.proofs.Keeping.{keeps_self, keeps_more}
 use Rattle.mapfile_save.proofs.FillLemmas.{keeps_more as site_keeps_more}
 use Rattle.ddrescue_words.specs.Asking.{told_by}
 use Rattle.task_files.specs.declared.ending.Which.TheVariants.{DomainMap}
 use Rattle.task_files.proofs.CauseLemmas.{causes_after, load_causes, load_leaves, map_causes, map_drafts, output_causes, output_leaves}
 use Rattle.task_files.proofs.OpenedLemmas.{not_opened}
-use Rattle.task_sweeps.proofs.SweptEnds.{cause_after}
 use Rattle.task_sweeps.proofs.GeneratedLemmas.{generate_unread, generate_unopened, generate_output, generate_load, generate_unplaced, generate_goes}
 use Rattle.task_sweeps.proofs.generate.generate.Goals as goal
 
@@ -108,7 +107,8 @@ returns-clause-worked g c =
       loads = c.in_ok-map.ensures.loaded;
     })
     (c.load.ensures.site.keeps.tells ∙ c.open_output.ensures.keeps.tells) c.run.result.heard c.run.result.ending
-    (g.D.Site.state c.run.new.site) (g.K.Clock.state c.run.new.clock) (g.C.Console.state c.run.new.console)
+    (g.S.Source.state c.run.new.outside.source.now) (g.D.Site.state c.run.new.outside.site.now)
+    (g.K.Clock.state c.run.new.outside.clock.now) (g.C.Console.state c.run.new.outside.console.now)
     c.requires.named c.load.ensures.site.keeps
     (c.if-not-places_fit.ensures.fit refl) (c.run.ensures.ran None)
 
@@ -161,13 +161,13 @@ returns-in_err-map-clause-leaves g c =
 
 pub returns-clause-leaves : goal.returns-clause-leaves
 returns-clause-leaves g c = record {
-  cause = cause_after _ (g.S.Source.state c.args.outside.now.source.now) (g.S.Source.state c.open_input.new.self)
-      (g.D.Site.state c.args.outside.now.site.now) (g.D.Site.state c.load.new.site) (g.D.Site.state c.run.new.site)
-      c.in-Ok.ensures.call.kept c.open_input.ensures.call.losses (c.in_ok-map.ensures.kept ∙
-      c.in_ok-open_output.ensures.kept ∙ c.in_ok-domain_map.ensures.kept) c.run.ensures.cause;
-  draft = c.run.ensures.draft;
-  source = c.open_input.ensures.call.keeps;
+  cause = causes_after _ _ _ _ _ _ _ c.in-Ok.ensures.call.kept c.open_input.ensures.call.losses
+      (c.in_ok-map.ensures.kept ∙ c.in_ok-open_output.ensures.kept ∙ c.in_ok-domain_map.ensures.kept)
+      c.run.ensures.leaves.cause;
+  draft = c.run.ensures.leaves.draft;
+  source = keeps_more _ (g.S.Source.state c.open_input.new.self) _ c.open_input.ensures.call.keeps
+      c.run.ensures.leaves.source;
   site = site_keeps_more _ _ _ c.in_ok-domain_map.ensures.site.keeps (site_keeps_more _ _ _ c.open_output.ensures.keeps
-      (site_keeps_more _ _ _ c.load.ensures.site.keeps c.run.ensures.site));
-  clock = c.run.ensures.clock;
+      (site_keeps_more _ _ _ c.load.ensures.site.keeps c.run.ensures.leaves.site));
+  clock = c.run.ensures.leaves.clock;
 }

@@ -13,7 +13,7 @@ use Rattle.task_files.specs.Maps.{Found, found_in, seen_through}
 
 -- The files that the rescue's steps found, the input's length, and what the maps say. What the rescue did: opens of the
 -- input, calls on the files, reads as they are seen by the maps, readings of the clock, and the lines that it puts.
-pub record Outside : Type 0 where
+pub record Findings : Type 0 where
   pub found : Found
   pub end : ℕ
   pub maps : Maps
