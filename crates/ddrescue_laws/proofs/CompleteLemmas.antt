@@ -27,7 +27,7 @@ use Rattle.ddrescue_words.specs.Command.{Command, Rescue}
 use Rattle.task_files.specs.declared.ending.Ending.{Ending}
 use Rattle.task_files.specs.declared.ending.Ending.TheVariants.{SourceFault, SourceLost, SiteFault, NoMemory}
 use Rattle.task_files.specs.Answers.{Causes, failure_after}
-use Rattle.task_files.specs.Outside.{Outside}
+use Rattle.task_files.specs.Findings.{Findings}
 use Rattle.ddrescue_cli.specs.Tasks.{with_did}
 use Rattle.ddrescue_cli.specs.Told.{Told}
 use Rattle.ddrescue_cli.specs.ToldParts.{asked_of}
@@ -93,7 +93,7 @@ ran_itself o s statuses state lines e g set (inr ran) v =
 passed_itself : (t : Told) (c : Command) (p : TaskDone (Rescue c) t) → NothingIsRefused c (with_did p.outside p.did) → IsNoFault t.answer
     → IsDoneOrLimited c.options t.answer
 passed_itself t c p pass v =
-    let o : Outside = with_did p.outside p.did in
+    let o : Findings = with_did p.outside p.did in
     let run : Ending → Deeds → Type 0 = Rescues (asked_of c t o) o.found.mapfile o.lines in
     let ran : (did : Deeds) × run t.answer did =
     goes_to_run rescue_faults IsNoFault no_faults (rescue_rows c o.found o.end) run pass t.answer o.did p.work v in

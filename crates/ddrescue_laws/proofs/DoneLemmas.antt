@@ -38,7 +38,7 @@ use Rattle.rescue_rules.specs.declared.stop.Stop.TheVariants.{SourceLost as Inpu
 use Rattle.rescue_rules.specs.declared.stop.RunEnd.{RunEnd}
 use Rattle.rescue_rules.specs.Work.{Gain, begins, events_in, opening_calls, mapfile_in, IsLoadOf, AreMapReads, EndsBy, end_of, Ends, IsSaved as RunSaved, IsUnsaved, IsBroken}
 use Rattle.rescue_rules.specs.StopsBy.{KeepsOver, StopsBy, IsKept, is_publish, published, IsSave, saves_of}
-use Rattle.rescue_rules.specs.Stops.{has_barrier, is_settle, returned, files_before, files_after, opened_output}
+use Rattle.rescue_rules.specs.Stops.{has_barrier, is_settle, returned, files_before, files_after}
 use Rattle.task_files.specs.declared.ending.Ending.{Ending}
 use Rattle.task_files.specs.declared.ending.Ending.TheVariants.{Done, SameName, SourceLost, SiteFault, NoMemory, LimitMet}
 use Rattle.ddrescue_words.specs.Command.{Command, Rescue}
@@ -53,7 +53,7 @@ use Rattle.ddrescue_cli.specs.Told.{Told, calls_before}
 use Rattle.ddrescue_cli.specs.ToldParts.{files_of, asked_of}
 use Rattle.program_promise.specs.Work.{Deeds, Works, with_calls, with_opens}
 use Rattle.task_files.specs.Maps.{Found, found_in, mapfile_of}
-use Rattle.task_files.specs.Outside.{Outside}
+use Rattle.task_files.specs.Findings.{Findings}
 use Rattle.task_files.specs.Work.{answer_of, Rescues, RunsOver, rescue_faults, rescue_rows, worked_rows, barrier_of}
 use Rattle.ddrescue_cli.specs.Ddrescue.{TaskDone, Ddrescue}
 use Rattle.ddrescue_laws.specs.Laws.{outside_by, setting_promised, done_by, HoldsAtEnd, LeavesRescued, DoneIsSaved, machine_reached}
@@ -63,6 +63,7 @@ use Rattle.ddrescue_cli.proofs.GoesLemmas.{setting_by, opened, settled}
 use Rattle.ddrescue_laws.proofs.CountLemmas.{dues, run_entries, settles_once_more, publishes_each}
 use Rattle.program_promise.proofs.FrontLemmas.{IsMapRead, load_reads, reads_stand, made_both}
 use Rattle.ddrescue_laws.proofs.ReadLemmas.{settles_after, publishes_after, barrier_after}
+use Rattle.rescue_rules.proofs.BarrierLemmas.{opened_bytes}
 
 -- the files as they read after all calls that a record gained
 reads_after : (t : Told) (gained : List Entry) → t.after.site.start ≡ t.before.site.start
@@ -72,10 +73,6 @@ reads_after t gained started grew =
     ap (files_after (calls_before t)) (take-length gained)
     ∙ ap (λ (calls : List Entry). (after t.before.site.start calls).files) (sym grew)
     ∙ ap (λ (start : Folder). (after start t.after.site.calls).files) (sym started)
-
-opened_bytes : (o : Option File) → (opened_output o).bytes ≡ bytes_of o
-opened_bytes None = refl
-opened_bytes (Some f) = refl
 
 -- what a run keeps at its end of the files as they read, over the output as it read before
 abbrev pub KeepsAtEnd : (List Status → Option MapState → List Snapshot)
@@ -182,7 +179,7 @@ opening_by : (c : Command) (mapfile : Option (List ℕ)) (line : List ℕ) (end 
 opening_by c None line end maps = refl
 opening_by c (Some n) line end maps = refl
 
-file_in : (c : Command) (mapfile : Option (List ℕ)) (line : List ℕ) (end : ℕ) (maps : Maps) (files : List ℕ → Option File)
+pub file_in : (c : Command) (mapfile : Option (List ℕ)) (line : List ℕ) (end : ℕ) (maps : Maps) (files : List ℕ → Option File)
     → file_named mapfile files ≡ mapfile_in (setting_by c (option_map names_of mapfile) line end maps) files
 file_in c None line end maps files = refl
 file_in c (Some n) line end maps files = refl
@@ -372,7 +369,7 @@ left_with t c d asks tells r on =
 -- what words ask for is sensible
 asked_sensible : (t : Told) (c : Command) (d : Ddrescue t) (asks : Asks t.words c) → IsSensible (setting_promised d asks)
 asked_sensible t c d asks =
-    let o : Outside = outside_by d asks in
+    let o : Findings = outside_by d asks in
     sensible_to c t.words (command_line program_name t.words) o.end o.maps asks
 
 -- a rescue's run begins in order
@@ -444,7 +441,7 @@ finished_by t c d asks tells w =
 pub done_is_saved : DoneIsSaved
 done_is_saved t c d asks tells is =
     let p : TaskDone (Rescue c) t = d.does.asked_for (Rescue c) asks in
-    let o : Outside = with_did p.outside p.did in
+    let o : Findings = with_did p.outside p.did in
     finished_by t c d asks tells
     (done_works c (command_line program_name t.words) o.end o.maps (files_of t) o.lines t.answer o.did (sym is)
     (subst

@@ -15,7 +15,7 @@ use Rattle.ddrescue_cli.specs.Ddrescue.{TaskDone}
 use Rattle.ddrescue_laws.specs.Laws.{GivenIsInput}
 
 -- a byte of a range of a list
-of_range : (bytes : List ℕ) (p q k v : ℕ) → slice_get (slice_range bytes p q) k ≡ Some v
+pub of_range : (bytes : List ℕ) (p q k v : ℕ) → slice_get (slice_range bytes p q) k ≡ Some v
     → slice_get bytes (p + k) ≡ Some v
 of_range bytes p q k v is =
     let within : k < length (take (q - p) (drop p bytes)) = slice_get_within (take (q - p) (drop p bytes)) k v is in
@@ -35,7 +35,7 @@ of_read bytes r x v own from is =
     subst Q here (of_range bytes r.pos (r.pos + length r.given) (x - r.pos) v (subst P own is))
 
 -- where a later read gave a byte, that is given
-later_given : (b : ℕ) (r : Reading) (rs : List Reading) (x v w : ℕ) → given b rs x ≡ Some w
+pub later_given : (b : ℕ) (r : Reading) (rs : List Reading) (x v w : ℕ) → given b rs x ≡ Some w
     → given b (r ∷ rs) x ≡ Some v → given b rs x ≡ Some v
 later_given b r rs x v w later is =
     let one : given b (r ∷ rs) x ≡ Some w =

@@ -41,7 +41,7 @@ use Rattle.ddrescue_laws.specs.InputRead.{HasRead, IsBeforeReads, IsOfOpening}
 use Rattle.task_files.specs.Names.{program_name}
 use Rattle.ddrescue_cli.specs.Tasks.{with_did}
 use Rattle.ddrescue_cli.specs.ToldParts.{asked_of}
-use Rattle.task_files.specs.Outside.{Outside, HasGainedReads}
+use Rattle.task_files.specs.Findings.{Findings, HasGainedReads}
 use Rattle.ddrescue_cli.specs.Ddrescue.{TaskDone}
 use Rattle.ddrescue_laws.specs.Laws.{ReadsAreARun}
 use Rattle.task_files.specs.Work.{Rescues, rescue_faults, rescue_rows, worked_rows, answer_of}
@@ -207,7 +207,7 @@ has_map (Some name) = refl
 pub reads_are_a_run : ReadsAreARun
 reads_are_a_run t c d asks tells =
     let p : TaskDone (Rescue c) t = d.does.asked_for (Rescue c) asks in
-    let o : Outside = with_did p.outside p.did in
+    let o : Findings = with_did p.outside p.did in
     let s : Setting = asked_of c t o in
     works_so c o.found o.end s o.maps.test t.before.source t.after.source t.answer o.lines o.did
     (sensible_to c t.words (command_line program_name t.words) o.end o.maps asks) (has_map c.mapfile) p.work

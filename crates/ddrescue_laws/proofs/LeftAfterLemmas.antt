@@ -27,7 +27,7 @@ use Rattle.ddrescue_laws.specs.InputRead.{IsBeforeReads}
 use Rattle.ddrescue_laws.specs.LeftAfter.{names_maps, AllStand, made_of, OutputMade, IsAfterOutput, IsMapReadFault, IsOpenFault, IsLeft}
 use Rattle.ddrescue_cli.specs.Tasks.{with_did}
 use Rattle.ddrescue_cli.specs.ToldParts.{files_of, asked_of}
-use Rattle.task_files.specs.Outside.{Outside}
+use Rattle.task_files.specs.Findings.{Findings}
 use Rattle.task_files.specs.Work.{Rescues, answer_of, rescue_faults, rescue_rows, barrier_of}
 use Rattle.ddrescue_cli.specs.Ddrescue.{TaskDone}
 use Rattle.ddrescue_laws.specs.Laws.{FilesAreLeft}
@@ -339,7 +339,7 @@ leaves_steps c here end run ends late =
 pub files_are_left : FilesAreLeft
 files_are_left t c d asks tells =
     let p : TaskDone (Rescue c) t = d.does.asked_for (Rescue c) asks in
-    let o : Outside = with_did p.outside p.did in
+    let o : Findings = with_did p.outside p.did in
     let here : Folder = after t.before.site.start t.before.site.calls in
     let found : Found = found_in c (files_of t) in
     let run : Ending → Deeds → Type 0 = Rescues (asked_of c t o) found.mapfile o.lines in

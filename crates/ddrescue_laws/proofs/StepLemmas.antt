@@ -9,7 +9,7 @@ use Rattle.ddrescue_words.specs.Command.{Command, Rescue}
 use Rattle.task_files.specs.declared.ending.Ending.{Ending}
 use Rattle.task_files.specs.declared.ending.Ending.TheVariants.{SameName, SourceFault, SiteFault, NoMemory}
 use Rattle.task_files.specs.Maps.{Found}
-use Rattle.task_files.specs.Outside.{Outside}
+use Rattle.task_files.specs.Findings.{Findings}
 use Rattle.ddrescue_cli.specs.Tasks.{with_did}
 use Rattle.ddrescue_cli.specs.ToldParts.{asked_of}
 use Rattle.task_files.specs.Work.{Rescues, rescue_faults, rescue_rows, worked_rows}
@@ -70,6 +70,6 @@ works_own c found end run e d call earlier late is (inr (inr (passed, w))) =
 pub faults_are_of_steps : FaultsAreOfSteps
 faults_are_of_steps t c d call earlier asks is =
     let p : TaskDone (Rescue c) t = d.does.asked_for (Rescue c) asks in
-    let o : Outside = with_did p.outside p.did in
+    let o : Findings = with_did p.outside p.did in
     works_own c o.found o.end (Rescues (asked_of c t o) o.found.mapfile o.lines) t.answer o.did call earlier
     (rescue_late (asked_of c t o) o.found.mapfile o.lines) is p.work

@@ -140,10 +140,6 @@ generate_untimed c found input_end s pieces end lines e d b w =
 
 -- ---- and no settle failed
 
-neither : (a b : Bool) → a ≡ false → b ≡ false → (a || b) ≡ false
-neither true b off rest = absurd (cc)
-neither false b off rest = rest
-
 settled_both : (xs ys : List Entry) → has_unsettled xs ≡ false → has_unsettled ys ≡ false
     → has_unsettled (xs ++ ys) ≡ false
 settled_both [] ys a b = b
@@ -163,16 +159,7 @@ settled_all (c ∷ calls) = settled_all calls
 settled_lost : (at : SiteCall) (c : Call) (steps : ℕ) → IsOfOpening at → at ≡ call_name c
     → has_unsettled (Failed c steps ∷ []) ≡ false
 settled_lost at (map_settle name) steps of is = absurd (subst IsOfOpening is of)
-settled_lost at (image_open name make) steps of is = refl
-settled_lost at (image_read pos asked answer) steps of is = refl
-settled_lost at (image_write pos piece) steps of is = refl
-settled_lost at image_sync steps of is = refl
-settled_lost at (map_read name pos asked answer) steps of is = refl
-settled_lost at (draft_begin name) steps of is = refl
-settled_lost at (draft_append piece) steps of is = refl
-settled_lost at draft_sync steps of is = refl
-settled_lost at (draft_publish name) steps of is = refl
-settled_lost at (map_remove name) steps of is = refl
+settled_lost at _ steps of is = refl
 
 settled_broke : (at : SiteCall) (calls : List Call) (old new : List Entry) → IsOfOpening at → BrokeAt at calls old new
     → has_unsettled old ≡ false → has_unsettled new ≡ false

@@ -73,10 +73,7 @@ ended s w m es calls end is (IsBroken before last call split same broke) =
 out_by : (end : RunEnd) → Done ≡ answer_of end → has_swept_out end ≡ true
 out_by Finished is = refl
 out_by (Stopped InputLost) is = absurd (cc)
-out_by (Stopped (Site call)) is = absurd (cc)
-out_by (Stopped (Limited limit)) is = absurd (cc)
-out_by (Stopped NoRoom) is = absurd (cc)
-out_by (SaveFailed call earlier) is = absurd (cc)
+out_by _ is = absurd (cc)
 
 -- no row stops as work that is done
 pub undone_by : (rows : List (WorkStep Ending)) (e : Ending) → (IsRefused rows e → e ≡ Done → ⊥) → e ≡ Done

@@ -30,7 +30,7 @@ use Rattle.ddrescue_words.proofs.CommandLemmas.{reading_asks}
 use Rattle.task_files.specs.declared.ending.Ending.TheVariants.{Done}
 use Rattle.task_files.specs.Names.{program_name}
 use Rattle.task_files.specs.Maps.{Found}
-use Rattle.task_files.specs.Outside.{Outside}
+use Rattle.task_files.specs.Findings.{Findings}
 use Rattle.ddrescue_cli.specs.Tasks.{with_did}
 use Rattle.ddrescue_cli.specs.Told.{Told, calls_before}
 use Rattle.ddrescue_cli.specs.ToldParts.{files_of, asked_of}
@@ -59,9 +59,6 @@ module _ (t : Told) (s : Setting) (w : Sweeper) (pieces : List Swept) (end : Run
 
   abbrev last : Snapshot
   last = sweep_end true swept_out
-
-  abbrev all_calls : List Call
-  all_calls = whole_calls s w h.maps h.load begun pieces last
 
   barrier : has_barrier (take (length calls) calls) ≡ true
   barrier =
@@ -128,7 +125,7 @@ module _ (t : Told) (s : Setting) (w : Sweeper) (pieces : List Swept) (end : Run
 
 module _ (t : Told) (types : TypeSet) (c : Command) (d : Ddrescue t) (p : TaskDone (Fill types c) t)
     (tells : IsTrue t.before.site.tells) (has : HasMapfile c) (is : t.answer ≡ Done) where
-  abbrev o : Outside
+  abbrev o : Findings
   o = with_did p.outside p.did
 
   abbrev s : Setting
@@ -216,7 +213,7 @@ done_is_filled t types c d asks tells is =
 
 module _ (t : Told) (c : Command) (d : Ddrescue t) (p : TaskDone (Generate c) t) (tells : IsTrue t.before.site.tells)
     (has : HasMapfile c) (is : t.answer ≡ Done) where
-  abbrev a : Outside
+  abbrev a : Findings
   a = with_did p.outside p.did
 
   abbrev z : Setting

@@ -25,7 +25,7 @@ use Rattle.ddrescue_words.specs.Command.{Command, Fill, Generate}
 use Rattle.task_files.specs.declared.ending.Ending.{Ending}
 use Rattle.task_files.specs.declared.ending.Ending.TheVariants.{Done, SourceFault, SourceLost, PatternUnread, SameName, SiteFault, NoMemory}
 use Rattle.task_files.specs.Maps.{Found}
-use Rattle.task_files.specs.Outside.{Outside}
+use Rattle.task_files.specs.Findings.{Findings}
 use Rattle.ddrescue_cli.specs.Tasks.{with_did}
 use Rattle.ddrescue_cli.specs.ToldParts.{asked_of}
 use Rattle.task_files.specs.Refusals.{NamesRefused}
@@ -187,7 +187,7 @@ fill_called c found input_end call earlier at is (inr none) = absurd none
 pub fill_faults_are_of_steps : FillFaultsAreOfSteps
 fill_faults_are_of_steps t types c d call earlier asks is =
     let p : TaskDone (Fill types c) t = promised_fill d asks in
-    let o : Outside = with_did p.outside p.did in
+    let o : Findings = with_did p.outside p.did in
     let s : Setting = filling_setting t p in
     of_rows IsRescueCall fill_steps call earlier (fill_rows c o.found o.end) _ t.answer o.did is
     (λ refused. (fill_plain c o.found o.end t.answer (unnamed IsRescueCall fill_steps call earlier c t.answer is)
@@ -206,7 +206,7 @@ generate_called c found input_end call earlier at is (inr files) =
 pub generate_faults_are_of_steps : GenerateFaultsAreOfSteps
 generate_faults_are_of_steps t c d call earlier asks is =
     let p : TaskDone (Generate c) t = promised_generate d asks in
-    let o : Outside = with_did p.outside p.did in
+    let o : Findings = with_did p.outside p.did in
     let s : Setting = asked_of c t o in
     of_rows IsGenerateCall generate_steps call earlier (generate_rows c o.found o.end) _ t.answer o.did is
     (λ refused. (generate_plain c o.found o.end t.answer

@@ -25,7 +25,7 @@ use Rattle.ddrescue_words.specs.Asking.{AskTask}
 use Rattle.ddrescue_words.proofs.CommandLemmas.{reading_asks}
 use Rattle.task_files.specs.Names.{program_name}
 use Rattle.task_files.specs.Maps.{Found}
-use Rattle.task_files.specs.Outside.{Outside}
+use Rattle.task_files.specs.Findings.{Findings}
 use Rattle.ddrescue_laws.specs.LeftAfter.{AllStand, OutputMade, DraftMade, OutputAndDraftMade, draft_asked, has_unsettled, is_unsettled}
 use Rattle.ddrescue_cli.specs.Tasks.{with_did}
 use Rattle.ddrescue_cli.specs.Told.{Told}
@@ -235,7 +235,7 @@ pub fill_leaves : (t : Told) (types : TypeSet) (c : Command) (d : Ddrescue t) (a
     → LeavesBy true c.outfile (draft_asked c) (promised_fill d asks).did.gain.calls (files_of t) (files_in t.after.site)
 fill_leaves t types c d asks tells still =
     let p : TaskDone (Fill types c) t = promised_fill d asks in
-    let o : Outside = with_did p.outside p.did in
+    let o : Findings = with_did p.outside p.did in
     let line : List ℕ = command_line program_name t.words in
     let s : Setting = fill_setting c line p.outside.top o.maps in
     let named = (reading_asks t.words asks.rows asks.items asks.operands (Fill types c) asks.options asks.reading
@@ -258,7 +258,7 @@ pub generate_leaves : (t : Told) (c : Command) (d : Ddrescue t) (asks : AskTask 
     (files_in t.after.site)
 generate_leaves t c d asks tells still =
     let p : TaskDone (Generate c) t = promised_generate d asks in
-    let o : Outside = with_did p.outside p.did in
+    let o : Findings = with_did p.outside p.did in
     let line : List ℕ = command_line program_name t.words in
     let s : Setting = asked_of c t o in
     let named = (reading_asks t.words asks.rows asks.items asks.operands (Generate c) asks.options asks.reading

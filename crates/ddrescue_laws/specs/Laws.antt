@@ -28,7 +28,7 @@ use Rattle.task_files.specs.declared.ending.Ending.{Ending}
 use Rattle.task_files.specs.declared.ending.Ending.TheVariants.{Done, SourceFault, SourceLost, SiteFault, LimitMet, NoMemory}
 use Rattle.task_files.specs.Asked.{Maps}
 use Rattle.task_files.specs.Maps.{Found, AreMapsIn}
-use Rattle.task_files.specs.Outside.{Outside}
+use Rattle.task_files.specs.Findings.{Findings}
 use Rattle.ddrescue_cli.specs.Told.{Told, calls_before}
 use Rattle.ddrescue_cli.specs.Tasks.{with_did}
 use Rattle.ddrescue_cli.specs.ToldParts.{files_of, asked_of}
@@ -39,7 +39,7 @@ use Rattle.ddrescue_laws.specs.LeftAfter.{names_maps, IsLeft}
 use Rattle.ddrescue_cli.specs.Ddrescue.{Ddrescue}
 
 -- what was outside, as a promise says it
-abbrev pub outside_by : {t : Told} {c : Command} → Ddrescue t → Asks t.words c → Outside
+abbrev pub outside_by : {t : Told} {c : Command} → Ddrescue t → Asks t.words c → Findings
 outside_by {t} {c} d asks =
     with_did (d.does.asked_for (Rescue c) asks).outside (d.does.asked_for (Rescue c) asks).did
 
@@ -125,7 +125,7 @@ pub record NothingFailed (t : Told) : Type 0 where
 
 -- no row of the work refuses anything: the names of the files are apart, the maps that options name and the mapfile are
 -- maps, the output may be written to, and each position has a place in it
-abbrev pub NothingIsRefused : Command → Outside → Type 0
+abbrev pub NothingIsRefused : Command → Findings → Type 0
 NothingIsRefused c o = RefuseNothing (rescue_rows c o.found o.end)
 
 -- a rescue is done, or it met a limit, if one was set

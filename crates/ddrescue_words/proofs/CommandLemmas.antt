@@ -42,12 +42,10 @@ unless_refused false f o c c' of is e =
 
 with_options : (words : List (List ℕ)) (m : MapOptions) (o : Options) (os : List ℕ) (c : Command)
     → command_with words m o os ≡ told c → IsMadeOf o c
-with_options words m o [] c e = absurd (cc)
-with_options words m o (i ∷ []) c e = absurd (cc)
 with_options words m o (i ∷ out ∷ []) c e = unless_refused (wants_mapfile o) _ o _ c refl refl e
 with_options words m o (i ∷ out ∷ map ∷ []) c e =
     made_so o _ c (record { options = refl; mapfile = λ wants. refl }) e
-with_options words m o (i ∷ out ∷ map ∷ n ∷ more) c e = absurd (cc)
+with_options words m o _ c e = absurd (cc)
 
 -- what files are for, where no sample is asked for
 pub named_task : (words : List (List ℕ)) (items : List Item) (o : Options) (n : Option ℕ) (os : List ℕ) (c : Command)
@@ -169,11 +167,9 @@ sample_size m kib is h = subst (λ (n : Option ℕ). IfSome n IsSampleSize) is h
 limits_of : (o : Options) (t : Task) (quiet : Bool) → AreKept rescue_kept o quiet → is_too_large o ≡ false → MadeOf o t
     → IsInLimits t
 limits_of o (Rescue c) quiet k small made = subst AreInLimits (sym made) (in_limits o k.range small)
-limits_of o (Fill types c) quiet k small made =
-    record { limits = subst AreInLimits (sym made.options) (in_limits o k.range small); named = made.named }
-limits_of o (Generate c) quiet k small made =
-    record { limits = subst AreInLimits (sym made.options) (in_limits o k.range small); named = made.named }
 limits_of o (Sample kib quiet') quiet k small made = sample_size o.sample kib made.0 k.range.sample
+limits_of o _ quiet k small made =
+    record { limits = subst AreInLimits (sym made.options) (in_limits o k.range small); named = made.named }
 
 -- and asks that nothing be said where they do
 quiet_of : (o : Options) (t : Task) → MadeOf o t → is_quiet t ≡ o.quiet

@@ -11,7 +11,7 @@ use Rattle.option_words.specs.declared.command_error.CommandError.{CommandError}
 pub use Rattle.option_words.specs.Values.{IsWord, empty_operand}
 use Rattle.option_words.specs.Values.{domain_letter, is_given, is_of, last_of, last_value, quiet_letter, word_in}
 pub use Rattle.option_words.specs.Grammar.{Unread, Wrong, unless_empty, unread_error}
-use Rattle.option_words.specs.Grammar.{Grammar, AreOptionsOf, AskFor, AreRefusedBy, AskSilence, IsAskedWithin, IsRefusalBy, IsErrorBy}
+use Rattle.option_words.specs.Grammar.{Grammar, AreOptionsOf, AskFor, AreRefusedBy, IsAskedWithin, IsRefusalBy, IsErrorBy}
 use Rattle.run_options.specs.Passes.{all_phases_once}
 use Rattle.ddrescue_words.specs.declared.options.Options.{Options}
 use Rattle.ddrescue_words.specs.declared.command.Command.{Command as CommandCode}
@@ -206,10 +206,6 @@ AskSample words kib quiet = AskTask words (Sample kib quiet)
 -- the words are refused for this fault
 abbrev pub AreRefused : List (List ℕ) → UsageFault → Type 0
 AreRefused words fault = AreRefusedBy rescue_grammar words fault
-
--- the words can be read, and ask for no message
-abbrev pub AskQuiet : List (List ℕ) → Type 0
-AskQuiet words = AskSilence rescue_grammar words
 
 -- options within their limits
 pub record AreInLimits (o : Options) : Type 0 where

@@ -1,5 +1,5 @@
 -- What became of the files, the feed and standard output, by the answer.
-use Rattle.std.proofs.Common.{◌≡◌, ◌≢◌, ℕ, Bool, true, false, IsTrue, List, [], ◌∷◌, refl, sym, ap, ◌∙◌, inl, inr, subst, arith}
+use Rattle.std.proofs.Common.{◌≡◌, ◌≢◌, ℕ, Bool, true, false, List, [], ◌∷◌, refl, sym, ap, ◌∙◌, inl, inr, subst, arith}
 use Rattle.std.proofs.lemmas.Bool.{both_ways}
 use Rattle.crash_site.specs.SiteState.{SiteState}
 use Rattle.crash_site.specs.SiteChanges.{Stays}
@@ -113,18 +113,6 @@ read_ends e n n' (inr (inr (inl (which, error, is, other, kept)))) =
 read_ends e n n' (inr (inr (inr (is, rose)))) =
     subst (ReadEnds n n') (sym is) (record { counts = rose; also = tt; draft = refl; puts = λ b text s. refl; pieces = λ text s. refl })
 
-pub read_after : (e : LogEnding) (old new : SiteState) → Stays old new → ReadCause e old.faults new.faults
-    → SiteLeft e old new
-read_after e old new stays cause =
-    let r : ReadEnds old.faults new.faults e = read_ends e old.faults new.faults cause in
-    record {
-      keeps = stays.keeps;
-      image = stays.image;
-      counts = r.counts;
-      also = r.also;
-      draft = λ none. stays.draft ∙ none ∙ sym r.draft;
-    }
-
 -- nothing is put after them
 pub read_puts : (e : LogEnding) (faults faults' : ℕ) (prints_text : Bool) (text : List ℕ) (s : ConsoleState)
     → ReadCause e faults faults' → PutsAs prints_text e text s s
@@ -133,22 +121,6 @@ read_puts e n n' b text s cause = (read_ends e n n' cause).puts b text s
 pub read_pieces : (e : LogEnding) (faults faults' : ℕ) (text : List ℕ) (s : ConsoleState) → ReadCause e faults faults'
     → PutsInPieces e text s s
 read_pieces e n n' text s cause = (read_ends e n n' cause).pieces text s
-
--- what became of the files after reads that returned and what came then
-pub after_reads : (e : LogEnding) (old mid new : SiteState) → Stays old mid → mid.faults ≡ old.faults
-    → SiteLeft e mid new → SiteLeft e old new
-after_reads e old mid new stays kept b = record {
-  keeps = record {
-    tells = b.keeps.tells ∙ stays.keeps.tells;
-    start = λ tells. b.keeps.start (subst IsTrue (sym stays.keeps.tells) tells) ∙ stays.keeps.start tells;
-    scheduled = b.keeps.scheduled ∙ stays.keeps.scheduled;
-    later = omega (arith, stays.keeps.later, b.keeps.later);
-  };
-  image = b.image ∙ stays.image;
-  counts = b.counts ∙ ap (site_count e) kept;
-  also = b.also;
-  draft = λ none. b.draft (stays.draft ∙ none);
-}
 
 -- ---- the feed
 

@@ -111,8 +111,7 @@ works_of true c is line list found m e d maps pass w v =
 starved_is : (e : LogEnding) → (row_of e).kind ≡ Starved → e ≡ NoMemory
 starved_is NoMemory is = refl
 starved_is (Usage PlaceTooLarge) is = absurd (cc)
-starved_is (Usage fault) is = absurd (cc)
-starved_is e is = absurd (cc)
+starved_is _ is = absurd (cc)
 
 pub is_found_unless : IsFoundUnless
 is_found_unless t c d asks failed pass room =

@@ -1,7 +1,6 @@
 -- Texts that are put in pieces.
-use Rattle.std.proofs.Common.{◌≡◌, ◌≢◌, ℕ, ◌<◌, ◌≤◌, eqb, Bool, true, false, List, [], ◌∷◌, ◌++◌, length, take, drop, Result, Ok, Err, is_ok, inl, inr, refl, sym, ap, ◌∙◌, subst, arith, append-nil, length-append, length-take}
+use Rattle.std.proofs.Common.{◌≡◌, ◌≢◌, ℕ, ◌<◌, ◌≤◌, Bool, true, false, List, [], ◌∷◌, ◌++◌, length, take, drop, Result, Ok, Err, is_ok, inl, inr, refl, sym, ap, ◌∙◌, subst, arith, append-nil, length-append, length-take}
 use Rattle.std.specs.List.{All, concat}
-use Rattle.std.proofs.lemmas.Bool.{eqb-true}
 use Rattle.std.proofs.lemmas.List.{map-append}
 use Rattle.std.proofs.lemmas.List.Elements.{All-append, All-cons, All-head, All-nil}
 use Rattle.std.proofs.lemmas.List.Folds.{concat-append}
@@ -19,24 +18,13 @@ use Rattle.ddrescuelog_words.specs.declared.mode.LogMode.TheVariants.{ListBlocks
 use Rattle.ddrescuelog_cli.specs.declared.ending.LogEnding.{LogEnding}
 use Rattle.ddrescuelog_cli.specs.Answers.{row_of}
 use Rattle.ddrescuelog_cli.specs.Modes.{prints, puts_pieces}
-use Rattle.ddrescuelog_cli.specs.Printing.{Adds, IsPiece, PutsAs, PutsInPieces, PutsPieces}
+use Rattle.ddrescuelog_cli.specs.Printing.{IsPiece, PutsAs, PutsInPieces, PutsPieces}
 use Rattle.ddrescuelog_cli.specs.Steps.{printed_as}
 
 -- ---- one put
 
 pub no_pieces : (s : ConsoleState) → PutsPieces [] true s s
 no_pieces s = record { pieces = []; together = refl; each = All-nil IsPiece; speaks = (refl, refl) }
-
-none_of : (text : List ℕ) → length text ≡ 0 → text ≡ []
-none_of [] is = refl
-none_of (x ∷ xs) is = absurd (omega (arith, is))
-
--- of an empty buffer nothing is put
-pub empty_put : (text : List ℕ) (n : ℕ) (empty : Bool) (s : ConsoleState) → n ≡ length text → empty ≡ eqb n 0
-    → empty ≡ true → PutsPieces text true s s
-empty_put text n empty s len is holds =
-    subst (λ (t : List ℕ). PutsPieces t true s s)
-    (sym (none_of text (sym len ∙ eqb-true n 0 (sym is ∙ holds)))) (no_pieces s)
 
 pub one_piece : {T E : Type 0} (piece : List ℕ) (r : Result T E) (old new : ConsoleState) → IsPiece piece
     → Answers Out piece r old new → PutsPieces piece (is_ok r) old new
@@ -157,14 +145,3 @@ pub pieces_print : (mode : LogMode) → puts_pieces mode ≡ true → prints mod
 pieces_print (ListBlocks types) on = refl
 pieces_print Summarize on = refl
 pieces_print _ on = absurd (cc)
-
--- ---- a line that is added
-
--- it fits into the buffer
-pub added_here : (line before now : List ℕ) (s : ConsoleState) → now ≡ before ++ line → Adds line before now s s
-added_here line before now s grew = record { part = []; puts = no_pieces s; split = grew }
-
--- the buffer was put before
-pub added_after : (line before now : List ℕ) (a b : ConsoleState) → PutsPieces before true a b → now ≡ line
-    → Adds line before now a b
-added_after line before now a b puts is = record { part = before; puts = puts; split = ap (λ x. before ++ x) is }

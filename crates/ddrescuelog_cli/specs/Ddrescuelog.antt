@@ -7,7 +7,8 @@ use Rattle.rescue_console.specs.ConsoleState.{ConsoleState}
 use Rattle.mapfile_save.specs.MapNames.{names_of}
 use Rattle.mapfile_save.specs.SaveStops.{IsEmptyDraft}
 use Rattle.program_promise.specs.Work.{Deeds}
-use Rattle.program_promise.specs.World.{WorldState, no_clock, no_source, Told}
+use Rattle.rescue_rules.specs.Across.{no_source}
+use Rattle.program_promise.specs.World.{WorldState, no_clock, Told}
 use Rattle.program_promise.specs.Kinds.{AtCall, Failed}
 use Rattle.program_promise.specs.Program.{Program}
 use Rattle.program_promise.specs.Promise.{IsDone, Promise, Worked}

@@ -8,7 +8,6 @@ ghost use Rattle.ddrescuelog_cli.specs.declared.ending.LogEnding.TheVariants.{No
 ghost use Rattle.ddrescuelog_cli.specs.Steps.{ReadsMap, ReadsNamed, ReadCause, LoadsMaps, IsLoadedAs, maps_read};
 
 use crate::ending::{LogEnding, Which};
-use block_list::plain_tiles::PlainTiles;
 use block_list::tiles::Tiles;
 use crash_site::site::{Site, SiteCall};
 use ddrescuelog_words::command::Command;
@@ -17,6 +16,7 @@ use mapfile_resume::load::{ResumeFault, load_map};
 use mapfile_resume::named::mode_of;
 use mapfile_text::read::Mode;
 use mapfile_text::state::MapState;
+use plain_blocks::plain_tiles::PlainTiles;
 use rescue_domain::domain::Domain;
 use std::alloc::Global;
 

@@ -5,11 +5,11 @@ ghost use Rattle.ddrescuelog_cli.specs.Printing.{PutsAs};
 
 use crate::ending::LogEnding;
 use crate::pieces::printed;
-use block_list::plain_tiles::PlainTiles;
 use block_list::tiles::NoMemory;
 use console_texts::printing::put_map;
 use mapfile_text::heading::Heading;
 use mapfile_text::state::MapState;
+use plain_blocks::plain_tiles::PlainTiles;
 use rescue_console::console::Console;
 
 /// Puts a map that was made, under a heading.

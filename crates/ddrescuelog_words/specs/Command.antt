@@ -8,7 +8,7 @@ use Rattle.option_words.specs.declared.fault.UsageFault.{UsageFault}
 use Rattle.option_words.specs.declared.fault.UsageFault.TheVariants.{BadValue, Modes, Operands}
 use Rattle.option_words.specs.declared.command_error.CommandError.{CommandError}
 use Rattle.option_words.specs.Values.{domain_letter, empty_operand, is_given, is_name, last_of, last_value, quiet_letter, word_at}
-use Rattle.option_words.specs.Grammar.{Grammar, AreOptionsOf, AskFor, AreRefusedBy, AskSilence, IsAskedWithin, IsErrorBy, unless_empty}
+use Rattle.option_words.specs.Grammar.{Grammar, AreOptionsOf, AskFor, AreRefusedBy, IsAskedWithin, IsErrorBy, unless_empty}
 use Rattle.ddrescuelog_words.specs.declared.mode.LogMode.{LogMode}
 use Rattle.ddrescuelog_words.specs.declared.options.LogOptions.{LogOptions}
 use Rattle.ddrescuelog_words.specs.declared.command.Command.{Command as CommandCode}
@@ -110,10 +110,6 @@ Asks words c = AskFor log_grammar words c
 -- the words are refused for this fault
 abbrev pub AreRefused : List (List ℕ) → UsageFault → Type 0
 AreRefused words fault = AreRefusedBy log_grammar words fault
-
--- the words can be read, and ask for no message
-abbrev pub AskQuiet : List (List ℕ) → Type 0
-AskQuiet words = AskSilence log_grammar words
 
 -- what is asked for is within limits, and another map has a name exactly when the mode works on one
 pub record AreInLimits (c : Command) : Type 0 where

@@ -26,14 +26,12 @@ partition_part infile n (Some k) quiet c number e =
 
 operands_part : (words : List (List ℕ)) (quiet : Bool) (os : List ℕ) (c : Command)
     → with_operands words quiet os ≡ Ok c → IsOf quiet c
-operands_part words quiet [] c e = absurd (cc)
-operands_part words quiet (i ∷ []) c e = absurd (cc)
 operands_part words quiet (i ∷ k ∷ []) c e =
     let named = (untested_part (is_empty_text (word words i)) (BadValue i)
     (with_partition (word words i) k (partition_by (word words k)) quiet) c e).1 in
     partition_part (word words i) k (partition_by (word words k)) quiet c
     (λ n is. in_range 1 last_partition (number_by (Some (word words k))) n is) named
-operands_part words quiet (i ∷ k ∷ n ∷ more) c e = absurd (cc)
+operands_part words quiet _ c e = absurd (cc)
 
 pub reading_asks : (words : List (List ℕ)) (rows : List Row) (is : List Item) (os : List ℕ) (c : Command)
     → AreOptions rows → IsReading rows words is os → command_in words is os ≡ Ok c → IsAsked words c

@@ -8,7 +8,7 @@ use Rattle.option_words.specs.declared.fault.UsageFault.{UsageFault}
 use Rattle.option_words.specs.declared.fault.UsageFault.TheVariants.{BadValue, Operands}
 use Rattle.option_words.specs.declared.command_error.CommandError.{CommandError}
 use Rattle.option_words.specs.Values.{Meaning, is_empty_text, is_given, number_by, quiet_letter, within_range}
-use Rattle.option_words.specs.Grammar.{Grammar, AreOptionsOf, AskFor, AreRefusedBy, AskSilence, IsAskedWithin, IsErrorBy}
+use Rattle.option_words.specs.Grammar.{Grammar, AreOptionsOf, AskFor, AreRefusedBy, IsAskedWithin, IsErrorBy}
 use Rattle.ddrescuepart_words.specs.declared.command.Command.{Command as CommandCode}
 
 -- the infile's name, the number of the partition, counted from 1, and whether nothing is to be said
@@ -67,10 +67,6 @@ Asks words c = AskFor part_grammar words c
 -- the words are refused for this fault
 abbrev pub AreRefused : List (List ℕ) → UsageFault → Type 0
 AreRefused words fault = AreRefusedBy part_grammar words fault
-
--- the words can be read, and ask for no message
-abbrev pub AskQuiet : List (List ℕ) → Type 0
-AskQuiet words = AskSilence part_grammar words
 
 -- the number of a partition is within its limits
 pub record IsInLimits (c : Command) : Type 0 where

@@ -49,12 +49,10 @@ length_few sector text n e = (in_range 0 length_limit (size_by sector (Some text
 
 with_options : (words : List (List ℕ)) (o : PlanOptions) (os : List ℕ) (c : Command)
     → command_with words o os ≡ told c → IsWith o c
-with_options words o [] c e = absurd (cc)
-with_options words o (n ∷ []) c e = absurd (cc)
 with_options words o (n ∷ m ∷ []) c e =
     length_part (length_by o.rescue.sector (word words n)) n m (word words m) o c
     (length_few o.rescue.sector (word words n)) e
-with_options words o (n ∷ m ∷ third ∷ more) c e = absurd (cc)
+with_options words o _ c e = absurd (cc)
 
 -- options that are accepted give no cluster that is too large
 record AreAccepted (r : Result PlanOptions ℕ) (c : Command) : Type 0 where

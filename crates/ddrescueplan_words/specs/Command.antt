@@ -7,7 +7,7 @@ use Rattle.option_words.specs.declared.fault.UsageFault.{UsageFault}
 use Rattle.option_words.specs.declared.fault.UsageFault.TheVariants.{BadValue, Operands}
 use Rattle.option_words.specs.declared.command_error.CommandError.{CommandError}
 use Rattle.option_words.specs.Values.{is_empty_text, last_of, quiet_letter, size_by, within_range, word_in}
-use Rattle.option_words.specs.Grammar.{Grammar, AreOptionsOf, AskFor, AreRefusedBy, AskSilence, IsAskedWithin, IsErrorBy}
+use Rattle.option_words.specs.Grammar.{Grammar, AreOptionsOf, AskFor, AreRefusedBy, IsAskedWithin, IsErrorBy}
 use Rattle.run_options.specs.Limits.{no_limits}
 use Rattle.ddrescue_words.specs.declared.options.Options.{Options}
 use Rattle.ddrescue_words.specs.Options.{cluster_letter}
@@ -78,10 +78,6 @@ Asks words c = AskFor plan_grammar words c
 -- the words are refused for this fault
 abbrev pub AreRefused : List (List ℕ) → UsageFault → Type 0
 AreRefused words fault = AreRefusedBy plan_grammar words fault
-
--- the words can be read, and ask for no message
-abbrev pub AskQuiet : List (List ℕ) → Type 0
-AskQuiet words = AskSilence plan_grammar words
 
 -- What the options of a plan can't ask for is as if no option asks for it. No read is slow, there is no limit, every
 -- position of the input is asked for in its own place, and nothing is tried again.

@@ -547,10 +547,7 @@ said_faults (x ∷ xs) h a b (inr last) =
 
 faults_by : (e : FollowEnding) (n : ℕ) → cond (is_heard e) n (raised n) ≡ puts_after e n
 faults_by Done n = refl
-faults_by NotAlone n = refl
-faults_by FeedFault n = refl
-faults_by ConsoleFault n = refl
-faults_by NoMemory n = refl
+faults_by _ n = refl
 
 faults_at_end : (h : Bool) (n : ℕ) → cond h n (raised n) ≡ puts_after (ending_of h) n
 faults_at_end true n = refl

@@ -65,11 +65,9 @@ stop_cause which ReadFailed old new counts = record {
   unput = λ terminal c found console. refl;
   also = refl;
 }
-stop_cause which Absent old new counts =
-    record { cause = unchanged_by old new counts; unput = λ terminal c found console. refl; also = tt }
 stop_cause which (NotRead error) old new counts =
     record { cause = unchanged_by old new counts.0; unput = λ terminal c found console. refl; also = counts.1 }
-stop_cause which Starving old new counts =
+stop_cause which _ old new counts =
     record { cause = unchanged_by old new counts; unput = λ terminal c found console. refl; also = tt }
 
 -- no map is named

@@ -136,10 +136,7 @@ worst_is p = chosen_is p (p BadSector) (p NonScraped) (p NonTrimmed) (p NonTried
 
 some_bad : (s : Status) → 0 < badness s
 some_bad NonTried = omega arith
-some_bad NonTrimmed = omega arith
-some_bad NonScraped = omega arith
-some_bad BadSector = omega arith
-some_bad Finished = omega arith
+some_bad _ = omega arith
 
 same_is : (s t : Status) → same s t ≡ true → s ≡ t
 same_is NonTried NonTried e = refl

@@ -23,12 +23,7 @@ fits text part short = fits_by (nat_lt columns (length text + length part)) text
 
 phase_short : (c : Current) → length (phase_text c) ≤ 10
 phase_short Copying = omega arith
-phase_short Trimming = omega arith
-phase_short Scraping = omega arith
-phase_short Retrying = omega arith
-phase_short Filling = omega arith
-phase_short Generating = omega arith
-phase_short Finished = omega arith
+phase_short _ = omega arith
 
 where_short : (h : Head) → IsHead h → length (where_text h) ≤ columns
 where_short (Last true) few = omega arith

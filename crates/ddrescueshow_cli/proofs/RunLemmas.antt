@@ -22,12 +22,8 @@ longer r = record r { count = r.count + 1 }
 -- ---- they are the cells
 
 symbol_back : (m : Mark) → status_of_symbol (cell_symbol m) ≡ m
-symbol_back None = refl
 symbol_back (Some NonTried) = refl
-symbol_back (Some NonTrimmed) = refl
-symbol_back (Some NonScraped) = refl
-symbol_back (Some BadSector) = refl
-symbol_back (Some Finished) = refl
+symbol_back _ = refl
 
 same_cell : (m n : Mark) → nat_eq (cell_symbol m) (cell_symbol n) ≡ true → m ≡ n
 same_cell m n is =

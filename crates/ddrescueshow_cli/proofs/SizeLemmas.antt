@@ -24,6 +24,3 @@ cell_short span s c (suc d) some cells is =
     let all : s * max 1 (suc d) ≡ s * suc d = ap (λ (k : ℕ). s * k) most in
     let h : s * suc d ≡ s + s * d = omega arith in
     omega (arith, b, m, e, all, h)
-
-pub cell_some : (s d : ℕ) → 0 < s → 0 < s * max 1 d
-cell_some s d some = one-le-mul some (omega arith)

@@ -37,12 +37,8 @@ long n few = length-decimal-le 19 n (omega arith) few (omega (arith, few))
 -- ---- the rows
 
 class_short : (m : Option Status) → length (class_of m) ≤ 1
-class_short None = omega arith
 class_short (Some NonTried) = omega arith
-class_short (Some NonTrimmed) = omega arith
-class_short (Some NonScraped) = omega arith
-class_short (Some BadSector) = omega arith
-class_short (Some Finished) = omega arith
+class_short _ = omega arith
 
 five : (n : ℕ) → n < 10 ^ 5 → length (decimal n) ≤ 5
 five n few = length-decimal-le 5 n (omega arith) few (omega (arith, few))

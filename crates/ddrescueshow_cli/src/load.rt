@@ -5,10 +5,10 @@ ghost use Rattle.mapfile_resume.specs.Named.{map_mode};
 ghost use Rattle.ddrescueshow_cli.specs.Steps.{ReadCause, ReadsMap, ReadsNamed};
 
 use crate::ending::{ShowEnding, Which};
-use block_list::plain_tiles::PlainTiles;
 use crash_site::site::Site;
 use mapfile_reader::read::ReadMap;
 use mapfile_resume::named::load_named;
+use plain_blocks::plain_tiles::PlainTiles;
 use std::alloc::Global;
 
 /// Reads a map, which must be there; a loose one may have gaps.

@@ -8,7 +8,7 @@ use Rattle.option_words.specs.declared.fault.UsageFault.{UsageFault}
 use Rattle.option_words.specs.declared.fault.UsageFault.TheVariants.{BadValue, Operands}
 use Rattle.option_words.specs.declared.command_error.CommandError.{CommandError}
 use Rattle.option_words.specs.Values.{domain_letter, empty_operand, last_value, quiet_letter}
-use Rattle.option_words.specs.Grammar.{Grammar, AreOptionsOf, AskFor, AreRefusedBy, AskSilence, IsAskedWithin, IsErrorBy, unless_empty}
+use Rattle.option_words.specs.Grammar.{Grammar, AreOptionsOf, AskFor, AreRefusedBy, IsAskedWithin, IsErrorBy, unless_empty}
 use Rattle.ddrescueshow_words.specs.declared.options.ShowOptions.{ShowOptions}
 use Rattle.ddrescueshow_words.specs.declared.command.Command.{Command as CommandCode}
 use Rattle.ddrescueshow_words.specs.Options.{option_meanings, options_in}
@@ -65,10 +65,6 @@ Asks words c = AskFor show_grammar words c
 -- the words are refused for this fault
 abbrev pub AreRefused : List (List ℕ) → UsageFault → Type 0
 AreRefused words fault = AreRefusedBy show_grammar words fault
-
--- the words can be read, and ask for no message
-abbrev pub AskQuiet : List (List ℕ) → Type 0
-AskQuiet words = AskSilence show_grammar words
 
 -- options within their limits
 pub record AreInLimits (o : ShowOptions) : Type 0 where

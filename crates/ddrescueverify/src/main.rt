@@ -3,9 +3,9 @@
 
 use advice::{advise, line_after};
 use ddrescueverify_cli::verify::ddrescueverify;
+use file_identity::identity::OpenInput;
 use file_source::file::FileSource;
 use folder_site::folder::FolderSite;
-use kernel_devices::identity::OpenInput;
 use program_advice::put::put_line;
 use program_start::status::status_of;
 use program_start::streams::{ClosedStream, fill_streams};

@@ -20,11 +20,8 @@ same_options c c' e = let same : c ≡ c' = cc in ap (λ (x : Command). x.option
 
 with_options : (words : List (List ℕ)) (o : VerifyOptions) (os : List ℕ) (c : Command)
     → command_with words o os ≡ told c → c.options ≡ o
-with_options words o [] c e = absurd (cc)
-with_options words o (i ∷ []) c e = absurd (cc)
-with_options words o (i ∷ out ∷ []) c e = absurd (cc)
 with_options words o (i ∷ out ∷ map ∷ []) c e = same_options _ c e
-with_options words o (i ∷ out ∷ map ∷ n ∷ more) c e = absurd (cc)
+with_options words o _ c e = absurd (cc)
 
 options_by : (words : List (List ℕ)) (r : Result VerifyOptions ℕ) (os : List ℕ) (c : Command)
     → command_by words r os ≡ told c → r ≡ Ok c.options

@@ -1,5 +1,5 @@
 -- The positions of blocks.
-use Rattle.std.proofs.Common.{◌≡◌, ℕ, suc, ◌+◌, ◌-◌, ◌*◌, ◌/◌, ◌<◌, ◌≤◌, true, nat_eq, nat_le, List, [], All, length, ap, subst, arith}
+use Rattle.std.proofs.Common.{◌≡◌, ℕ, suc, ◌+◌, ◌-◌, ◌*◌, ◌/◌, ◌<◌, ◌≤◌, true, nat_eq, nat_le, List, All, subst, arith}
 use Rattle.std.specs.List.{Contains}
 use Rattle.std.proofs.lemmas.Bool.{and_parts, and_from, eqb-true, eq-eqb, leb-true, le-leb}
 use Rattle.std.proofs.lemmas.Nat.{le-div}
@@ -81,11 +81,5 @@ ends_nowhere s ks m some all h = record {
       let w = within_block s b.0 x some b.2 in
       let l : b.0 ≤ m = all_at (IsAtMost m) ks b.0 all b.1 in
       absurd (omega (arith, w.0, w.1, h, some, ends_later s b.0 m l));
-  least = λ other below. omega arith;
-}
-
-pub ends_without : (s : Shape) (ks : List ℕ) → ks ≡ [] → IsEndOfBlocks s ks 0
-ends_without s ks none = record {
-  within = λ x t. let b = in_some s ks x t in absurd (omega (arith, b.1.1, ap length none));
   least = λ other below. omega arith;
 }

@@ -69,84 +69,27 @@ is_done s = same s Finished
 
 and_both : (a b : Status) → is_done (combined And a b) ≡ (is_done a && is_done b)
 and_both NonTried NonTried = refl
-and_both NonTried NonTrimmed = refl
-and_both NonTried NonScraped = refl
-and_both NonTried BadSector = refl
-and_both NonTried Finished = refl
 and_both NonTrimmed NonTried = refl
-and_both NonTrimmed NonTrimmed = refl
-and_both NonTrimmed NonScraped = refl
-and_both NonTrimmed BadSector = refl
-and_both NonTrimmed Finished = refl
 and_both NonScraped NonTried = refl
-and_both NonScraped NonTrimmed = refl
-and_both NonScraped NonScraped = refl
-and_both NonScraped BadSector = refl
-and_both NonScraped Finished = refl
 and_both BadSector NonTried = refl
-and_both BadSector NonTrimmed = refl
-and_both BadSector NonScraped = refl
-and_both BadSector BadSector = refl
-and_both BadSector Finished = refl
 and_both Finished NonTried = refl
-and_both Finished NonTrimmed = refl
-and_both Finished NonScraped = refl
-and_both Finished BadSector = refl
-and_both Finished Finished = refl
+and_both _ _ = refl
 
 or_either : (a b : Status) → is_done (combined Or a b) ≡ (is_done a || is_done b)
 or_either NonTried NonTried = refl
-or_either NonTried NonTrimmed = refl
-or_either NonTried NonScraped = refl
-or_either NonTried BadSector = refl
-or_either NonTried Finished = refl
 or_either NonTrimmed NonTried = refl
-or_either NonTrimmed NonTrimmed = refl
-or_either NonTrimmed NonScraped = refl
-or_either NonTrimmed BadSector = refl
-or_either NonTrimmed Finished = refl
 or_either NonScraped NonTried = refl
-or_either NonScraped NonTrimmed = refl
-or_either NonScraped NonScraped = refl
-or_either NonScraped BadSector = refl
-or_either NonScraped Finished = refl
 or_either BadSector NonTried = refl
-or_either BadSector NonTrimmed = refl
-or_either BadSector NonScraped = refl
-or_either BadSector BadSector = refl
-or_either BadSector Finished = refl
 or_either Finished NonTried = refl
-or_either Finished NonTrimmed = refl
-or_either Finished NonScraped = refl
-or_either Finished BadSector = refl
-or_either Finished Finished = refl
+or_either _ _ = refl
 
 xor_back : (a b : Status) → is_done (combined Xor (combined Xor a b) b) ≡ is_done a
 xor_back NonTried NonTried = refl
-xor_back NonTried NonTrimmed = refl
-xor_back NonTried NonScraped = refl
-xor_back NonTried BadSector = refl
-xor_back NonTried Finished = refl
 xor_back NonTrimmed NonTried = refl
-xor_back NonTrimmed NonTrimmed = refl
-xor_back NonTrimmed NonScraped = refl
-xor_back NonTrimmed BadSector = refl
-xor_back NonTrimmed Finished = refl
 xor_back NonScraped NonTried = refl
-xor_back NonScraped NonTrimmed = refl
-xor_back NonScraped NonScraped = refl
-xor_back NonScraped BadSector = refl
-xor_back NonScraped Finished = refl
 xor_back BadSector NonTried = refl
-xor_back BadSector NonTrimmed = refl
-xor_back BadSector NonScraped = refl
-xor_back BadSector BadSector = refl
-xor_back BadSector Finished = refl
 xor_back Finished NonTried = refl
-xor_back Finished NonTrimmed = refl
-xor_back Finished NonScraped = refl
-xor_back Finished BadSector = refl
-xor_back Finished Finished = refl
+xor_back _ _ = refl
 
 pub and_finishes_both : AndFinishesBoth
 and_finishes_both domain first second x d =

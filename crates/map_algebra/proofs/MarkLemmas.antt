@@ -1,5 +1,5 @@
 -- The marks of blocks whose numbers ascend, block by block.
-use Rattle.std.proofs.Common.{◌≡◌, ℕ, zero, suc, ◌+◌, ◌-◌, ◌<◌, ◌≤◌, min, max, Bool, true, false, cond, List, [], ◌∷◌, ◌++◌, length, replicate, map, get_or, append-nil, length-append, ap, sym, ◌∙◌, refl, subst, ⊎_elim, arith}
+use Rattle.std.proofs.Common.{◌≡◌, ℕ, zero, suc, ◌+◌, ◌-◌, ◌<◌, ◌≤◌, min, max, Bool, true, false, cond, List, ◌∷◌, ◌++◌, length, replicate, map, get_or, append-nil, length-append, ap, sym, ◌∙◌, refl, subst, ⊎_elim, arith}
 use Rattle.std.specs.List.{range_with_len}
 use Rattle.std.specs.List.Sorted.{IsNonDecreasing, IsPermutation}
 use Rattle.std.proofs.lemmas.List.Sorted.{list_any-IsPermutation}
@@ -44,14 +44,6 @@ pub record AreMarks (s : Shape) (ks : List ℕ) (n end : ℕ) (made : List Statu
   pub so_far : made ≡ map_by (mark_of s ks) (length made)
   pub below : length made ≤ end
   pub passed : (i d : ℕ) → i < n → min (end_of s (get_or ks i d)) end ≤ length made
-
-pub no_marks : (s : Shape) (ks : List ℕ) (end : ℕ) (made : List Status) → made ≡ [] → AreMarks s ks 0 end made
-no_marks s ks end made e =
-    let z : length made ≡ 0 = ap length e in record {
-      so_far = e ∙ ap (map_by (mark_of s ks)) (sym z);
-      below = omega (arith, z);
-      passed = λ i d l. absurd (omega (arith, l));
-    }
 
 -- a position that isn't in one of the blocks that came, and lies in front of the next one, is in none
 outside : (s : Shape) (ks : List ℕ) (n end : ℕ) (made : List Status) → 0 < s.size → AreMarks s ks n end made

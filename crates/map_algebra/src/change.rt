@@ -5,11 +5,11 @@ ghost use Rattle.block_list.specs.Types.{is_types};
 ghost use Rattle.rescue_domain.specs.Parts.{covers};
 ghost use Rattle.map_algebra.specs.Change.{change_of, change_by, becomes, new_type, changed_by, changed_map, inverting};
 
-use block_list::plain_tiles::PlainTiles;
 use block_list::status::Status;
 use block_list::tiles::{NoMemory, Tiles};
 use block_list::types::TypeSet;
 use map_counts::pieces::{DomainPiece, Nearby, piece_at, put};
+use plain_blocks::plain_tiles::PlainTiles;
 use rescue_domain::domain::Domain;
 use std::alloc::Global;
 

@@ -3,10 +3,10 @@ ghost use Rattle.std.specs.Prelude.{◌≡◌, IfOk, if◌then◌else◌};
 ghost use Rattle.rescue_domain.specs.Parts.{covers};
 ghost use Rattle.map_algebra.specs.Combine.{combined, combined_map};
 
-use block_list::plain_tiles::PlainTiles;
 use block_list::status::Status;
 use block_list::tiles::{NoMemory, Tiles};
 use map_counts::pieces::{Pair, PairNearby, is_finished, pair_at, put};
+use plain_blocks::plain_tiles::PlainTiles;
 use rescue_domain::domain::Domain;
 use std::alloc::Global;
 

@@ -9,10 +9,10 @@ ghost use Rattle.map_algebra.specs.Numbers.{IsInRange};
 
 use crate::blocks::positions_of;
 use crate::shape::Shape;
-use block_list::plain_tiles::PlainTiles;
 use block_list::status::Status;
 use block_list::tiles::{NoMemory, Tiles};
 use map_counts::pieces::{DomainPiece, Nearby, piece_at, put};
+use plain_blocks::plain_tiles::PlainTiles;
 use rescue_domain::domain::Domain;
 use std::alloc::Global;
 

@@ -7,9 +7,9 @@ ghost use Rattle.map_counts.specs.At.{status_at};
 
 use block_list::block::Block;
 use block_list::near::Near;
-use block_list::plain_tiles::PlainTiles;
 use block_list::status::Status;
 use block_list::tiles::{NoMemory, Tiles};
+use plain_blocks::plain_tiles::PlainTiles;
 use rescue_domain::domain::Domain;
 
 /// Positions up to `to` with the same status.

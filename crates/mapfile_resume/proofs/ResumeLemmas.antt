@@ -23,7 +23,7 @@ use Rattle.mapfile_save.proofs.CallLemmas.{made_more, broke_back}
 use Rattle.mapfile_text.proofs.MapLemmas.{fault_is_blank}
 use Rattle.mapfile_resume.proofs.BarrierLemmas.{idle_load, made_idle, broke_idle, nothing_pending, barrier_reads}
 
--- a mapfile that is refused for want of a status line says nothing
+-- a mapfile that is refused since it has no status line says nothing
 pub says_nothing : (file : Option File) (mode : Mode) → IsRefusedFor file mode NoStatusLine → IsLikeNone file
 says_nothing file mode r =
     elim r.why [
@@ -65,14 +65,12 @@ load_idle : (name : List ℕ) (mode : Mode) (file : Option File) (read : Result 
     → LoadAnswers name mode file read mid.calls new.calls → disk_after (at_rest mid.start) new.calls ≡ disk_after (at_rest mid.start) mid.calls
 load_idle name mode file (Ok None) mid new l =
     made_idle (at_rest mid.start) l.1.0 mid.calls new.calls (idle_load name file l.1.0 l.1.1.begins) l.1.2
-load_idle name mode file (Ok (Some m)) mid new l =
-    made_idle (at_rest mid.start) l.1.0 mid.calls new.calls (idle_load name file l.1.0 l.1.1.begins) l.1.2
 load_idle name mode file (Err (Site call)) mid new l =
     broke_idle (at_rest mid.start) MapRead l.1.0 mid.calls new.calls (idle_load name file l.1.0 l.1.1) l.1.2
-load_idle name mode file (Err (Refused e)) mid new l =
-    made_idle (at_rest mid.start) l.1.0 mid.calls new.calls (idle_load name file l.1.0 l.1.1.begins) l.1.2
 load_idle name mode file (Err NoMemory) mid new l =
     made_idle (at_rest mid.start) l.0 mid.calls new.calls (idle_load name file l.0 l.1) l.2
+load_idle name mode file _ mid new l =
+    made_idle (at_rest mid.start) l.1.0 mid.calls new.calls (idle_load name file l.1.0 l.1.1.begins) l.1.2
 
 -- where nothing is pending, it is so for each answer
 refused_settles : (names : MapNames) (e : MapError) (old new : SiteState) → NothingPending names (disk_of old) (disk_of new)
@@ -83,10 +81,9 @@ refused_settles names _ old new h = h
 answer_settles : (names : MapNames) (read : Result (Option ReadMap) ResumeFault) (old new : SiteState)
     → NothingPending names (disk_of old) (disk_of new) → SettlesAll names (resumed_of read) old new
 answer_settles names (Ok None) old new h = h
-answer_settles names (Ok (Some m)) old new h = h
 answer_settles names (Err (Site call)) old new h = λ is. h
 answer_settles names (Err (Refused e)) old new h = refused_settles names e old new h
-answer_settles names (Err NoMemory) old new h = h
+answer_settles names _ old new h = h
 
 -- nothing is pending after a resume
 pub resumed_settled : (names : MapNames) (read : Result (Option ReadMap) ResumeFault) (old mid new : SiteState) → IsTrue old.tells → Keeps old mid

@@ -9,12 +9,12 @@ ghost use Rattle.mapfile_resume.specs.Resuming.{IsResumeCall, resumed_of, IsOfFi
 ghost use Rattle.mapfile_save.specs.Loading.{barrier_calls};
 
 use crate::load::{ResumeFault, load_map};
-use block_list::plain_tiles::PlainTiles;
 use block_list::tiles::{NoMemory, Tiles};
 use crash_site::site::{Site, SiteCall};
 use mapfile_reader::read::ReadMap;
 use mapfile_save::names::Names;
 use mapfile_text::read::{MapError, Mode};
+use plain_blocks::plain_tiles::PlainTiles;
 use std::alloc::Global;
 
 /// What a rescue goes on with.

@@ -1,6 +1,6 @@
 -- What options set, one after the other.
-use Rattle.std.proofs.Common.{◌≡◌, ℕ, ◌+◌, ◌<◌, ◌≤◌, Bool, true, false, cond, List, [], ◌∷◌, length, drop, get_or, Option, Some, Result, Ok, Err, refl, ◌∙◌, ap, subst, arith}
-use Rattle.std.proofs.lemmas.List.{drop_more, at_drop_all}
+use Rattle.std.proofs.Common.{◌≡◌, ℕ, ◌+◌, ◌<◌, Bool, true, false, cond, List, [], ◌∷◌, length, drop, get_or, Option, Some, Result, Ok, Err, refl, ◌∙◌, ap, subst, arith}
+use Rattle.std.proofs.lemmas.List.{drop_more}
 use Rattle.std.specs.Option.{ok_or, option_and_then}
 use Rattle.std.specs.Result.{result_ok}
 use Rattle.size_suffixes.specs.Sectors.{IsSector, largest_sector}
@@ -19,16 +19,6 @@ module _ {O : Type 0} (f : O → Item → Result O ℕ) where
   pub fault_stays : (n : ℕ) (items : List Item) → set_in_turn f (Err n) items ≡ Err n
   fault_stays n [] = refl
   fault_stays n (i ∷ is) = refl
-
-  -- the first bad value decides
-  pub set_fault : (o : O) (n : ℕ) (items : List Item) (i : ℕ) (d : Item) → i < length items
-      → f o (get_or items i d) ≡ Err n → set_in_turn f (Ok o) (drop i items) ≡ Err n
-  set_fault o n items i d within e = ap (set_in_turn f (Ok o)) (drop_more items i d within)
-      ∙ ap (λ r. set_in_turn f r (drop (i + 1) items)) e ∙ fault_stays n (drop (i + 1) items)
-
-  -- all options were gone through
-  pub set_end : (o : O) (items : List Item) (i : ℕ) → length items ≤ i → set_in_turn f (Ok o) (drop i items) ≡ Ok o
-  set_end o items i all = at_drop_all (set_in_turn f (Ok o)) items i all
 
   -- options that are set one after the other are set at each step
   pub turn_parts : (r : Result O ℕ) (items : List Item) (o' : O) → set_in_turn f r items ≡ Ok o'

@@ -33,13 +33,11 @@ within_below m n e = grind (arith, nat_tests)
 
 times_below : (r : Result ℕ SizeError) (digits : List ℕ) (factor : Option ℕ) (n : ℕ) → times r digits factor ≡ Ok n
     → n < 2 ^ 63
-times_below (Err Empty) digits factor n e = absurd (cc)
-times_below (Err (BadDigit k)) digits factor n e = absurd (cc)
-times_below (Err (BadSuffix k)) digits factor n e = absurd (cc)
 times_below (Err TooLarge) digits None n e = absurd (cc)
 times_below (Err TooLarge) digits (Some m) n e = within_below _ n e
 times_below (Ok k) digits None n e = absurd (cc)
 times_below (Ok k) digits (Some m) n e = within_below _ n e
+times_below _ digits factor n e = absurd (cc)
 
 size_below : (sector : ℕ) (text : List ℕ) (n : ℕ) → size sector text ≡ Ok n → n < 2 ^ 63
 size_below sector [] n e = absurd (cc)

@@ -6,9 +6,8 @@ use Rattle.fault_count.specs.Counts.{raised}
 use Rattle.fault_count.specs.Schedule.{Schedule, with_call}
 use Rattle.faulty_source.specs.declared.journal.ReadEntry.{ReadEntry}
 use Rattle.rescue_console.specs.declared.console.Channel.TheVariants.{Out}
-use Rattle.rescue_console.specs.ConsoleState.{ConsoleState, TextGoesOn, StaysBeside, Puts, PutsPart}
+use Rattle.rescue_console.specs.ConsoleState.{ConsoleState, TextGoesOn, StaysBeside, Puts}
 use Rattle.plan_source.specs.declared.loss.PlanLoss.{PlanLoss}
-use Rattle.plan_source.specs.declared.loss.PlanLoss.TheVariants.{Memory, Console}
 use Rattle.plan_source.specs.Lines.{line_of_entry, lines_of_entries}
 use Rattle.plan_source.specs.Printing.{BeginsAfter, BreaksLast, HasPrinted, after_each, but_last, last_of, AreCounted}
 
@@ -45,19 +44,6 @@ pub lines_more : (es : List ReadEntry) (e : ReadEntry) → lines_of_entries (es 
 lines_more es e = flat_map-append line_of_entry es (e ∷ [])
 
 -- ---- texts that go on
-
-begins_part : (before part left piece now : List ℕ) → part ++ left ≡ piece → now ≡ before ++ part
-    → BeginsAfter piece before now
-begins_part before part left piece now split is =
-    let rest : drop (length before) now ≡ part =
-    ap (drop (length before)) is ∙ drop_at before part (length before) refl in
-    let size : length now - length before ≡ length part =
-    omega (arith, ap length is, length-append before part) in
-    record {
-      is = is ∙ ap (λ (t : List ℕ). before ++ t) (sym rest);
-      part = ap (λ (n : ℕ). take n piece) size ∙ ap (take (length part)) (sym split)
-          ∙ take_at part left (length part) refl ∙ sym rest;
-    }
 
 pub goes_on : (piece before now : List ℕ) → BeginsAfter piece before now → TextGoesOn piece before now
 goes_on piece before now b =
@@ -97,55 +83,6 @@ still : (a b : Bool) → b ≡ a → IsTrue a → IsTrue b
 still a b same on = subst IsTrue (sym same) on
 
 -- ---- the lines of a journal
-
--- Nothing was put yet.
-pub printed_nothing : (s : ConsoleState) → HasPrinted s s [] None
-printed_nothing s = record {
-  whole = λ whole. record {
-    stays = stays_self s;
-    whole = λ tells. sym (append-nil s.out.text);
-    kept = refl;
-    fed = λ scheduled. refl;
-  };
-  broken = λ broken. absurd (cc broken);
-  none = λ none. refl;
-  calls = λ scheduled. refl;
-}
-
--- One line was put,
-pub printed_one : (s s' : ConsoleState) (e : ReadEntry) → Puts Out (line_of_entry e) s s'
-    → (IsTrue s.is_scheduled → s'.schedule ≡ with_call s.schedule) → HasPrinted s s' (e ∷ []) None
-printed_one s s' e p one = record {
-  whole = λ whole. subst (λ (t : List ℕ). Puts Out t s s') (sym (one_line e)) p;
-  broken = λ broken. absurd (cc broken);
-  none = λ none. absurd (cc none);
-  calls = one;
-}
-
--- or its put failed;
-pub printed_part : (s s' : ConsoleState) (e : ReadEntry) → PutsPart Out (line_of_entry e) s s'
-    → (IsTrue s.is_scheduled → s'.schedule ≡ with_call s.schedule) → (IsTrue s.is_scheduled → s'.out.text ≡ s.out.text)
-    → HasPrinted s s' (e ∷ []) (Some Console)
-printed_part s s' e p one unput =
-    let after : s.out.text ++ lines_of_entries (but_last (e ∷ [])) ≡ s.out.text =
-    ap (λ (es : List ReadEntry). s.out.text ++ lines_of_entries es) (but_last_is [] e) ∙ append-nil s.out.text in
-    let piece : lines_of_entries (last_of (e ∷ [])) ≡ line_of_entry e = ap lines_of_entries (last_is [] e) ∙ one_line e in
-    record {
-      whole = λ whole. absurd (cc whole);
-      broken = λ broken. record {
-        some = omega arith;
-        stays = p.stays;
-        text = λ tells.
-            let g = p.part tells in
-            begins_as (line_of_entry e) (lines_of_entries (last_of (e ∷ []))) s.out.text
-            (s.out.text ++ lines_of_entries (but_last (e ∷ []))) s'.out.text (sym piece) (sym after)
-            (begins_part s.out.text g.part g.left (line_of_entry e) s'.out.text g.split g.is);
-        unput = λ scheduled tells. unput scheduled ∙ sym after;
-        rose = p.rose;
-      };
-      none = λ none. absurd (cc none);
-      calls = one;
-    }
 
 -- a journal with one more has an entry
 pub not_none : (es : List ReadEntry) (e : ReadEntry) → es ++ e ∷ [] ≡ [] → ⊥
@@ -209,12 +146,6 @@ module _ (start now now' : ConsoleState) (es : List ReadEntry) (e : ReadEntry) (
         one.calls (scheduled_now scheduled) ∙ ap with_call (h.calls scheduled) ∙ sym (each_more es e start.schedule);
   }
 
--- or there was no memory for it.
-pub printed_starved : (start now : ConsoleState) (es : List ReadEntry) → HasPrinted start now es None
-    → HasPrinted start now es (Some Memory)
-printed_starved start now es h =
-    record { whole = λ whole. h.whole refl; broken = λ broken. absurd (cc broken); none = h.none; calls = h.calls }
-
 -- ---- the same by what is told of a journal
 
 none_lost : (lost : Option PlanLoss) → is_some lost ≡ false → lost ≡ None
@@ -240,6 +171,3 @@ module _ (start now : ConsoleState) (es es' : List ReadEntry) (lost : Option Pla
   more_by now' e es'' lost' more one =
       subst (λ (xs : List ReadEntry). HasPrinted start now' xs lost') (sym more)
       (printed_more start now now' es' e lost' unlost one)
-
-  pub starved_by : HasPrinted start now es' (Some Memory)
-  starved_by = printed_starved start now es' unlost

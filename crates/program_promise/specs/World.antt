@@ -6,6 +6,7 @@ use Rattle.crash_site.specs.SiteState.{SiteState}
 use Rattle.rescue_console.specs.ClockState.{ClockState}
 use Rattle.rescue_console.specs.FeedState.{FeedState}
 use Rattle.rescue_console.specs.ConsoleState.{ConsoleState}
+use Rattle.rescue_rules.specs.Across.{no_source}
 
 -- what all objects tell
 pub record WorldState : Type 0 where
@@ -15,26 +16,8 @@ pub record WorldState : Type 0 where
   pub feed_ : FeedState
   pub console : ConsoleState
 
--- An input for a program that isn't handed one: it tells nothing, and never changes. The same goes for `no_site`,
--- `no_clock` and `no_feed`.
-abbrev pub no_source : SourceState
-no_source = record {
-  tells = false;
-  bytes = [];
-  ends_at = 0;
-  journal = [];
-  name = [];
-  is_open = false;
-  opens = 0;
-  faults = 0;
-  losses = 0;
-  is_scheduled = false;
-  schedule = record { calls = no_schedule; room = 0; bad = [] };
-  below = [];
-  journals_below = [];
-}
-
--- files for a program that isn't handed any
+-- Files for a program that isn't handed any: they tell nothing, and never change. The same goes for `no_clock` and
+-- `no_feed`.
 abbrev pub no_site : SiteState
 no_site = record {
   tells = false;

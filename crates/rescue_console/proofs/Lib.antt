@@ -1,4 +1,3 @@
 -- Other crates cite these.
 pub mod SpeakingLemmas
-pub mod AnswerLemmas
 pub mod PutLemmas

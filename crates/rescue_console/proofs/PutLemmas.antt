@@ -108,11 +108,6 @@ next_broke n text left piece old mid new p first broke =
     subst (λ t. PutsPart Out t old new) whole
     (part_of_longer Out (p.part ++ piece) rest old new (puts_then_part Out p.part piece old mid new p.puts broke))
 
-pub all_put : (text left : List ℕ) (old new : ConsoleState) → PartlyPut text left old new → left ≡ []
-    → Puts Out text old new
-all_put text left old new p none =
-    subst (λ t. Puts Out t old new) (sym (append-nil p.part) ∙ ap (λ l. p.part ++ l) (sym none) ∙ p.whole) p.puts
-
 -- what is left gets shorter
 pub shorter : (n : ℕ) (left rest : List ℕ) → rest ≡ drop n left → 0 < n → 0 < length left → length rest < length left
 shorter n left rest is some more = omega (arith, ap length is, length-drop n left)

@@ -3,7 +3,7 @@ use Rattle.std.proofs.Common.{◌≡◌, ℕ, zero, suc, ◌+◌, ◌-◌, ◌<�
 use Rattle.std.specs.List.{slice_get}
 use Rattle.std.proofs.lemmas.Bool.{cases_lt, cond-true, cond-false, lt-ltb, le-ltb, false_from_ne_true}
 use Rattle.block_list.specs.declared.status.Status.{Status}
-use Rattle.std.proofs.lemmas.List.{length-take-le, take-take, map-append, append_cancel_left}
+use Rattle.std.proofs.lemmas.List.{length-take-le, take-take, map-append}
 use Rattle.block_list.specs.declared.status.Status.TheVariants.{NonTried, NonTrimmed, NonScraped, BadSector, Finished}
 use Rattle.block_list.specs.Map.{Has}
 use Rattle.block_list.specs.Places.{IsRangeUp}
@@ -13,9 +13,9 @@ use Rattle.faulty_source.specs.Got.{count_of, is_end}
 use Rattle.faulty_source.specs.Journal.{Reading}
 use Rattle.faulty_source.specs.JournalGains.{JournalGains}
 use Rattle.faulty_source.specs.SourceState.{SourceState, Below}
-use Rattle.faulty_source.specs.SourceChanges.{Keeps, Stays, Reads, AnswersRead}
+use Rattle.faulty_source.specs.SourceChanges.{Keeps, Stays, AnswersRead}
 use Rattle.rescue_domain.specs.Finished.{is_finished, is_finished_at}
-use Rattle.rescue_domain.specs.Testing.{finished_front, IsFront, seen, state_seen, GainsSeen}
+use Rattle.rescue_domain.specs.Testing.{finished_front, IsFront, seen, state_seen}
 
 front_step : (statuses : List Status) (pos n : ℕ) (b : Bool) → is_finished_at statuses pos ≡ b
     → IsFront statuses (pos + 1) n (finished_front statuses (pos + 1) n)
@@ -58,12 +58,8 @@ fronts_agree statuses pos n a b p q = ⊎_elim
     (cases_lt a b)
 
 some_finished : (status : Option Status) → is_finished status ≡ true → status ≡ Some Finished
-some_finished None e = cc
-some_finished (Some NonTried) e = cc
-some_finished (Some NonTrimmed) e = cc
-some_finished (Some NonScraped) e = cc
-some_finished (Some BadSector) e = cc
 some_finished (Some Finished) e = refl
+some_finished _ e = cc
 
 -- where finished positions go on up to an end, so many of n are in front
 pub front_of_range : (statuses : List Status) (pos end n : ℕ) → IsRangeUp (Has statuses Finished) pos end
@@ -220,14 +216,3 @@ module _ (reference reference' : ℕ) (statuses statuses' : List Status) (old ne
       let s : Stays (state_seen reference statuses old) (state_seen reference' statuses' new) =
       subst (λ (s : SourceState). Stays s (state_seen reference' statuses' new)) made stays in
       record { keeps = keeps_below; input = s.input; name = s.name; opens = s.opens; faults = s.faults }
-
-  -- and its journal gained reads, which were seen as those that the call answered.
-  pub gains_below : (reads : List Reading) → Reads reads test (state_seen reference' statuses' new) → IsTrue old.tells
-      → GainsSeen statuses reads old.journal new.journal
-  gains_below reads read tells =
-      let gains : JournalGains old.journal new.journal = (keeps.journals_below tells).0 in
-      let told : map (seen statuses) new.journal ≡ map (seen statuses) old.journal ++ reads =
-      (said_below (λ a b. Reads reads a b) read).told tells in
-      let same : map (seen statuses) old.journal ++ map (seen statuses) gains.reads ≡ map (seen statuses) old.journal ++ reads =
-      sym (map-append (seen statuses) old.journal gains.reads) ∙ ap (map (seen statuses)) (sym gains.told) ∙ told in
-      record { gains = gains; seen = append_cancel_left (map (seen statuses) old.journal) _ _ same }

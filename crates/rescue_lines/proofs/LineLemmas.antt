@@ -145,14 +145,8 @@ narrows Is Other result old new is s = record {
 -- the bytes of a head say how a line begins
 start_right : (h : Head) (rest : List ℕ) → start_of (head_text h ++ (codes ": position " ++ rest)) ≡ start_with h
 start_right (Phase Copying n) rest = refl
-start_right (Phase Trimming n) rest = refl
-start_right (Phase Scraping n) rest = refl
-start_right (Phase Retrying n) rest = refl
-start_right (Phase Filling n) rest = refl
-start_right (Phase Generating n) rest = refl
-start_right (Phase Finished n) rest = refl
 start_right (Last true) rest = refl
-start_right (Last false) rest = refl
+start_right _ rest = refl
 
 -- ---- a line
 

@@ -4,7 +4,7 @@ use Rattle.std.proofs.lemmas.List.{append-nil}
 use Rattle.block_list.specs.declared.status.Status.{Status}
 use Rattle.fault_count.specs.Counts.{Rose, raised}
 use Rattle.rescue_console.specs.declared.console.Channel.TheVariants.{Out}
-use Rattle.rescue_console.specs.ConsoleState.{ConsoleState, Puts, StaysBeside, TextGoesOn}
+use Rattle.rescue_console.specs.ConsoleState.{ConsoleState, Puts, TextGoesOn}
 use Rattle.rescue_console.specs.Speaking.{SpeaksOn, out_pieces}
 use Rattle.ddrescueplan_words.specs.Command.{Command}
 use Rattle.plan_source.specs.Lines.{PlannedRead, line_of, lines_of}
@@ -39,9 +39,6 @@ lines_put (r ∷ reads) a b (inl first) =
 module _ (c : Command) (test : List Status) (old new : ConsoleState) (p : PutsPlanBroken c test old new) where
   before : Puts Out (lines_of p.reads) old p.between
   before = lines_put p.reads old p.between p.says
-
-  pub broken_stays : StaysBeside Out old new
-  broken_stays = stays_more old p.between new before.stays p.breaks.puts.stays
 
   pub broken_part : IsTrue old.tells → TextGoesOn (line_of p.next) (old.out.text ++ lines_of p.reads) new.out.text
   broken_part tells =

@@ -54,9 +54,6 @@ request_quiet s m p q r = record { start = r.start; end = r.end; range = r.range
 request_loud : (s : Setting) (m : Machine) (p q : ℕ) → IsRequest (plain s) (quiet m) p q → IsRequest s m p q
 request_loud s m p q r = record { start = r.start; end = r.end; range = r.range; starts = r.starts; ends = r.ends }
 
-has_quiet : (s : Setting) (m : Machine) → has_request (plain s) (quiet m) ≡ has_request s m
-has_quiet s m = refl
-
 -- a choice of states, without their times
 quiet_cond : (b : Bool) (m n : Machine) → quiet (cond b m n) ≡ cond b (quiet m) (quiet n)
 quiet_cond true m n = refl

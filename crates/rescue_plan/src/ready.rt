@@ -3,12 +3,12 @@ ghost use Rattle.std.specs.Prelude.{◌≡◌, ◌<◌, ◌^◌, IfOk};
 ghost use Rattle.ddrescueplan_words.specs.Command.{AreInLimits, told_by};
 ghost use Rattle.rescue_plan.specs.Running.{BeginsPlannedRun, untried_map};
 
-use block_list::plain_tiles::PlainTiles;
 use block_list::tiles::{NoMemory, Tiles};
 use ddrescueplan_words::command::Command;
 use map_preparation::prepare::prepare;
 use mapfile_text::heading::{Heading, Program};
 use paged_blocks::paged_tiles::PagedTiles;
+use plain_blocks::plain_tiles::PlainTiles;
 use rescue_core::phases::{Copying, Rescue};
 use rescue_domain::domain::Domain;
 use std::alloc::Global;

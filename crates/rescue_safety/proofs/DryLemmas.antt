@@ -46,7 +46,7 @@ none_taken : (n : ℕ) → writes_in (take n []) ≡ 0
 none_taken zero = refl
 none_taken (suc n) = refl
 
-cut_dry : (cs : List Call) (es : List Entry) → All IsDry cs → Cut cs es → writes_in es ≡ 0
+pub cut_dry : (cs : List Call) (es : List Entry) → All IsDry cs → Cut cs es → writes_in es ≡ 0
 cut_dry cs [] dry cut = refl
 cut_dry [] (e ∷ es) dry cut = absurd cut
 cut_dry (c ∷ cs) (Done x ∷ es) dry cut =

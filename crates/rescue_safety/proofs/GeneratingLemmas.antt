@@ -38,7 +38,7 @@ use Rattle.ddrescue_words.proofs.CommandLemmas.{reading_asks}
 use Rattle.program_promise.proofs.FrontLemmas.{load_reads}
 use Rattle.task_files.specs.Maps.{Found, found_in}
 use Rattle.task_files.specs.Names.{program_name}
-use Rattle.task_files.specs.Outside.{Outside}
+use Rattle.task_files.specs.Findings.{Findings}
 use Rattle.task_sweeps.specs.Modes.{Generates, GenerateStops}
 use Rattle.ddrescue_cli.specs.Tasks.{with_did}
 use Rattle.ddrescue_cli.specs.Told.{calls_before}
@@ -333,7 +333,7 @@ module _ (t : Target) (l : MixedLink) (apart : t.outfile ≢ t.mapfile) (q : IsG
   abbrev p : TaskDone (Generate q.command) q.call.told
   p = promised_generate q.call.promised q.asks
 
-  abbrev o : Outside
+  abbrev o : Findings
   o = with_did p.outside p.did
 
   abbrev s : Setting

@@ -1,23 +1,13 @@
 -- The bytes that reads gave are the input's own.
-use Rattle.std.proofs.Common.{◌≡◌, ℕ, zero, suc, ◌+◌, ◌-◌, ◌<◌, ◌≤◌, true, false, List, [], ◌∷◌, length, take, drop, All, Option, Some, None, nat_eq, refl, sym, ap, ◌∙◌, arith, subst, ⊎_elim, if◌then◌else◌}
-use Rattle.std.specs.List.{slice_get, slice_range}
+use Rattle.std.proofs.Common.{◌≡◌, ℕ, zero, suc, ◌+◌, ◌-◌, ◌≤◌, true, false, List, [], ◌∷◌, length, All, Option, Some, None, nat_eq, refl, sym, ◌∙◌, arith, subst, ⊎_elim, if◌then◌else◌}
+use Rattle.std.specs.List.{slice_get}
 use Rattle.std.proofs.lemmas.Bool.{cases_Bool}
-use Rattle.std.proofs.lemmas.List.{length-take}
 use Rattle.std.proofs.lemmas.List.Elements.{All-nil, All-cons, All-head, All-tail}
-use Rattle.std.proofs.lemmas.Option.{slice_get_within}
-use Rattle.block_list.proofs.HeldLemmas.{slice_get-drop}
 use Rattle.faulty_source.specs.Journal.{Reading, kept, covers, IsFrom}
-use Rattle.rescue_rules.specs.Given.{given, last_of_both}
+use Rattle.rescue_rules.specs.Given.{given}
 use Rattle.rescue_rules.proofs.GivenLemmas.{Covered, covered_here, given_covered, given_uncovered}
-use Rattle.rescue_rules.proofs.MarkLemmas.{slice_get-take}
 use Rattle.rescue_safety.specs.Safe.{IsOwn, reads_until}
-
--- a byte of a range of the input
-of_range : (input : List ℕ) (p q i v : ℕ) → slice_get (slice_range input p q) i ≡ Some v → slice_get input (p + i) ≡ Some v
-of_range input p q i v is =
-    let within : i < length (take (q - p) (drop p input)) = slice_get_within (take (q - p) (drop p input)) i v is in
-    let few : length (take (q - p) (drop p input)) ≤ q - p = omega (arith, length-take (q - p) (drop p input)) in
-    sym (slice_get-drop p input i) ∙ sym (slice_get-take (q - p) (drop p input) i (omega (arith, within, few))) ∙ is
+use Rattle.ddrescue_laws.proofs.GivenLemmas.{of_range, later_given}
 
 from_is_own : (input : List ℕ) (r : Reading) → IsFrom input r → IsOwn input r
 from_is_own input r from i v is =
@@ -45,13 +35,6 @@ own_byte : (input : List ℕ) (r : Reading) (x v : ℕ) → IsOwn input r → r.
     → slice_get input x ≡ Some v
 own_byte input r x v own from is =
     subst (λ (n : ℕ). slice_get input n ≡ Some v) (omega (arith, from)) (own (x - r.pos) v is)
-
--- if a later read gave a byte, that is given
-later_given : (sector : ℕ) (r : Reading) (rs : List Reading) (x v w : ℕ) → given sector rs x ≡ Some w
-    → given sector (r ∷ rs) x ≡ Some v → given sector rs x ≡ Some v
-later_given sector r rs x v w later is =
-    later ∙ sym (ap (λ (o : Option ℕ).
-    last_of_both o (if covers sector r x then slice_get r.given (x - r.pos) else None)) later) ∙ is
 
 first_own : (input : List ℕ) (sector : ℕ) (r : Reading) (rs : List Reading) (x v : ℕ) (later : Option ℕ) → IsOwn input r
     → (given sector rs x ≡ Some v → slice_get input x ≡ Some v) → given sector (r ∷ rs) x ≡ Some v

@@ -16,7 +16,7 @@ use Rattle.ddrescue_words.specs.Command.{Command, Rescue as ForRescue}
 use Rattle.program_promise.specs.Work.{Works}
 use Rattle.task_files.specs.Maps.{found_in}
 use Rattle.task_files.specs.Names.{program_name}
-use Rattle.task_files.specs.Outside.{Outside}
+use Rattle.task_files.specs.Findings.{Findings}
 use Rattle.task_files.specs.Work.{Rescues, rescue_faults, rescue_rows}
 use Rattle.ddrescue_cli.specs.Tasks.{with_did}
 use Rattle.ddrescue_cli.specs.Told.{Told}
@@ -35,7 +35,7 @@ idle_goes s files g none unread =
 pub promise_goes : (c : Command) (t : Told) (p : TaskDone (ForRescue c) t) → IsTrue t.before.site.tells
     → (asked_of c t (with_did p.outside p.did)).has_mapfile ≡ true → Goes (asked_of c t (with_did p.outside p.did)) (files_of t) p.did.gain
 promise_goes c t p tells on =
-    let o : Outside = with_did p.outside p.did in
+    let o : Findings = with_did p.outside p.did in
     let s : Setting = asked_of c t o in
     let files : List ℕ → Option File = files_of t in
     let works : Works rescue_faults (rescue_rows c (found_in c files) o.end)

@@ -25,7 +25,7 @@ use Rattle.option_words.specs.Words.{command_line}
 use Rattle.ddrescue_words.specs.Command.{Command, Rescue as ForRescue}
 use Rattle.task_files.specs.Names.{program_name}
 use Rattle.task_files.specs.Maps.{Found, seen_through}
-use Rattle.task_files.specs.Outside.{Outside, HasGainedReads}
+use Rattle.task_files.specs.Findings.{Findings, HasGainedReads}
 use Rattle.task_files.specs.Work.{Rescues}
 use Rattle.ddrescue_cli.specs.Tasks.{with_did}
 use Rattle.ddrescue_cli.specs.Told.{Told, calls_before}
@@ -91,7 +91,7 @@ module _ (r : Rescue) where
   abbrev pub p : TaskDone (ForRescue r.command) r.did.call.told
   p = r.did.call.promised.does.asked_for (ForRescue r.command) r.asks
 
-  abbrev pub w : Outside
+  abbrev pub w : Findings
   w = with_did p.outside p.did
 
   abbrev pub s : Setting

@@ -42,36 +42,14 @@ look_of (Done (image_read at asked (Some n))) = (at, n) ∷ []
 look_of e = []
 
 looks_step : (e : Entry) (es : List Entry) → looks_in (e ∷ es) ≡ look_of e ++ looks_in es
-looks_step (Done (image_open name make)) es = refl
 looks_step (Done (image_read at asked None)) es = refl
-looks_step (Done (image_read at asked (Some n))) es = refl
-looks_step (Done (image_write pos piece)) es = refl
-looks_step (Done image_sync) es = refl
-looks_step (Done (map_read name pos asked answer)) es = refl
-looks_step (Done (draft_begin name)) es = refl
-looks_step (Done (draft_append piece)) es = refl
-looks_step (Done draft_sync) es = refl
-looks_step (Done (draft_publish name)) es = refl
-looks_step (Done (map_settle name)) es = refl
-looks_step (Done (map_remove name)) es = refl
-looks_step (Failed call steps) es = refl
+looks_step _ es = refl
 
 looked_step : (t : Target) (image : List ℕ) (e : Entry) (es : List Entry)
     → looked_at t image (e ∷ es) ≡ look_pairs t image (look_of e) ++ looked_at t image es
-looked_step t image (Done (image_open name make)) es = refl
-looked_step t image (Done (image_read at asked None)) es = refl
 looked_step t image (Done (image_read at asked (Some n))) es =
     ap (λ (l : List (ℕ × ℕ)). l ++ looked_at t image es) (sym (append-nil _))
-looked_step t image (Done (image_write pos piece)) es = refl
-looked_step t image (Done image_sync) es = refl
-looked_step t image (Done (map_read name pos asked answer)) es = refl
-looked_step t image (Done (draft_begin name)) es = refl
-looked_step t image (Done (draft_append piece)) es = refl
-looked_step t image (Done draft_sync) es = refl
-looked_step t image (Done (draft_publish name)) es = refl
-looked_step t image (Done (map_settle name)) es = refl
-looked_step t image (Done (map_remove name)) es = refl
-looked_step t image (Failed call steps) es = refl
+looked_step t image _ es = refl
 
 pairs_both : (t : Target) (image : List ℕ) (cs bs : List (ℕ × ℕ))
     → look_pairs t image (cs ++ bs) ≡ look_pairs t image cs ++ look_pairs t image bs

@@ -8,7 +8,7 @@ use Rattle.mapfile_text.specs.Pieces.{pieces_of}
 use Rattle.faulty_source.specs.Journal.{Reading, kept}
 use Rattle.crash_site.specs.declared.site.SiteCall.TheVariants.{MapRead as MapReadName}
 use Rattle.crash_site.specs.Files.{File}
-use Rattle.crash_site.specs.Calls.{Call, image_open, image_read, image_write, image_sync, map_read, draft_begin, draft_append, draft_sync, draft_publish, map_settle, map_remove, Entry, Done, Failed}
+use Rattle.crash_site.specs.Calls.{Call, image_open, image_write, image_sync, draft_begin, draft_append, draft_sync, draft_publish, map_settle, Entry, Done, Failed}
 use Rattle.crash_site.specs.CallsMade.{unanswered}
 use Rattle.mapfile_save.specs.MapNames.{MapNames}
 use Rattle.mapfile_save.specs.Saving.{fill_calls, save_calls}
@@ -44,66 +44,26 @@ written_of call = []
 
 done_step : (c : Call) (es : List Entry) → written_in (Done c ∷ es) ≡ written_of c ++ written_in es
 done_step (image_open name make) es = refl
-done_step (image_read pos asked answer) es = refl
-done_step (image_write pos piece) es = refl
-done_step image_sync es = refl
-done_step (map_read name pos asked answer) es = refl
-done_step (draft_begin name) es = refl
-done_step (draft_append piece) es = refl
-done_step draft_sync es = refl
-done_step (draft_publish name) es = refl
-done_step (map_settle name) es = refl
-done_step (map_remove name) es = refl
+done_step _ es = refl
 
 failed_step : (c : Call) (steps : ℕ) (es : List Entry)
     → written_in (Failed c steps ∷ es) ≡ written_of c ++ written_in es
 failed_step (image_open name make) steps es = refl
-failed_step (image_read pos asked answer) steps es = refl
-failed_step (image_write pos piece) steps es = refl
-failed_step image_sync steps es = refl
-failed_step (map_read name pos asked answer) steps es = refl
-failed_step (draft_begin name) steps es = refl
-failed_step (draft_append piece) steps es = refl
-failed_step draft_sync steps es = refl
-failed_step (draft_publish name) steps es = refl
-failed_step (map_settle name) steps es = refl
-failed_step (map_remove name) steps es = refl
+failed_step _ steps es = refl
 
 unanswered_written : (c : Call) → written_of (unanswered c) ≡ written_of c
 unanswered_written (image_open name make) = refl
-unanswered_written (image_read pos asked answer) = refl
-unanswered_written (image_write pos piece) = refl
-unanswered_written image_sync = refl
-unanswered_written (map_read name pos asked answer) = refl
-unanswered_written (draft_begin name) = refl
-unanswered_written (draft_append piece) = refl
-unanswered_written draft_sync = refl
-unanswered_written (draft_publish name) = refl
-unanswered_written (map_settle name) = refl
-unanswered_written (map_remove name) = refl
+unanswered_written _ = refl
 
 dry_written : (c : Call) → IsDry c → written_of c ≡ []
 dry_written (image_write pos piece) dry = let e : true ≡ false = dry in absurd (cc)
-dry_written (image_open name make) dry = refl
-dry_written (image_read pos asked answer) dry = refl
-dry_written image_sync dry = refl
-dry_written (map_read name pos asked answer) dry = refl
-dry_written (draft_begin name) dry = refl
-dry_written (draft_append piece) dry = refl
-dry_written draft_sync dry = refl
-dry_written (draft_publish name) dry = refl
-dry_written (map_settle name) dry = refl
-dry_written (map_remove name) dry = refl
+dry_written _ dry = refl
 
 -- ---- calls one after the other
 
 -- what calls write that return
 abbrev all_written : List Call → List (ℕ × List ℕ)
 all_written cs = flat_map written_of cs
-
-returned_written : (cs : List Call) → written_in (map Done cs) ≡ all_written cs
-returned_written [] = refl
-returned_written (c ∷ cs) = done_step c (map Done cs) ∙ ap (λ (l : List (ℕ × List ℕ)). written_of c ++ l) (returned_written cs)
 
 both_written : (cs ds : List Call) → all_written (cs ++ ds) ≡ all_written cs ++ all_written ds
 both_written [] ds = refl
@@ -149,7 +109,7 @@ appends_dry : (ps : List (List ℕ)) → All IsDry (map draft_append ps)
 appends_dry [] = All-nil IsDry
 appends_dry (p ∷ ps) = All-cons IsDry (draft_append p) (map draft_append ps) refl (appends_dry ps)
 
-save_dry : (names : MapNames) (text : List ℕ) → All IsDry (save_calls names text)
+pub save_dry : (names : MapNames) (text : List ℕ) → All IsDry (save_calls names text)
 save_dry names text =
     let end : List Call = draft_sync ∷ draft_publish names.map ∷ map_settle names.map ∷ [] in
     All-cons IsDry image_sync (draft_begin names.draft ∷ (fill_calls text ++ end)) refl

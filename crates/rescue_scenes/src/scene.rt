@@ -33,6 +33,24 @@ use task_files::ending::Ending;
 /// The most files that a scene puts there.
 const FILES_LIMIT: usize = 256;
 
+/// The clock of each run: its readings, and whether these go by the number of reads so far, which each line then begins
+/// with.
+#[derive(Drop)]
+struct RunClock {
+    readings: Vec<u64>,
+    paced: bool,
+}
+
+impl RunClock {
+    /// One without readings.
+    fn none(alloc: Global) -> RunClock {
+        RunClock {
+            readings: Vec::new(alloc),
+            paced: false,
+        }
+    }
+}
+
 /// The input and the files of a scene, and what it has said of them.
 #[derive(Drop)]
 pub(crate) struct Scene {
@@ -41,10 +59,7 @@ pub(crate) struct Scene {
     /// The source of the runs so far. A new one is made for the next run if there is none.
     source: Option<MemorySource>,
     site: MemorySite,
-    /// The readings of the clock of each run.
-    clock: Vec<u64>,
-    /// Whether these go by the number of reads so far, which each line then begins with.
-    paced: bool,
+    clock: RunClock,
     /// The calls of the next run's console that fail.
     silent: Vec<u64>,
     /// What the next run of ddrescuelog takes from its feed.
@@ -75,24 +90,23 @@ fn rescue_paced(
     Ok(ddrescue(alloc, words, &mut paced, site, &mut clock, &mut said))
 }
 
-/// Runs a rescue with a clock of these readings, which may go by the number of reads.
+/// Runs a rescue with a clock.
 /// If it finds no memory there is no answer: a scene can't ask for that.
 fn rescue(
     alloc: Global,
     words: &Words,
     source: &mut MemorySource,
     site: &mut MemorySite,
-    readings: &[u64],
-    paced: bool,
+    clock: &RunClock,
     console: &mut MemoryConsole,
 ) -> Result<Ending, Refusal>
     requires { (state_of site.old).is_drafting ≡ false }
 {
     let starved = site.starved();
-    let ending = if paced {
-        rescue_paced(alloc, words, source, site, readings, console)?
+    let ending = if clock.paced {
+        rescue_paced(alloc, words, source, site, &clock.readings, console)?
     } else {
-        let mut clock = MemoryClock::new(Vec::from_slice(alloc, readings)?);
+        let mut clock = MemoryClock::new(Vec::from_slice(alloc, &clock.readings)?);
         ddrescue(alloc, words, source, site, &mut clock, console)
     };
     refuse_starved(ending.code(), starved, site, console)?;
@@ -123,8 +137,7 @@ impl Scene {
             stated: Stated::new(alloc),
             source: None,
             site: MemorySite::new(alloc),
-            clock: Vec::new(alloc),
-            paced: false,
+            clock: RunClock::none(alloc),
             silent: Vec::new(alloc),
             feed: Vec::new(alloc),
             unread: Vec::new(alloc),
@@ -200,8 +213,7 @@ impl Scene {
 
     /// Sets the readings of the clock of each later run.
     pub(crate) fn set_clock(&mut self, readings: Vec<u64>, paced: bool) {
-        self.clock = readings;
-        self.paced = paced;
+        self.clock = RunClock { readings, paced };
     }
 
     /// Makes these calls of the site fail.
@@ -266,7 +278,6 @@ impl Scene {
             &mut source,
             &mut self.site,
             &self.clock,
-            self.paced,
             &mut console,
         )?;
         self.silent.clear();
@@ -417,8 +428,7 @@ impl Scene {
             &stops.words,
             &mut source,
             &mut site,
-            &[],
-            false,
+            &RunClock::none(self.alloc),
             &mut console,
         )?;
         let reads = source.journal().len();

@@ -84,25 +84,6 @@ each_made P d (c ∷ cs) (Failed x steps ∷ es) h comes =
     subst (λ (l : List Entry). P (disk_after d (Failed x steps ∷ l))) (sym comes.1)
     (subst (λ (z : Call). P (entered d (Failed z steps))) (sym comes.0) (h.1 steps))
 
--- a run that is safe stays so while its output and its mapfile stand
-pub stands_by : (s : Setting) (start : List ℕ) (reads : List Reading) (m : Machine) (d e : Disk)
-    → e.reads.image ≡ d.reads.image → e.shows s.outfile ≡ d.shows s.outfile
-    → e.reads.files s.outfile ≡ d.reads.files s.outfile → e.shows s.names.map ≡ d.shows s.names.map
-    → IsSafeNow s start reads m d → IsSafeNow s start reads m e
-stands_by s start reads m d e image shows reads_as maps n = record {
-  image = image ∙ n.image;
-  synced = n.synced;
-  loose = n.loose;
-  lost = n.lost;
-  shows = shows ∙ n.shows;
-  now = n.now;
-  reads_as = reads_as ∙ n.reads_as;
-  longer = n.longer;
-  current = n.current;
-  unlost = n.unlost;
-  maps = λ mapfile may. n.maps mapfile (subst (λ (v : Showing). MayShow v mapfile) maps may);
-}
-
 -- What is shown of a run's output and mapfile, whatever is lost of the output.
 pub record Shown (s : Setting) (start : List ℕ) (reads : List Reading) (m : Machine) (d : Disk) : Type 0 where
   pub synced : File

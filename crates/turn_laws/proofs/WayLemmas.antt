@@ -34,10 +34,8 @@ use Rattle.turn_laws.specs.EndLaws.{RunStaysUnderWay, NextPassIsUnderWay}
 -- All phases but trimming search from the cursor on.
 ahead_in : (s : Setting) (m : Machine) (phase : Phase) (mode : TrimMode) (x : ℕ) → trims phase ≡ false
     → is_ahead (search_in s m phase mode) x ≡ (if is_up s (pass_of m) then nat_le m.progress.cursor x else nat_lt x m.progress.cursor)
-ahead_in s m Copying mode x off = refl
 ahead_in s m Trimming mode x off = absurd (cc)
-ahead_in s m Scraping mode x off = refl
-ahead_in s m Retrying mode x off = refl
+ahead_in s m _ mode x off = refl
 
 ahead_is : (s : Setting) (m : Machine) (x : ℕ) → is_trimming m ≡ false
     → is_ahead (search_of s m) x ≡ (if is_up s (pass_of m) then nat_le m.progress.cursor x else nat_lt x m.progress.cursor)
